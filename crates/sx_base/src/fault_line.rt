@@ -8,7 +8,7 @@ ghost use Rattle.sx_base.specs.FaultLine.{fault_line, text_shown, char_shown, is
 use crate::fault::Fault;
 use crate::hex::put_hex;
 use crate::memory::Memory;
-use crate::place::place_of;
+use crate::place::line_and_column;
 use crate::symbol::Symbol;
 use std::alloc::{AllocError, Global};
 use std::fmt::Write;
@@ -37,7 +37,7 @@ fn put_place(line: &mut String, offset: u32, source: &[u8]) -> Result<(), AllocE
     ensures { OnOk result (string_bytes line.new ≡ string_bytes line.old ++ place_text (place source.now (min offset (length source.now)))) }
 {
     let offset = (offset as usize).min(source.len());
-    let (row, column) = place_of(source, offset as u32);
+    let (row, column) = line_and_column(source, offset as u32);
     write!(line, "{row}:{column}")
 }
 

@@ -1,4 +1,4 @@
-//! Names: a library, and a number of its own.
+//! FreeNames: a library, and a number of its own.
 
 ghost use Rattle.std.specs.Cmp.{po};
 ghost use Rattle.std.specs.Ordering.{as_partial_cmp};
@@ -187,12 +187,12 @@ impl CodeNo {
 
 /// The names of a library that are still free, seen as the next one.
 #[derive(Drop)]
-pub struct Names {
+pub struct FreeNames {
     library: Rc<LibName>,
     next: u64,
 }
 
-impl Model for Names {
+impl Model for FreeNames {
     ghost use Rattle.sx_base.specs.Named.{Named, named_code};
 
     ghost Value = { Named };
@@ -202,12 +202,12 @@ impl Model for Names {
     ghost view = { λ n. record { library = n.library.value; number = n.next } };
 }
 
-impl Names {
+impl FreeNames {
     /// All names of a library. It takes no memory.
-    pub fn new(library: Rc<LibName>) -> Names
+    pub fn new(library: Rc<LibName>) -> FreeNames
         ensures { result ≡ record { library = library.value; number = 0 } }
     {
-        Names { library, next: 0 }
+        FreeNames { library, next: 0 }
     }
 
     /// The next name. After a refusal it is still the next one.

@@ -13,7 +13,7 @@ struct Piece {
 /// The line and the column of an offset, both from 1. A line ends at U+000A, U+000D, U+000D U+000A,
 /// U+0085, U+000D U+0085 or U+2028 (R6RS 4.2.2). A column counts characters; a byte that is in no
 /// UTF-8 sequence counts as one. It takes no memory.
-pub fn place_of(source: &[u8], offset: u32) -> (u64, u64)
+pub fn line_and_column(source: &[u8], offset: u32) -> (u64, u64)
     requires { offset ≤ length source.now }
     ensures { result ≡ place source.now offset }
 {

@@ -7,15 +7,15 @@ use sx_base::fault::{Fault, FaultKind};
 use sx_base::fault_line::fault_line;
 use sx_base::items::Items;
 use sx_base::library::LibName;
-use sx_base::name::Names;
+use sx_base::name::FreeNames;
 use sx_base::op::{NAME_COUNT, Op, op_text};
-use sx_base::place::place_of;
+use sx_base::place::line_and_column;
 use sx_base::span::Span;
 use sx_base::symbol::Symbol;
 
 fn place_at(source: &[u8], offset: u32) -> (u64, u64) {
     if (offset as usize) <= source.len() {
-        place_of(source, offset)
+        line_and_column(source, offset)
     } else {
         (0, 0)
     }
@@ -85,8 +85,8 @@ fn names_of_a_library_never_repeat(rt: HostRuntime) -> Result<(), Fail> {
     let alloc = rt.alloc();
     let mut parts = Items::new(alloc);
     parts.push(Symbol::new(alloc, "a")?)?;
-    let mut names = Names::new(Rc::new(alloc, LibName::User(parts))?);
-    let mut others = Names::new(Rc::new(alloc, LibName::Program)?);
+    let mut names = FreeNames::new(Rc::new(alloc, LibName::User(parts))?);
+    let mut others = FreeNames::new(Rc::new(alloc, LibName::Program)?);
     let first = names.next()?;
     let second = names.next()?;
     let other = others.next()?;

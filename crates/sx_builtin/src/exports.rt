@@ -42,7 +42,7 @@ pub const DERIVED: [Option<u16>; 18] = [
 
 // The libraries that labels are named by.
 #[derive(Drop)]
-struct Libraries {
+struct BuiltinLibraries {
     core: Rc<LibName>,
     derived: Rc<LibName>,
 }
@@ -64,7 +64,7 @@ pub fn exports(alloc: Global, name: &LibName) -> Result<Option<Items<(Symbol, La
 fn library_exports(alloc: Global, library: Library) -> Result<Items<(Symbol, Label)>, Memory>
     ensures { IfOk result (λ r. r ≡ library_exports library) }
 {
-    let libraries = Libraries {
+    let libraries = BuiltinLibraries {
         core: Rc::new(alloc, LibName::Core)?,
         derived: Rc::new(alloc, LibName::Derived)?,
     };
@@ -77,7 +77,7 @@ fn library_exports(alloc: Global, library: Library) -> Result<Items<(Symbol, Lab
 
 fn add_run(
     alloc: Global,
-    libraries: &Libraries,
+    libraries: &BuiltinLibraries,
     run: Run,
     names: &mut Items<(Symbol, Label)>,
 ) -> Result<(), Memory>
@@ -94,7 +94,7 @@ fn add_run(
     Ok(())
 }
 
-fn label_of(libraries: &Libraries, number: u16) -> Result<Label, Memory>
+fn label_of(libraries: &BuiltinLibraries, number: u16) -> Result<Label, Memory>
     requires core { libraries.now.core.value ≡ name.Core }
     requires derived { libraries.now.derived.value ≡ name.Derived }
     ensures { IfOk result (λ label. label ≡ label_of number) }

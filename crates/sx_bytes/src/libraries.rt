@@ -13,12 +13,12 @@ use sx_base::memory::Memory;
 
 /// A name of a library, and its spelling.
 #[derive(Drop)]
-struct Kept {
+struct KeptName {
     spelling: Vec<u8>,
     named: Rc<LibName>,
 }
 
-impl Model for Kept {
+impl Model for KeptName {
     ghost use Rattle.sx_base.specs.declared.library.LibName.{LibName};
     ghost use Rattle.sx_bytes.specs.Puts.{Puts};
     ghost use Rattle.sx_bytes.specs.Names.{library};
@@ -34,16 +34,16 @@ impl Model for Kept {
 /// The names of libraries that were read a short while ago. A row of an entry names two libraries, and most rows
 /// name the same two: what is read again is shared.
 #[derive(Drop)]
-pub struct Libraries {
+pub struct RecentLibraries {
     alloc: Global,
-    kept: Vec<Kept>,
+    kept: Vec<KeptName>,
 }
 
 /// How many are kept.
 const KEPT: usize = 8;
 
 /// The one that the bytes begin with, and the bytes behind it.
-fn kept_at<'a>(kept: &[Kept], bytes: &'a [u8]) -> Result<Option<(Rc<LibName>, &'a [u8])>, Memory>
+fn kept_at<'a>(kept: &[KeptName], bytes: &'a [u8]) -> Result<Option<(Rc<LibName>, &'a [u8])>, Memory>
     ensures { IfOk result (λ o. IfSome o (λ x. library.get bytes.now ≡ Some (x.0.value, x.1.now))) }
 {
     for one in kept {
@@ -55,22 +55,22 @@ fn kept_at<'a>(kept: &[Kept], bytes: &'a [u8]) -> Result<Option<(Rc<LibName>, &'
     Ok(None)
 }
 
-impl Kept {
-    fn new(alloc: Global, library: &Rc<LibName>) -> Result<Kept, Memory>
+impl KeptName {
+    fn new(alloc: Global, library: &Rc<LibName>) -> Result<KeptName, Memory>
         ensures { IfOk result (λ k. k ≡ library.now.value) }
     {
         let mut spelling = Vec::new(alloc);
         library.put(&mut spelling)?;
         let named = library.clone()?;
-        Ok(Kept { spelling, named })
+        Ok(KeptName { spelling, named })
     }
 }
 
-impl Libraries {
+impl RecentLibraries {
     /// None so far. It takes no memory.
-    pub fn new(alloc: Global) -> Libraries {
+    pub fn new(alloc: Global) -> RecentLibraries {
         let kept = Vec::new(alloc);
-        Libraries { alloc, kept }
+        RecentLibraries { alloc, kept }
     }
 
     /// Where memory is taken from.
@@ -100,7 +100,7 @@ impl Libraries {
         if self.kept.len() >= KEPT {
             self.kept.clear();
         }
-        let kept = Kept::new(self.alloc, library)?;
+        let kept = KeptName::new(self.alloc, library)?;
         self.kept.push(kept)?;
         Ok(())
     }

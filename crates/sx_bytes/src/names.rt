@@ -6,7 +6,7 @@ ghost use Rattle.sx_bytes.specs.Codec.{listed, some_get};
 ghost use Rattle.sx_bytes.specs.Names as spell;
 ghost use Rattle.sx_bytes.specs.Puts.{Puts, PutsIf};
 
-use crate::libraries::Libraries;
+use crate::libraries::RecentLibraries;
 use crate::numbers::{
     bool_at, int_at, put_bool, put_int, put_u16, put_u32, put_u64, u16_at, u32_at, u64_at,
 };
@@ -31,7 +31,7 @@ impl Spelled for u64 {
     }
 
     fn at<'a>(
-        _libraries: &mut Libraries,
+        _libraries: &mut RecentLibraries,
         bytes: &'a [u8],
     ) -> Result<Option<(u64, &'a [u8])>, Memory> {
         Ok(u64_at(bytes))
@@ -57,7 +57,7 @@ impl Spelled for Symbol {
     }
 
     fn at<'a>(
-        libraries: &mut Libraries,
+        libraries: &mut RecentLibraries,
         bytes: &'a [u8],
     ) -> Result<Option<(Symbol, &'a [u8])>, Memory> {
         symbol_at(libraries.alloc(), bytes)
@@ -146,7 +146,7 @@ impl Spelled for LibName {
     }
 
     fn at<'a>(
-        libraries: &mut Libraries,
+        libraries: &mut RecentLibraries,
         bytes: &'a [u8],
     ) -> Result<Option<(LibName, &'a [u8])>, Memory> {
         library_name_at(libraries.alloc(), bytes)
@@ -164,7 +164,7 @@ impl Spelled for Name {
 
     #[tactic(auto, unfolding(crate::specs::Names::name))]
     fn at<'a>(
-        libraries: &mut Libraries,
+        libraries: &mut RecentLibraries,
         bytes: &'a [u8],
     ) -> Result<Option<(Name, &'a [u8])>, Memory> {
         let Some((library, rest)) = libraries.library_at(bytes)? else {
@@ -187,7 +187,7 @@ impl Spelled for Label {
 
     #[tactic(auto, unfolding(crate::specs::Names::label))]
     fn at<'a>(
-        libraries: &mut Libraries,
+        libraries: &mut RecentLibraries,
         bytes: &'a [u8],
     ) -> Result<Option<(Label, &'a [u8])>, Memory> {
         match Name::at(libraries, bytes)? {
@@ -207,7 +207,7 @@ impl Spelled for Mark {
 
     #[tactic(auto, unfolding(crate::specs::Names::mark))]
     fn at<'a>(
-        libraries: &mut Libraries,
+        libraries: &mut RecentLibraries,
         bytes: &'a [u8],
     ) -> Result<Option<(Mark, &'a [u8])>, Memory> {
         match Name::at(libraries, bytes)? {
@@ -227,7 +227,7 @@ impl Spelled for FrameNo {
 
     #[tactic(auto, unfolding(crate::specs::Names::frame))]
     fn at<'a>(
-        libraries: &mut Libraries,
+        libraries: &mut RecentLibraries,
         bytes: &'a [u8],
     ) -> Result<Option<(FrameNo, &'a [u8])>, Memory> {
         match Name::at(libraries, bytes)? {
@@ -247,7 +247,7 @@ impl Spelled for CodeNo {
 
     #[tactic(auto, unfolding(crate::specs::Names::code_number))]
     fn at<'a>(
-        libraries: &mut Libraries,
+        libraries: &mut RecentLibraries,
         bytes: &'a [u8],
     ) -> Result<Option<(CodeNo, &'a [u8])>, Memory> {
         match Name::at(libraries, bytes)? {
@@ -269,7 +269,7 @@ impl Spelled for Span {
 
     #[tactic(auto, unfolding(crate::specs::Names::span))]
     fn at<'a>(
-        libraries: &mut Libraries,
+        libraries: &mut RecentLibraries,
         bytes: &'a [u8],
     ) -> Result<Option<(Span, &'a [u8])>, Memory> {
         let Some((file, rest)) = text_at(bytes) else {
@@ -326,7 +326,7 @@ impl Spelled for Atom {
 
     #[tactic(auto, unfolding(crate::specs::Names::atom))]
     fn at<'a>(
-        libraries: &mut Libraries,
+        libraries: &mut RecentLibraries,
         bytes: &'a [u8],
     ) -> Result<Option<(Atom, &'a [u8])>, Memory> {
         let alloc = libraries.alloc();

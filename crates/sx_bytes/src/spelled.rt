@@ -4,7 +4,7 @@ ghost use Rattle.std.specs.Prelude.{◌≡◌, IfOk, OnOk, option_map};
 ghost use Rattle.sx_bytes.specs.Codec.{Codec, optional, listed, ◌then◌, some_get};
 ghost use Rattle.sx_bytes.specs.Puts.{Puts};
 
-use crate::libraries::Libraries;
+use crate::libraries::RecentLibraries;
 use crate::numbers::{put_u64, u64_at};
 use sx_base::items::Items;
 use sx_base::memory::Memory;
@@ -19,7 +19,7 @@ pub trait Spelled: Sized + Drop {
 
     /// The value that the bytes begin with, and the bytes behind it.
     fn at<'a>(
-        libraries: &mut Libraries,
+        libraries: &mut RecentLibraries,
         bytes: &'a [u8],
     ) -> Result<Option<(Self, &'a [u8])>, Memory>
         ensures { IfOk result (λ o. option_map (λ x. (x.0, x.1.now)) o ≡ codec.get bytes.now) };
@@ -42,7 +42,7 @@ impl<T: Spelled> Spelled for Option<T> {
     }
 
     fn at<'a>(
-        libraries: &mut Libraries,
+        libraries: &mut RecentLibraries,
         bytes: &'a [u8],
     ) -> Result<Option<(Self, &'a [u8])>, Memory> {
         match bytes {
@@ -66,7 +66,7 @@ impl<A: Spelled, B: Spelled> Spelled for (A, B) {
     }
 
     fn at<'a>(
-        libraries: &mut Libraries,
+        libraries: &mut RecentLibraries,
         bytes: &'a [u8],
     ) -> Result<Option<(Self, &'a [u8])>, Memory> {
         let Some((first, rest)) = A::at(libraries, bytes)? else {
@@ -87,7 +87,7 @@ impl<T: Spelled> Spelled for Items<T> {
     }
 
     fn at<'a>(
-        libraries: &mut Libraries,
+        libraries: &mut RecentLibraries,
         bytes: &'a [u8],
     ) -> Result<Option<(Self, &'a [u8])>, Memory> {
         match all_at(libraries, bytes)? {
@@ -110,7 +110,7 @@ pub fn put_all<T: Spelled>(out: &mut Vec<u8>, items: &[T]) -> Result<(), Memory>
 
 /// The count and the values that the bytes begin with.
 pub fn all_at<'a, T: Spelled>(
-    libraries: &mut Libraries,
+    libraries: &mut RecentLibraries,
     bytes: &'a [u8],
 ) -> Result<Option<(Vec<T>, &'a [u8])>, Memory>
     ensures { IfOk result (λ o. option_map (λ x. (x.0.items, x.1.now)) o ≡ (listed T.codec).get bytes.now) }
@@ -123,7 +123,7 @@ pub fn all_at<'a, T: Spelled>(
 
 /// So many values.
 fn some_at<'a, T: Spelled>(
-    libraries: &mut Libraries,
+    libraries: &mut RecentLibraries,
     count: u64,
     bytes: &'a [u8],
 ) -> Result<Option<(Vec<T>, &'a [u8])>, Memory>

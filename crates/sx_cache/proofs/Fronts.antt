@@ -9,7 +9,7 @@ use Rattle.sx_cache.specs.Fitting.{behind, stored_in, fitting_record, front}
 use Rattle.sx_cache.proofs.Behind.{tested}
 use Rattle.sx_cache.specs.declared.entry.Entry.{Entry}
 use Rattle.sx_codec.specs.Records.{lib_record}
-use Rattle.sx_core.specs.declared.record.LibRecord.{LibRecord}
+use Rattle.sx_core.specs.declared.record.CompiledLibrary.{CompiledLibrary}
 use Rattle.sx_load.specs.declared.found.Source.{Source}
 
 abbrev nothing : {A : Type 0} → Option A
@@ -67,12 +67,12 @@ module _ {X Y Z W : Type 0} (a : Codec X) (b : Codec Y) (c : Codec Z) (d : Codec
       go (Some x) = second x.0 (b.get x.1)
 
 abbrev Fields : Type 0
-Fields = List ℕ × (List (List ℕ) × (List Source × LibRecord))
+Fields = List ℕ × (List (List ℕ) × (List Source × CompiledLibrary))
 
 abbrev entry_of : Fields → Entry
 entry_of p = record { path = p.0; roots = p.1.0; sources = p.1.1.0; stored = p.1.1.1 }
 
-abbrev in_fields : List (List ℕ) → List Source → List ℕ → Option Fields → Option LibRecord
+abbrev in_fields : List (List ℕ) → List Source → List ℕ → Option Fields → Option CompiledLibrary
 in_fields roots sources chosen = kept text (listed text) (listed source) lib_record (λ texts. pointwise same_text texts roots) (are_at sources chosen)
 
 of_fields : (roots : List (List ℕ)) (sources : List Source) (chosen : List ℕ) (r : Option (Fields × List ℕ))

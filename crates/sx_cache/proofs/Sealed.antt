@@ -11,7 +11,7 @@ use Rattle.sx_cache.specs.Fitting.{fitting_record, front, sealed_record}
 use Rattle.sx_cache.specs.Seal.{is_sealed, sealed}
 use Rattle.sx_cache.proofs.Fronts.{reads_so}
 use Rattle.sx_codec.specs.Records.{lib_record, decode}
-use Rattle.sx_core.specs.declared.record.LibRecord.{LibRecord}
+use Rattle.sx_core.specs.declared.record.CompiledLibrary.{CompiledLibrary}
 use Rattle.sx_load.specs.declared.found.Source.{Source}
 
 header_is_long : (body : List ℕ) → length (codes "SXENTRY4" ++ sha256 body) ≡ 40
@@ -39,20 +39,20 @@ module _ (roots : List (List ℕ)) (sources : List Source) (chosen bytes : List 
   in_front : (r : Option (List ℕ)) → r ≡ front roots sources chosen (drop 40 bytes) → fitting_record roots sources chosen (drop 40 bytes) ≡ (r >>= all_of lib_record)
   in_front r there = reads_so roots sources chosen (drop 40 bytes) ∙ ap (λ (r : Option (List ℕ)). r >>= all_of lib_record) (sym there)
 
-  if_none : (b : Bool) → None ≡ (if b then (let none : Option LibRecord = None in none) else None)
+  if_none : (b : Bool) → None ≡ (if b then (let none : Option CompiledLibrary = None in none) else None)
   if_none true = refl
   if_none false = refl
 
   -- the roots or the sources are others
   pub no_front : None ≡ front roots sources chosen (drop 40 bytes) → None ≡ sealed_record roots sources chosen bytes
-  no_front there = if_none (is_sealed bytes) ∙ ap (λ (r : Option LibRecord). if is_sealed bytes then r else None) (sym (in_front None there))
+  no_front there = if_none (is_sealed bytes) ∙ ap (λ (r : Option CompiledLibrary). if is_sealed bytes then r else None) (sym (in_front None there))
 
   pub no_seal : false ≡ is_sealed bytes → None ≡ sealed_record roots sources chosen bytes
   no_seal e = ap (λ (b : Bool). if b then fitting_record roots sources chosen (drop 40 bytes) else None) e
 
-  pub taken : (rest : List ℕ) (result : Result (Option LibRecord) Memory) → Some rest ≡ front roots sources chosen (drop 40 bytes) → true ≡ is_sealed bytes
+  pub taken : (rest : List ℕ) (result : Result (Option CompiledLibrary) Memory) → Some rest ≡ front roots sources chosen (drop 40 bytes) → true ≡ is_sealed bytes
       → IfOk result (λ o. o ≡ decode rest) → IfOk result (λ o. o ≡ sealed_record roots sources chosen bytes)
   taken rest result there e h =
       let is : sealed_record roots sources chosen bytes ≡ all_of lib_record rest
       = ap (λ (b : Bool). if b then fitting_record roots sources chosen (drop 40 bytes) else None) (sym e) ∙ in_front (Some rest) there in
-      subst (λ (d : Option LibRecord). IfOk result (λ o. o ≡ d)) (sym is) h
+      subst (λ (d : Option CompiledLibrary). IfOk result (λ o. o ≡ d)) (sym is) h

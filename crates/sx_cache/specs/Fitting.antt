@@ -6,20 +6,20 @@ use Rattle.sx_cache.specs.Entry.{source, decode}
 use Rattle.sx_cache.specs.Fits.{same_text, are_at, fits}
 use Rattle.sx_cache.specs.Seal.{is_sealed}
 use Rattle.sx_cache.specs.declared.entry.Entry.{Entry}
-use Rattle.sx_core.specs.declared.record.LibRecord.{LibRecord}
+use Rattle.sx_core.specs.declared.record.CompiledLibrary.{CompiledLibrary}
 use Rattle.sx_load.specs.declared.found.Source.{Source}
 
 -- the record of an entry that is of these roots, and of the sources at these places
-abbrev pub stored_in : List (List ℕ) → List Source → List ℕ → Option Entry → Option LibRecord
+abbrev pub stored_in : List (List ℕ) → List Source → List ℕ → Option Entry → Option CompiledLibrary
 stored_in roots sources chosen None = None
 stored_in roots sources chosen (Some e) = if fits e roots sources chosen then Some e.stored else None
 
 -- the record of the entry that all of the bytes spell, where it is of these roots and sources
-abbrev pub fitting_record : List (List ℕ) → List Source → List ℕ → List ℕ → Option LibRecord
+abbrev pub fitting_record : List (List ℕ) → List Source → List ℕ → List ℕ → Option CompiledLibrary
 fitting_record roots sources chosen bytes = stored_in roots sources chosen (decode bytes)
 
 -- that of the entry that bytes are, sealed
-abbrev pub sealed_record : List (List ℕ) → List Source → List ℕ → List ℕ → Option LibRecord
+abbrev pub sealed_record : List (List ℕ) → List Source → List ℕ → List ℕ → Option CompiledLibrary
 sealed_record roots sources chosen bytes = if is_sealed bytes then fitting_record roots sources chosen (drop 40 bytes) else None
 
 abbrev pub source_of : List ℕ → Option (List ℕ) → Source

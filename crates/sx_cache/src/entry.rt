@@ -10,13 +10,13 @@ use std::alloc::Global;
 use sx_base::items::Items;
 use sx_base::memory::Memory;
 use sx_base::symbol::Symbol;
-use sx_bytes::libraries::Libraries;
+use sx_bytes::libraries::RecentLibraries;
 use sx_bytes::numbers::{put_u64, u64_at};
 use sx_bytes::spelled::Spelled;
 use sx_bytes::texts::{blob_at, put_blob};
-use sx_core::record::LibRecord;
+use sx_core::record::CompiledLibrary;
 use sx_load::found::Source;
-use sx_pattern_bytes::held::Held;
+use sx_pattern_bytes::held::HeldReading;
 use sx_record_bytes::record::{put_record, record_at};
 
 /// A library that was expanded: the path of its file, the roots of the run, the sources of all that it needs with
@@ -26,7 +26,7 @@ pub struct Entry {
     pub path: Symbol,
     pub roots: Items<Symbol>,
     pub sources: Items<Source>,
-    pub stored: LibRecord,
+    pub stored: CompiledLibrary,
 }
 
 /// What is encoded of an entry with a spelling is decoded to that entry.
@@ -110,7 +110,7 @@ fn put_source(out: &mut Vec<u8>, source: &Source) -> Result<(), Memory>
 
 #[tactic(auto, unfolding(crate::specs::Entry::source))]
 fn source_at<'a>(
-    libraries: &mut Libraries,
+    libraries: &mut RecentLibraries,
     bytes: &'a [u8],
 ) -> Result<Option<(Source, &'a [u8])>, Memory>
     ensures { IfOk result (λ o. option_map (λ x. (x.0, x.1.now)) o ≡ spell.source.get bytes.now) }
@@ -135,7 +135,7 @@ fn put_sources(out: &mut Vec<u8>, sources: &[Source]) -> Result<(), Memory>
 }
 
 fn sources_at<'a>(
-    libraries: &mut Libraries,
+    libraries: &mut RecentLibraries,
     bytes: &'a [u8],
 ) -> Result<Option<(Vec<Source>, &'a [u8])>, Memory>
     ensures { IfOk result (λ o. option_map (λ x. (x.0.items, x.1.now)) o ≡ (listed spell.source).get bytes.now) }
@@ -147,7 +147,7 @@ fn sources_at<'a>(
 }
 
 fn some_sources<'a>(
-    libraries: &mut Libraries,
+    libraries: &mut RecentLibraries,
     count: u64,
     bytes: &'a [u8],
 ) -> Result<Option<(Vec<Source>, &'a [u8])>, Memory>
@@ -177,9 +177,9 @@ fn put_entry(out: &mut Vec<u8>, alloc: Global, entry: &Entry) -> Result<bool, Me
 
 #[tactic(auto, unfolding(crate::specs::Entry::entry))]
 fn entry_at<'a>(
-    libraries: &mut Libraries,
+    libraries: &mut RecentLibraries,
     bytes: &'a [u8],
-) -> Result<Option<(Held<Entry>, &'a [u8])>, Memory>
+) -> Result<Option<(HeldReading<Entry>, &'a [u8])>, Memory>
     ensures { IfOk result (λ o. option_map (λ x. (x.0.value, x.1.now)) o ≡ spell.entry.get bytes.now) }
 {
     let Some((path, rest)) = Symbol::at(libraries, bytes)? else {
@@ -200,7 +200,7 @@ fn entry_at<'a>(
         sources: Items::from_vec(sources),
         stored: stored.take(),
     };
-    Ok(Some((Held::new(entry), rest)))
+    Ok(Some((HeldReading::new(entry), rest)))
 }
 
 /// The spelling of an entry, or nothing where its record has none.
@@ -219,7 +219,7 @@ pub fn encode_entry(alloc: Global, entry: &Entry) -> Result<Option<Vec<u8>>, Mem
 pub fn decode_entry(alloc: Global, bytes: &[u8]) -> Result<Option<Entry>, Memory>
     ensures { IfOk result (λ o. o ≡ spell.decode bytes.now) }
 {
-    let mut libraries = Libraries::new(alloc);
+    let mut libraries = RecentLibraries::new(alloc);
     match entry_at(&mut libraries, bytes)? {
         Some((entry, rest)) => {
             if rest.is_empty() {

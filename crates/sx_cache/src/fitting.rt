@@ -17,7 +17,7 @@ use sx_base::memory::Memory;
 use sx_base::symbol::Symbol;
 use sx_bytes::numbers::u64_at;
 use sx_bytes::texts::text_at;
-use sx_core::record::LibRecord;
+use sx_core::record::CompiledLibrary;
 use sx_load::found::Source;
 use sx_record_bytes::record::decode;
 
@@ -174,7 +174,7 @@ pub fn sealed_record(
     roots: &[Symbol],
     sources: &[Source],
     chosen: &[usize],
-) -> Result<Option<LibRecord>, Memory>
+) -> Result<Option<CompiledLibrary>, Memory>
     ensures { IfOk result (λ o. o ≡ sealed_record roots.now sources.now chosen.now bytes.now) }
 {
     let body = behind_seal(bytes);

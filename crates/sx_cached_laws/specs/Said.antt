@@ -12,7 +12,7 @@ use Rattle.sx_reuse_laws.specs.Others.{IsElsewhere}
 use Rattle.sx_reuse_laws.specs.Sound.{IsHonest}
 use Rattle.sx_run.specs.Cached.{ComesHonestly, LeavesOfHonestly, LeavesStore, SameText, kept_of}
 use Rattle.sx_run.specs.Headline.{LeavesHonest, SaysCached, Says}
-use Rattle.sx_run.specs.Whole.{Outcome, loading_of, of_job, whole}
+use Rattle.sx_run.specs.Whole.{RunOutcome, loading_of, of_job, whole}
 use Rattle.sx_run.specs.Words.{words_asked}
 use Rattle.sx_words.specs.declared.job.Job.{Job}
 use Rattle.sx_words.specs.declared.words.Words.TheVariants.{Expand}
@@ -22,19 +22,19 @@ pub record RunsSayTheSame : Type 0 where
   -- such a store is honest
   pub honest : (store : Paths) → Grown store → IsHonest prelude_table store
   -- over it a run gives the text or the fault that one without a cache gives
-  pub same : (files : Paths) (job : Job) (dir : List ℕ) (before after : Paths) (faults_before faults : ℕ) (outcome : Outcome) → Grown before
+  pub same : (files : Paths) (job : Job) (dir : List ℕ) (before after : Paths) (faults_before faults : ℕ) (outcome : RunOutcome) → Grown before
       → (says : SaysCached files job dir before faults_before after faults outcome) → ComesHonestly says.comes → SameText outcome (of_job files job)
 
 -- where no call of the store fails, the premises on seals hold
 pub record QuietRunsAreHonest : Type 0 where
-  pub says : (files : Paths) (job : Job) (dir : List ℕ) (before after : Paths) (faults_before faults : ℕ) (outcome : Outcome)
+  pub says : (files : Paths) (job : Job) (dir : List ℕ) (before after : Paths) (faults_before faults : ℕ) (outcome : RunOutcome)
       → (says : SaysCached files job dir before faults_before after faults outcome) → Quiet faults_before faults → ComesHonestly says.comes
   pub leaves : (files : Paths) (job : Job) (dir : List ℕ) (before after : Paths) (faults_before faults : ℕ)
       → (left : LeavesHonest files job dir before faults_before after faults) → Quiet faults_before faults → LeavesOfHonestly left.leaves
 
 -- so the words of a call with a cache give what they give without, where no call of the store fails
 abbrev pub CallsSayTheSame : Type 0
-CallsSayTheSame = (files before after : Paths) (faults_before faults : ℕ) (words : List (List ℕ)) (job : Job) (dir : List ℕ) (outcome : Outcome)
+CallsSayTheSame = (files before after : Paths) (faults_before faults : ℕ) (words : List (List ℕ)) (job : Job) (dir : List ℕ) (outcome : RunOutcome)
     → words_asked words ≡ Expand job → job.cache ≡ Some dir → Grown before → Quiet faults_before faults
     → Says (Some files) (record { before = Some before; after = Some after; faults_before = faults_before; faults_after = faults }) words outcome
     → SameText outcome (whole files words)

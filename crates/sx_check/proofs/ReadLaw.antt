@@ -8,7 +8,7 @@ use Rattle.sx_base.specs.declared.fault.Fault.{Fault}
 use Rattle.sx_lexer.proofs.TokenLemmas.{lexemes_are, ends_are}
 use Rattle.sx_lexer.specs.Between.{Gap, no_gap}
 use Rattle.sx_lexer.specs.Grammar.{IsToken, IsCharacter}
-use Rattle.sx_lexer.specs.Row.{Row}
+use Rattle.sx_lexer.specs.Row.{PartRow}
 use Rattle.sx_lexer.specs.Start.{start_of}
 use Rattle.sx_lexer.specs.Tokens.{next_lexeme}
 use Rattle.sx_lexer.specs.declared.token.Lexeme.{Lexeme}
@@ -71,7 +71,7 @@ module _ (file bytes : List ℕ) where
 
   -- behind all bytes there is none
   past : (at : ℕ) → length bytes ≤ at → next at ≡ Ok None
-  past at h = (ends_are file bytes at).1 (0, rw (drop_all at bytes h) (Row.none [] nothing), omega (arith, h)) where
+  past at h = (ends_are file bytes at).1 (0, rw (drop_all at bytes h) (PartRow.none [] nothing), omega (arith, h)) where
     nothing : no_gap [] ≡ true
     nothing = rw characters-nil refl
 

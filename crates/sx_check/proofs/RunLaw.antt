@@ -1,17 +1,17 @@
 -- From what is read and what sinks take to how a check ends.
 use Rattle.std.proofs.Common.{◌≡◌, ℕ, ◌<◌, Bool, true, false, List, length, take, Option, Some, None, Result, Ok, Err, refl, sym, ap, ◌∙◌, cond}
 use Rattle.std.specs.Prelude.{nat_lt, IfOk, IfSome, codes}
-use Rattle.sx_check.specs.declared.run.Answer.{Answer}
+use Rattle.sx_check.specs.declared.run.FileReport.{FileReport}
 use Rattle.sx_check.specs.declared.run.Unanswered.{Unanswered}
 use Rattle.sx_check.specs.declared.status.CheckStatus.{CheckStatus}
 use Rattle.sx_check.specs.declared.status.CheckStatus.TheVariants as status
 use Rattle.sx_check.specs.declared.verdict.Verdict.{Verdict}
 use Rattle.sx_check.specs.declared.verdict.Verdict.TheVariants as verdict
 use Rattle.sx_check.specs.Ended.{told, IsOf, Ended}
-use Rattle.sx_check.specs.Headline.{Sunk, Untouched, Broke, Puts, Gave, IsAccepted, IsRefused, Headline, Complete}
+use Rattle.sx_check.specs.Headline.{Sunk, Untouched, Broke, Puts, Gave, IsAccepted, IsRefused, CheckHeadline, Complete}
 use Rattle.sx_check.specs.Judged.{Judged, VerdictsAre}
 use Rattle.sx_check.specs.Lines.{verdict_of}
-use Rattle.sx_check.specs.Whole.{Told, file_named, most_bytes, usage_line, too_long, of_verdict, of_reading, status_asked, whole_status}
+use Rattle.sx_check.specs.Whole.{ToldLine, file_named, most_bytes, usage_line, too_long, of_verdict, of_reading, status_asked, whole_status}
 use Rattle.sx_outside.specs.Causes.{Rose, raised}
 use Rattle.sx_outside.specs.Contents.{Paths, Reading, bytes, longer, absent, at_path, read_of}
 use Rattle.sx_outside.specs.Files.{file_reading}
@@ -27,16 +27,16 @@ flipped : (files : Option Paths) (path : List ℕ) (r : Reading) → IfSome file
 flipped None path r h = tt
 flipped (Some fs) path r h = sym h
 
-pub is_of : (files : Option Paths) (path : List ℕ) (reading : FileAnswer) (r : Result Answer Unanswered) → IfSome files (λ fs. file_reading reading ≡ read_of (at_path fs path) most_bytes)
+pub is_of : (files : Option Paths) (path : List ℕ) (reading : FileAnswer) (r : Result FileReport Unanswered) → IfSome files (λ fs. file_reading reading ≡ read_of (at_path fs path) most_bytes)
     → IfOk r (λ a. told a ≡ of_reading (file_reading reading)) → IfOk r (IsOf files path)
 is_of files path reading (Ok a) h e = record { reading = file_reading reading; gave = flipped files path (file_reading reading) h; same = e }
 is_of files path reading (Err u) h e = tt
 
 module _ (files : Option Paths) (words : List (List ℕ)) (faults_before faults_after : ℕ) (out err : Sunk) where
-  pub answered : (path : List ℕ) (a : Answer) (s : CheckStatus) → file_named words ≡ Some path → IsOf files path a → Untouched err → Puts out (told a).line (told a).status s
+  pub answered : (path : List ℕ) (a : FileReport) (s : CheckStatus) → file_named words ≡ Some path → IsOf files path a → Untouched err → Puts out (told a).line (told a).status s
       → Ended files words faults_before faults_after out err s
   answered path a s named of same puts = Ended.answered path of.reading named of.gave same (put_as (told a) (of_reading of.reading) of.same puts) where
-    put_as : (t u : Told) → t ≡ u → Puts out t.line t.status s → Puts out u.line u.status s
+    put_as : (t u : ToldLine) → t ≡ u → Puts out t.line t.status s → Puts out u.line u.status s
     put_as t u e p = rw (← e) p
 
   -- what holds of the reading holds of what was read where files are told
@@ -67,26 +67,26 @@ module _ (files : Option Paths) (words : List (List ℕ)) (faults_before faults_
 
   module _ (law : VerdictsAre) (s : CheckStatus) (path : List ℕ) (named : file_named words ≡ Some path) (same : Untouched err) where
     by_verdict : (x : List ℕ) (v : Verdict) → verdict_of x ≡ v → Gave files path (λ z. z ≡ bytes x) → Puts out (of_verdict v).line (of_verdict v).status s
-        → Headline files words faults_before faults_after out err s
-    by_verdict x verdict.Yes e g p = Headline.is_core_text path named (gave_as path (bytes x) IsAccepted g (IsAccepted.accepted x ((law x verdict.Yes).0 e))) same p
-    by_verdict x (verdict.No w) e g p = Headline.is_none path w named (gave_as path (bytes x) (IsRefused w) g (IsRefused.refused x ((law x (verdict.No w)).0 e))) same p
+        → CheckHeadline files words faults_before faults_after out err s
+    by_verdict x verdict.Yes e g p = CheckHeadline.is_core_text path named (gave_as path (bytes x) IsAccepted g (IsAccepted.accepted x ((law x verdict.Yes).0 e))) same p
+    by_verdict x (verdict.No w) e g p = CheckHeadline.is_none path w named (gave_as path (bytes x) (IsRefused w) g (IsRefused.refused x ((law x (verdict.No w)).0 e))) same p
 
     by_length : (x : List ℕ) (b : Bool) → nat_lt most_bytes (length x) ≡ b → Gave files path (λ z. z ≡ bytes x) → Puts out (cond b too_long (of_verdict (verdict_of x))).line (cond b too_long (of_verdict (verdict_of x))).status s
-        → Headline files words faults_before faults_after out err s
-    by_length x true e g p = Headline.is_longer path named (long_read path x e g) same p
+        → CheckHeadline files words faults_before faults_after out err s
+    by_length x true e g p = CheckHeadline.is_longer path named (long_read path x e g) same p
     by_length x false e g p = by_verdict x (verdict_of x) refl g p
 
-    by_reading : (r : Reading) → Gave files path (λ z. z ≡ r) → Puts out (of_reading r).line (of_reading r).status s → Headline files words faults_before faults_after out err s
+    by_reading : (r : Reading) → Gave files path (λ z. z ≡ r) → Puts out (of_reading r).line (of_reading r).status s → CheckHeadline files words faults_before faults_after out err s
     by_reading (bytes x) g p = by_length x (nat_lt most_bytes (length x)) refl g p
-    by_reading longer g p = Headline.is_longer path named g same p
-    by_reading absent g p = Headline.is_absent path named g same p
+    by_reading longer g p = CheckHeadline.is_longer path named g same p
+    by_reading absent g p = CheckHeadline.is_absent path named g same p
 
   -- how a check ends by its definition is how it ends by the cases of the grammar
-  pub headline : VerdictsAre → (s : CheckStatus) → Ended files words faults_before faults_after out err s → Headline files words faults_before faults_after out err s
+  pub headline : VerdictsAre → (s : CheckStatus) → Ended files words faults_before faults_after out err s → CheckHeadline files words faults_before faults_after out err s
   headline law s (Ended.answered path r named gave same puts) = by_reading law s path named same r gave puts
-  headline law s (Ended.wrong_words none same puts) = Headline.wrong_words none same puts
-  headline law s (Ended.read_fault e rose o p) = Headline.read_fault e rose o p
-  headline law s (Ended.no_memory e o p) = Headline.no_memory e o p
+  headline law s (Ended.wrong_words none same puts) = CheckHeadline.wrong_words none same puts
+  headline law s (Ended.read_fault e rose o p) = CheckHeadline.read_fault e rose o p
+  headline law s (Ended.no_memory e o p) = CheckHeadline.no_memory e o p
 
   abbrev IsComplete : CheckStatus → Type 0
   IsComplete s = Complete files words (Rose faults_before faults_after) (Rose out.faults_before out.faults_after) (Rose err.faults_before err.faults_after) s

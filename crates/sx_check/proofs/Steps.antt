@@ -12,8 +12,8 @@ use Rattle.sx_check.specs.Answers.{IsFault, Spells, Finds, Halts}
 use Rattle.sx_check.specs.Lines.{Lines, lines_of, line_end, read_on, data_on, line_on, lines_on, behind, of_lines, behind_first, if_first, verdict_of}
 use Rattle.sx_check.specs.Survey.{mentioned, Takes}
 use Rattle.sx_check.specs.Walk.{variable}
-use Rattle.sx_check.specs.declared.survey.Halt.{Halt}
-use Rattle.sx_check.specs.declared.survey.Halt.TheVariants as halt
+use Rattle.sx_check.specs.declared.survey.WalkHalt.{WalkHalt}
+use Rattle.sx_check.specs.declared.survey.WalkHalt.TheVariants as halt
 use Rattle.sx_check.specs.declared.survey.Survey.{Survey}
 use Rattle.sx_check.specs.declared.verdict.Verdict.{Verdict}
 use Rattle.sx_check.specs.declared.verdict.Verdict.TheVariants as verdict
@@ -37,12 +37,12 @@ fault_stops : (x : List ℕ) (s : Survey) (given : Result (List PlainDatum) Faul
 fault_stops x s (Ok ds) h = absurd (h)
 fault_stops x s (Err f) h = refl
 
-pub line_stops : (x : List ℕ) (s after : Survey) (h : Halt) → Spells (Err h) (data_of [] x most_nesting) → Takes (Err h) after (line_on x s)
+pub line_stops : (x : List ℕ) (s after : Survey) (h : WalkHalt) → Spells (Err h) (data_of [] x most_nesting) → Takes (Err h) after (line_on x s)
 unfolding line_on
 line_stops x s after halt.Refused h = fault_stops x s (data_of [] x most_nesting) h
 line_stops x s after halt.Memory h = h
 
-pub line_goes : (x : List ℕ) (s after : Survey) (v : Vec PlainDatum Global) (r : Result Unit Halt) → Spells (Ok v) (data_of [] x most_nesting) → Takes r after (data_on x v.items s) → Takes r after (line_on x s)
+pub line_goes : (x : List ℕ) (s after : Survey) (v : Vec PlainDatum Global) (r : Result Unit WalkHalt) → Spells (Ok v) (data_of [] x most_nesting) → Takes r after (data_on x v.items s) → Takes r after (line_on x s)
 unfolding line_on
 line_goes x s after v r h t = subst (λ (o : Option Survey). Takes r after o) (sym (ap (λ (g : Result (List PlainDatum) Fault). read_on x g s) h)) t
 
@@ -85,9 +85,9 @@ pub room_left : (rest lines next : List ℕ) (k e : ℕ) → next ≡ drop (e + 
 room_left rest lines next k e h within most = omega (arith, within, most, ap length h, length-drop (e + 1) rest)
 
 -- what is told where a line is refused
-pub halted : (r : Result (Option ℕ) Memory) (h : Halt) (k : ℕ) (at after : Survey) (line : Option Survey) (given : Result Survey ℕ) → Halts r h k → Takes (Err h) at line → (line ≡ None → given ≡ Err k) → Finds r after given
+pub halted : (r : Result (Option ℕ) Memory) (h : WalkHalt) (k : ℕ) (at after : Survey) (line : Option Survey) (given : Result Survey ℕ) → Halts r h k → Takes (Err h) at line → (line ≡ None → given ≡ Err k) → Finds r after given
 halted (Ok None) h k at after line given x t go = absurd (x)
-halted (Ok (Some n)) h k at after line given x t go = go (subst (λ (g : Halt). Takes (Err g) at line) x.0 t) ∙ ap (λ (m : ℕ). Err m) (sym x.1)
+halted (Ok (Some n)) h k at after line given x t go = go (subst (λ (g : WalkHalt). Takes (Err g) at line) x.0 t) ∙ ap (λ (m : ℕ). Err m) (sym x.1)
 halted (Err lack) h k at after line given x t go = tt
 
 -- the whole text

@@ -25,8 +25,8 @@ use Rattle.sx_check_grammar.specs.Lines.{IsLineForm}
 use Rattle.sx_check_grammar.specs.Names.{IsName, NamesAreScanned}
 use Rattle.sx_check_grammar.specs.Primitives.{is_primitive, is_value}
 use Rattle.sx_check_grammar.specs.Scan.{is_name, is_end, scanned}
-use Rattle.sx_check_grammar.specs.declared.names.Place.{Place}
-use Rattle.sx_check_grammar.specs.declared.names.Place.TheVariants.{Nowhere}
+use Rattle.sx_check_grammar.specs.declared.names.NamePlace.{NamePlace}
+use Rattle.sx_check_grammar.specs.declared.names.NamePlace.TheVariants.{Nowhere}
 
 abbrev Words : Type 0
 Words = List (List ℕ)
@@ -280,7 +280,7 @@ module _ (scan : NamesAreScanned) where
   name_begins : (x : List ℕ) → is_name x ≡ true → begins x ≡ true
   unfolding scanned
   name_begins [] h = absurd (cc)
-  name_begins (b ∷ bs) h = branch (λ (p : Place). is_end (scanned p bs) ≡ true → (b == 0x25) ≡ true) (b == 0x25) (λ e _. e) (λ _ g. absurd (nowhere bs g)) h
+  name_begins (b ∷ bs) h = branch (λ (p : NamePlace). is_end (scanned p bs) ≡ true → (b == 0x25) ≡ true) (b == 0x25) (λ e _. e) (λ _ g. absurd (nowhere bs g)) h
 
   among : (k : ℕ) (x : List ℕ) (ys : List (List ℕ)) (o : ℕ) → list_any begins ys ≡ false → place_from k x ys ≡ Some o → begins x ≡ false
   among k x [] o h e = none_some e

@@ -4,8 +4,8 @@ use Rattle.std.specs.Global.{Global}
 use Rattle.sx_base.specs.Datum.{PlainDatum}
 use Rattle.sx_base.specs.declared.fault.Fault.{Fault}
 use Rattle.sx_base.specs.declared.memory.Memory.{Memory}
-use Rattle.sx_check.specs.declared.survey.Halt.{Halt}
-use Rattle.sx_check.specs.declared.survey.Halt.TheVariants as halt
+use Rattle.sx_check.specs.declared.survey.WalkHalt.{WalkHalt}
+use Rattle.sx_check.specs.declared.survey.WalkHalt.TheVariants as halt
 use Rattle.sx_check.specs.declared.survey.Survey.{Survey}
 
 abbrev pub IsFault : Result (List PlainDatum) Fault → Type 0
@@ -13,7 +13,7 @@ IsFault (Ok ds) = ⊥
 IsFault (Err f) = Unit {0}
 
 -- the data that are read, or a refusal where there is a fault
-abbrev pub Spells : Result (Vec PlainDatum Global) Halt → Result (List PlainDatum) Fault → Type 0
+abbrev pub Spells : Result (Vec PlainDatum Global) WalkHalt → Result (List PlainDatum) Fault → Type 0
 Spells (Ok v) given = given ≡ Ok v.items
 Spells (Err halt.Refused) given = IsFault given
 Spells (Err halt.Memory) given = Unit {0}
@@ -25,7 +25,7 @@ Finds (Ok (Some k)) after given = given ≡ Err k
 Finds (Err lack) after given = Unit {0}
 
 -- a refusal at a line
-abbrev pub Halts : Result (Option ℕ) Memory → Halt → ℕ → Type 0
+abbrev pub Halts : Result (Option ℕ) Memory → WalkHalt → ℕ → Type 0
 Halts (Ok None) h k = ⊥
 Halts (Ok (Some n)) h k = (h ≡ halt.Refused) × (n ≡ k)
 Halts (Err lack) h k = h ≡ halt.Memory

@@ -1,18 +1,18 @@
--- How a check ends, by its definition: what `specs/Headline` says by the cases of the grammar.
+-- How a check ends, by its definition: what `specs/CheckHeadline` says by the cases of the grammar.
 use Rattle.std.specs.Prelude.{◌≡◌, ℕ, List, Option, None, Some, IfSome, string_bytes}
-use Rattle.sx_check.specs.declared.run.Answer.{Answer}
+use Rattle.sx_check.specs.declared.run.FileReport.{FileReport}
 use Rattle.sx_check.specs.declared.status.CheckStatus.{CheckStatus}
 use Rattle.sx_check.specs.declared.status.CheckStatus.TheVariants as status
 use Rattle.sx_check.specs.Headline.{Sunk, Untouched, Puts, Gave}
-use Rattle.sx_check.specs.Whole.{Told, file_named, of_reading, usage_line}
+use Rattle.sx_check.specs.Whole.{ToldLine, file_named, of_reading, usage_line}
 use Rattle.sx_outside.specs.Causes.{Rose}
 use Rattle.sx_outside.specs.Contents.{Paths, Reading}
 
-abbrev pub told : Answer → Told
+abbrev pub told : FileReport → ToldLine
 told a = record { line = string_bytes a.line; status = a.status }
 
 -- what is told of what a read gave
-pub record IsOf (files : Option Paths) (path : List ℕ) (a : Answer) : Type 0 where
+pub record IsOf (files : Option Paths) (path : List ℕ) (a : FileReport) : Type 0 where
   pub reading : Reading
   pub gave : Gave files path (λ r. r ≡ reading)
   pub same : told a ≡ of_reading reading

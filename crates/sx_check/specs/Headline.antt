@@ -54,22 +54,22 @@ pub data IsRefused (w : Why) : Reading → Type 0 where
   refused : (x : List ℕ) → Judged x (verdict.No w) → IsRefused w (bytes x)
 
 -- what a check wrote, and why it ended as it did
-pub data Headline (told : Option Paths) (words : List (List ℕ)) (faults_before faults_after : ℕ) (out err : Sunk) (s : CheckStatus) : Type 0 where
+pub data CheckHeadline (told : Option Paths) (words : List (List ℕ)) (faults_before faults_after : ℕ) (out err : Sunk) (s : CheckStatus) : Type 0 where
   -- the file is a core text
   is_core_text : (path : List ℕ) → file_named words ≡ Some path → Gave told path IsAccepted → Untouched err → Puts out (codes "yes\n") status.Yes s
-      → Headline told words faults_before faults_after out err s
+      → CheckHeadline told words faults_before faults_after out err s
   -- it is none
   is_none : (path : List ℕ) (w : Why) → file_named words ≡ Some path → Gave told path (IsRefused w) → Untouched err → Puts out (why_text w) status.No s
-      → Headline told words faults_before faults_after out err s
+      → CheckHeadline told words faults_before faults_after out err s
   -- it is too long
   is_longer : (path : List ℕ) → file_named words ≡ Some path → Gave told path (λ r. r ≡ longer) → Untouched err → Puts out (codes "no: longer\n") status.No s
-      → Headline told words faults_before faults_after out err s
+      → CheckHeadline told words faults_before faults_after out err s
   -- it isn't there
   is_absent : (path : List ℕ) → file_named words ≡ Some path → Gave told path (λ r. r ≡ absent) → Untouched err → Puts out (codes "no: absent\n") status.No s
-      → Headline told words faults_before faults_after out err s
-  wrong_words : file_named words ≡ None → Untouched out → Puts err usage_line status.Usage s → Headline told words faults_before faults_after out err s
-  read_fault : s ≡ status.ReadFault → Rose faults_before faults_after → Untouched out → Untouched err → Headline told words faults_before faults_after out err s
-  no_memory : s ≡ status.Memory → Untouched out → Untouched err → Headline told words faults_before faults_after out err s
+      → CheckHeadline told words faults_before faults_after out err s
+  wrong_words : file_named words ≡ None → Untouched out → Puts err usage_line status.Usage s → CheckHeadline told words faults_before faults_after out err s
+  read_fault : s ≡ status.ReadFault → Rose faults_before faults_after → Untouched out → Untouched err → CheckHeadline told words faults_before faults_after out err s
+  no_memory : s ≡ status.Memory → Untouched out → Untouched err → CheckHeadline told words faults_before faults_after out err s
 
 -- where no count rose, the status is the definition's, unless memory ran out
 abbrev pub Complete : Option Paths → List (List ℕ) → (files_rose out_rose err_rose : Type 0) → CheckStatus → Type 0

@@ -1,7 +1,7 @@
 -- What is known of the lines so far, and of a line up to a place in it; and steps from one place to a later one.
 use Rattle.std.specs.Prelude.{◌≡◌, ℕ, Bool, true, false, List, [], take, length, Option, None, Some, Result, Ok, Err, if◌then◌else◌}
-use Rattle.sx_check.specs.declared.survey.Halt.{Halt}
-use Rattle.sx_check.specs.declared.survey.Halt.TheVariants as halt
+use Rattle.sx_check.specs.declared.survey.WalkHalt.{WalkHalt}
+use Rattle.sx_check.specs.declared.survey.WalkHalt.TheVariants as halt
 use Rattle.sx_check.specs.declared.survey.Survey.{Survey}
 use Rattle.sx_check.specs.Names.{with_name}
 use Rattle.sx_check_grammar.specs.Forms.{has}
@@ -59,13 +59,13 @@ abbrev pub scoped : Step → Step → Step
 scoped f g s = left (length s.scope) (on (f s) g)
 
 -- a call took this step, was refused where there is none, or lacked memory
-abbrev pub Takes : Result Unit Halt → Survey → Option Survey → Type 0
+abbrev pub Takes : Result Unit WalkHalt → Survey → Option Survey → Type 0
 Takes (Ok done) after given = given ≡ Some after
 Takes (Err halt.Refused) after given = given ≡ None
 Takes (Err halt.Memory) after given = Unit {0}
 
 -- a constant is walked past where it evaluates to itself
-abbrev pub IsConstant : Result Unit Halt → Bool → Type 0
+abbrev pub IsConstant : Result Unit WalkHalt → Bool → Type 0
 IsConstant (Ok done) b = b ≡ true
 IsConstant (Err halt.Refused) b = b ≡ false
 IsConstant (Err halt.Memory) b = ⊥

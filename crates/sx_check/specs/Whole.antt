@@ -31,30 +31,30 @@ abbrev pub usage_line : List ℕ
 usage_line = codes "usage: core-check FILE\n"
 
 -- a line, and the status with it
-pub record Told : Type 0 where
+pub record ToldLine : Type 0 where
   pub line : List ℕ
   pub status : CheckStatus
 
-abbrev pub told_no : List ℕ → Told
+abbrev pub told_no : List ℕ → ToldLine
 told_no line = record { line = line; status = status.No }
 
 abbrev pub status_of : Verdict → CheckStatus
 status_of verdict.Yes = status.Yes
 status_of (verdict.No w) = status.No
 
-abbrev pub of_verdict : Verdict → Told
+abbrev pub of_verdict : Verdict → ToldLine
 of_verdict v = record { line = answer_text v; status = status_of v }
 
-abbrev pub too_long : Told
+abbrev pub too_long : ToldLine
 too_long = told_no (codes "no: longer\n")
 
 -- what is told of a file
-abbrev pub of_reading : Reading → Told
+abbrev pub of_reading : Reading → ToldLine
 of_reading (bytes x) = if nat_lt most_bytes (length x) then too_long else of_verdict (verdict_of x)
 of_reading longer = too_long
 of_reading absent = told_no (codes "no: absent\n")
 
-abbrev pub of_file : Paths → List ℕ → Told
+abbrev pub of_file : Paths → List ℕ → ToldLine
 of_file files path = of_reading (read_of (at_path files path) most_bytes)
 
 abbrev pub status_asked : Paths → Option (List ℕ) → CheckStatus

@@ -6,14 +6,14 @@ ghost use Rattle.sx_check.specs.Answers.{Spells, Halts, Finds};
 ghost use Rattle.sx_check.specs.Judged.{Judged, VerdictsAre};
 ghost use Rattle.sx_check.specs.Lines.{line_end, lines_of, data_on, line_on, lines_on, first_free, known, of_lines, behind_first, verdict_of};
 ghost use Rattle.sx_check.specs.Survey.{Takes};
-ghost use Rattle.sx_check.specs.declared.survey.Halt.TheVariants as halt;
+ghost use Rattle.sx_check.specs.declared.survey.WalkHalt.TheVariants as halt;
 ghost use Rattle.sx_check.specs.declared.verdict.Verdict.{Verdict};
 ghost use Rattle.sx_check_grammar.specs.Text.{text_of};
 ghost use Rattle.sx_reader.specs.Read.{data_of, most_nesting};
 
 use crate::names::NameSet;
 use crate::primitives::Primitives;
-use crate::survey::{Halt, Survey};
+use crate::survey::{WalkHalt, Survey};
 use crate::verdict::{Verdict, Why};
 use crate::walk::line_form;
 use memchr::memchr;
@@ -31,14 +31,14 @@ use sx_line_reader::reader::LineReader;
 const FIRST_LINE: &[u8] = b"(import (rnrs))\n";
 
 // The data that the bytes of a line spell.
-fn read_line(reader: &mut LineReader, line: &[u8]) -> Result<Vec<Datum>, Halt>
+fn read_line(reader: &mut LineReader, line: &[u8]) -> Result<Vec<Datum>, WalkHalt>
     requires { length line.now < 2 ^ 32 }
     ensures { Spells result (data_of [] line.now most_nesting) }
 {
     match reader.read(line) {
         Ok(data) => Ok(data),
-        Err(Stop::Fault(_)) => Err(Halt::Refused),
-        Err(Stop::Memory) => Err(Halt::Memory),
+        Err(Stop::Fault(_)) => Err(WalkHalt::Refused),
+        Err(Stop::Memory) => Err(WalkHalt::Memory),
     }
 }
 
@@ -59,14 +59,14 @@ impl Survey {
         primitives: &Primitives,
         data: &[Datum],
         line: &[u8],
-    ) -> Result<(), Halt>
+    ) -> Result<(), WalkHalt>
         ensures { Takes result self.new (data_on line.now data.now self.old) }
     {
         let [datum] = data else {
-            return Err(Halt::Refused);
+            return Err(WalkHalt::Refused);
         };
         if !is_written(alloc, datum, line)? {
-            return Err(Halt::Refused);
+            return Err(WalkHalt::Refused);
         }
         line_form(self, primitives, datum)
     }
@@ -78,7 +78,7 @@ impl Survey {
         primitives: &Primitives,
         reader: &mut LineReader,
         line: &[u8],
-    ) -> Result<(), Halt>
+    ) -> Result<(), WalkHalt>
         requires { length line.now < 2 ^ 32 }
         ensures { Takes result self.new (line_on line.now self.old) }
     {
@@ -106,12 +106,12 @@ fn behind_line(bytes: &[u8], end: usize) -> &[u8]
 }
 
 // The answer where a line is refused.
-fn wrong_at(halt: Halt, number: u64) -> Result<Option<u64>, Memory>
+fn wrong_at(halt: WalkHalt, number: u64) -> Result<Option<u64>, Memory>
     ensures { Halts result halt number }
 {
     match halt {
-        Halt::Refused => Ok(Some(number)),
-        Halt::Memory => Err(Memory),
+        WalkHalt::Refused => Ok(Some(number)),
+        WalkHalt::Memory => Err(Memory),
     }
 }
 

@@ -1,7 +1,7 @@
 //! All that the program does, over any files and sinks.
 
 ghost use Rattle.std.specs.Prelude.{◌≡◌, ◌≢◌, ◌<◌, ◌^◌, IfOk, Err, length, option_map};
-ghost use Rattle.sx_check.specs.Headline.{Sunk, Puts, Headline, Complete};
+ghost use Rattle.sx_check.specs.Headline.{Sunk, Puts, CheckHeadline, Complete};
 ghost use Rattle.sx_check.specs.Lines.{verdict_of};
 ghost use Rattle.sx_check.specs.Whole.{texts, file_named, if_file, status_of, told_no, of_verdict, of_reading};
 ghost use Rattle.sx_check.specs.Ended.{told, IsOf, Ended};
@@ -25,7 +25,7 @@ pub const MOST_BYTES: usize = 268_435_456;
 
 /// What is to be written of a file, and the status with it.
 #[derive(Drop)]
-pub struct Answer {
+pub struct FileReport {
     pub line: String,
     pub status: CheckStatus,
 }
@@ -75,30 +75,30 @@ fn status_of(verdict: &Verdict) -> CheckStatus
     }
 }
 
-fn of_bytes(alloc: Global, bytes: &[u8]) -> Result<Answer, Memory>
+fn of_bytes(alloc: Global, bytes: &[u8]) -> Result<FileReport, Memory>
     requires { length bytes.now < 2 ^ 32 }
     ensures { IfOk result (λ a. told a ≡ of_verdict (verdict_of bytes.now)) }
 {
     let verdict = check_core(alloc, bytes)?;
-    Ok(Answer {
+    Ok(FileReport {
         line: answer_text(alloc, &verdict)?,
         status: status_of(&verdict),
     })
 }
 
-fn told_no(alloc: Global, line: &str) -> Result<Answer, Memory>
+fn told_no(alloc: Global, line: &str) -> Result<FileReport, Memory>
     ensures { IfOk result (λ a. told a ≡ told_no line.now) }
 {
     let mut text = String::new(alloc);
     text.push_str(line)?;
-    Ok(Answer {
+    Ok(FileReport {
         line: text,
         status: CheckStatus::No,
     })
 }
 
 // Files that tell nothing of their contents may give more bytes than were asked for.
-fn if_short(alloc: Global, held: &[u8]) -> Result<Answer, Memory>
+fn if_short(alloc: Global, held: &[u8]) -> Result<FileReport, Memory>
     ensures { IfOk result (λ a. told a ≡ of_reading (bytes held.now)) }
 {
     if held.len() > MOST_BYTES {
@@ -108,7 +108,7 @@ fn if_short(alloc: Global, held: &[u8]) -> Result<Answer, Memory>
     }
 }
 
-fn of_reading(alloc: Global, reading: &FileAnswer) -> Result<Answer, Memory>
+fn of_reading(alloc: Global, reading: &FileAnswer) -> Result<FileReport, Memory>
     ensures { IfOk result (λ a. told a ≡ of_reading (file_reading reading.now)) }
 {
     match reading {
@@ -129,7 +129,7 @@ fn put_line<S: Sink>(sink: &mut S, line: &[u8], status: CheckStatus) -> CheckSta
 }
 
 // What is to be written of a file.
-fn prepare<F: Files>(alloc: Global, path: &str, files: &mut F) -> Result<Answer, Unanswered>
+fn prepare<F: Files>(alloc: Global, path: &str, files: &mut F) -> Result<FileReport, Unanswered>
     ensures gives { IfOk result (IsOf (F.told files.old) path.now) }
     ensures read { result ≡ Err Unanswered.Read → Rose (F.faults files.old) (F.faults files.new) }
 {
@@ -140,7 +140,7 @@ fn prepare<F: Files>(alloc: Global, path: &str, files: &mut F) -> Result<Answer,
     }
 }
 
-fn answered(alloc: Global, reading: &FileAnswer) -> Result<Answer, Unanswered>
+fn answered(alloc: Global, reading: &FileAnswer) -> Result<FileReport, Unanswered>
     ensures gives { IfOk result (λ a. told a ≡ of_reading (file_reading reading.now)) }
     ensures unread { result ≢ Err Unanswered.Read }
 {
@@ -159,7 +159,7 @@ pub fn check_run<F: Files, O: Sink, E: Sink>(
     out: &mut O,
     err: &mut E,
 ) -> CheckStatus
-    ensures headline { Headline (F.told files.old) (texts words.now) (F.faults files.old) (F.faults files.new)
+    ensures headline { CheckHeadline (F.told files.old) (texts words.now) (F.faults files.old) (F.faults files.new)
         (record { before = O.told out.old; after = O.told out.new; faults_before = O.faults out.old; faults_after = O.faults out.new; puts_before = O.puts out.old; puts_after = O.puts out.new })
         (record { before = E.told err.old; after = E.told err.new; faults_before = E.faults err.old; faults_after = E.faults err.new; puts_before = E.puts err.old; puts_after = E.puts err.new }) result }
     ensures complete { Complete (F.told files.old) (texts words.now) (Rose (F.faults files.old) (F.faults files.new)) (Rose (O.faults out.old) (O.faults out.new)) (Rose (E.faults err.old) (E.faults err.new)) result }

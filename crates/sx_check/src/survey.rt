@@ -3,7 +3,7 @@
 ghost use Rattle.std.specs.Prelude.{◌≡◌, OnOk};
 ghost use Rattle.sx_check.specs.Survey.{nothing_known, Takes, refused, entered, bound_by, mentioned, defined_by, or_first};
 ghost use Rattle.sx_check.specs.Walk.{variable, formal};
-ghost use Rattle.sx_check.specs.declared.survey.Halt.TheVariants as halt;
+ghost use Rattle.sx_check.specs.declared.survey.WalkHalt.TheVariants as halt;
 
 use crate::names::NameSet;
 use crate::primitives::Primitives;
@@ -14,17 +14,17 @@ use sx_check_grammar::names::is_name;
 
 /// Why a walk doesn't go on.
 #[derive(Clone, Copy, Debug, PartialEq, Eq)]
-pub enum Halt {
+pub enum WalkHalt {
     /// Here stands no form of core text.
     Refused,
     Memory,
 }
 
-impl From<Memory> for Halt {
+impl From<Memory> for WalkHalt {
     ghost from_gives = { λ _ e. e ≡ halt.Memory };
 
-    fn from(_error: Memory) -> Halt {
-        Halt::Memory
+    fn from(_error: Memory) -> WalkHalt {
+        WalkHalt::Memory
     }
 }
 
@@ -115,7 +115,7 @@ impl Survey {
         &mut self,
         primitives: &Primitives,
         identifier: &Symbol,
-    ) -> Result<(), Halt>
+    ) -> Result<(), WalkHalt>
         ensures { Takes result self.new (variable identifier.now self.old) }
     {
         if is_name(identifier.as_str()) {
@@ -125,7 +125,7 @@ impl Survey {
         if primitives.has(identifier) {
             Ok(())
         } else {
-            Err(Halt::Refused)
+            Err(WalkHalt::Refused)
         }
     }
 }

@@ -4,11 +4,11 @@ ghost use Rattle.std.specs.Prelude.{◌≡◌, length, IsTrue};
 ghost use Rattle.sx_base.specs.Datum.{chain, elements, nil, is_tail, symbol_text};
 ghost use Rattle.sx_check.specs.Survey.{Takes, IsConstant};
 ghost use Rattle.sx_check.specs.Walk.{is_itself, is_quotation, is_armed, is_row, is_define, formals, last_formal, init_names, expression, expressions, one, assigned, init, procedure, cases, inits, recursive, definition, line_form};
-ghost use Rattle.sx_check.specs.declared.survey.Halt.TheVariants as halt;
+ghost use Rattle.sx_check.specs.declared.survey.WalkHalt.TheVariants as halt;
 
 use crate::form::{Form, form_of, is_itself, is_quoted, name_in};
 use crate::primitives::Primitives;
-use crate::survey::{Halt, Survey};
+use crate::survey::{WalkHalt, Survey};
 use sx_base::atom::Atom;
 use sx_base::datum::{Datum, Node};
 
@@ -23,13 +23,13 @@ fn is_quotation(items: &[Datum]) -> bool
     }
 }
 
-fn constant(atom: &Atom) -> Result<(), Halt>
+fn constant(atom: &Atom) -> Result<(), WalkHalt>
     ensures { IsConstant result (is_itself atom.now) }
 {
     if is_itself(atom) {
         Ok(())
     } else {
-        Err(Halt::Refused)
+        Err(WalkHalt::Refused)
     }
 }
 
@@ -66,27 +66,27 @@ fn is_define(head: &Datum) -> bool
 }
 
 /// The end of formals.
-fn last_formal(survey: &mut Survey, tail: &Datum) -> Result<(), Halt>
+fn last_formal(survey: &mut Survey, tail: &Datum) -> Result<(), WalkHalt>
     ensures { Takes result survey.new (last_formal tail.now survey.old) }
 {
     if tail.is_nil() {
         return Ok(());
     }
     let Some(name) = name_in(tail) else {
-        return Err(Halt::Refused);
+        return Err(WalkHalt::Refused);
     };
     survey.take_formal(name)?;
     Ok(())
 }
 
 /// Formals in a list, and its tail.
-fn formals_in(survey: &mut Survey, items: &[Datum], tail: &Datum) -> Result<(), Halt>
+fn formals_in(survey: &mut Survey, items: &[Datum], tail: &Datum) -> Result<(), WalkHalt>
     requires { IsTrue (is_tail tail.now) }
     ensures { Takes result survey.new (formals (chain items.now tail.now) survey.old) }
 {
     for item in items {
         let Some(name) = name_in(item) else {
-            return Err(Halt::Refused);
+            return Err(WalkHalt::Refused);
         };
         survey.take_formal(name)?;
     }
@@ -94,7 +94,7 @@ fn formals_in(survey: &mut Survey, items: &[Datum], tail: &Datum) -> Result<(), 
 }
 
 /// Formals: `(x ...)`, `(x ... . r)` or `r`.
-fn formals(survey: &mut Survey, datum: &Datum) -> Result<(), Halt>
+fn formals(survey: &mut Survey, datum: &Datum) -> Result<(), WalkHalt>
     ensures { Takes result survey.new (formals datum.now survey.old) }
 {
     match &datum.node {
@@ -104,15 +104,15 @@ fn formals(survey: &mut Survey, datum: &Datum) -> Result<(), Halt>
 }
 
 /// The names of pairs of a name and an expression are in scope from here.
-fn init_names(survey: &mut Survey, items: &[Datum]) -> Result<(), Halt>
+fn init_names(survey: &mut Survey, items: &[Datum]) -> Result<(), WalkHalt>
     ensures { Takes result survey.new (init_names (chain items.now nil) survey.old) }
 {
     for item in items {
         let Some(first) = item.first() else {
-            return Err(Halt::Refused);
+            return Err(WalkHalt::Refused);
         };
         let Some(name) = name_in(first) else {
-            return Err(Halt::Refused);
+            return Err(WalkHalt::Refused);
         };
         survey.enter(name)?;
     }
@@ -120,12 +120,12 @@ fn init_names(survey: &mut Survey, items: &[Datum]) -> Result<(), Halt>
 }
 
 /// The names of the bindings of a `letrec` are in scope from here.
-fn binding_names(survey: &mut Survey, datum: &Datum) -> Result<(), Halt>
+fn binding_names(survey: &mut Survey, datum: &Datum) -> Result<(), WalkHalt>
     ensures { Takes result survey.new (init_names datum.now survey.old) }
 {
     match datum.as_list() {
         Some(items) => init_names(survey, items),
-        None => Err(Halt::Refused),
+        None => Err(WalkHalt::Refused),
     }
 }
 
@@ -135,7 +135,7 @@ pub(crate) fn expression(
     survey: &mut Survey,
     primitives: &Primitives,
     datum: &Datum,
-) -> Result<(), Halt>
+) -> Result<(), WalkHalt>
     ensures { Takes result survey.new (expression datum.now survey.old) }
 {
     if let Some(symbol) = datum.as_symbol() {
@@ -146,30 +146,30 @@ pub(crate) fn expression(
     }
     match datum.as_atom() {
         Some(atom) => constant(atom),
-        None => Err(Halt::Refused),
+        None => Err(WalkHalt::Refused),
     }
 }
 
 #[cycle(walk)]
-fn form(survey: &mut Survey, primitives: &Primitives, items: &[Datum]) -> Result<(), Halt>
+fn form(survey: &mut Survey, primitives: &Primitives, items: &[Datum]) -> Result<(), WalkHalt>
     ensures { Takes result survey.new (expression (chain items.now nil) survey.old) }
 {
     let [head, operands @ ..] = items else {
-        return Err(Halt::Refused);
+        return Err(WalkHalt::Refused);
     };
     match form_of(head) {
         Form::Quote => {
             if is_quotation(operands) {
                 Ok(())
             } else {
-                Err(Halt::Refused)
+                Err(WalkHalt::Refused)
             }
         }
         Form::If => {
             if is_armed(operands) {
                 expressions(survey, primitives, operands)
             } else {
-                Err(Halt::Refused)
+                Err(WalkHalt::Refused)
             }
         }
         Form::Assignment => assigned(survey, primitives, operands),
@@ -177,7 +177,7 @@ fn form(survey: &mut Survey, primitives: &Primitives, items: &[Datum]) -> Result
             if is_row(operands) {
                 expressions(survey, primitives, operands)
             } else {
-                Err(Halt::Refused)
+                Err(WalkHalt::Refused)
             }
         }
         Form::Lambda => procedure(survey, primitives, operands),
@@ -191,7 +191,7 @@ fn form(survey: &mut Survey, primitives: &Primitives, items: &[Datum]) -> Result
 }
 
 #[cycle(walk)]
-fn expressions(survey: &mut Survey, primitives: &Primitives, items: &[Datum]) -> Result<(), Halt>
+fn expressions(survey: &mut Survey, primitives: &Primitives, items: &[Datum]) -> Result<(), WalkHalt>
     ensures { Takes result survey.new (expressions (chain items.now nil) survey.old) }
 {
     for item in items {
@@ -201,50 +201,50 @@ fn expressions(survey: &mut Survey, primitives: &Primitives, items: &[Datum]) ->
 }
 
 #[cycle(walk)]
-fn one(survey: &mut Survey, primitives: &Primitives, items: &[Datum]) -> Result<(), Halt>
+fn one(survey: &mut Survey, primitives: &Primitives, items: &[Datum]) -> Result<(), WalkHalt>
     ensures { Takes result survey.new (one (chain items.now nil) survey.old) }
 {
     match items {
-        [] => Err(Halt::Refused),
+        [] => Err(WalkHalt::Refused),
         [datum] => expression(survey, primitives, datum),
-        [_, _, ..] => Err(Halt::Refused),
+        [_, _, ..] => Err(WalkHalt::Refused),
     }
 }
 
 #[cycle(walk)]
-fn assigned(survey: &mut Survey, primitives: &Primitives, items: &[Datum]) -> Result<(), Halt>
+fn assigned(survey: &mut Survey, primitives: &Primitives, items: &[Datum]) -> Result<(), WalkHalt>
     ensures { Takes result survey.new (assigned (chain items.now nil) survey.old) }
 {
     let [first, others @ ..] = items else {
-        return Err(Halt::Refused);
+        return Err(WalkHalt::Refused);
     };
     let Some(name) = name_in(first) else {
-        return Err(Halt::Refused);
+        return Err(WalkHalt::Refused);
     };
     survey.mention(name)?;
     one(survey, primitives, others)
 }
 
 #[cycle(walk)]
-fn init(survey: &mut Survey, primitives: &Primitives, items: &[Datum]) -> Result<(), Halt>
+fn init(survey: &mut Survey, primitives: &Primitives, items: &[Datum]) -> Result<(), WalkHalt>
     ensures { Takes result survey.new (init (chain items.now nil) survey.old) }
 {
     let [first, others @ ..] = items else {
-        return Err(Halt::Refused);
+        return Err(WalkHalt::Refused);
     };
     let Some(name) = name_in(first) else {
-        return Err(Halt::Refused);
+        return Err(WalkHalt::Refused);
     };
     survey.bind(name)?;
     one(survey, primitives, others)
 }
 
 #[cycle(walk)]
-fn procedure(survey: &mut Survey, primitives: &Primitives, items: &[Datum]) -> Result<(), Halt>
+fn procedure(survey: &mut Survey, primitives: &Primitives, items: &[Datum]) -> Result<(), WalkHalt>
     ensures { Takes result survey.new (procedure (chain items.now nil) survey.old) }
 {
     let [first, others @ ..] = items else {
-        return Err(Halt::Refused);
+        return Err(WalkHalt::Refused);
     };
     let size = survey.scope.size();
     formals(survey, first)?;
@@ -254,17 +254,17 @@ fn procedure(survey: &mut Survey, primitives: &Primitives, items: &[Datum]) -> R
 }
 
 #[cycle(walk)]
-fn case(survey: &mut Survey, primitives: &Primitives, item: &Datum) -> Result<(), Halt>
+fn case(survey: &mut Survey, primitives: &Primitives, item: &Datum) -> Result<(), WalkHalt>
     ensures { Takes result survey.new (procedure item.now survey.old) }
 {
     match item.as_list() {
         Some(parts) => procedure(survey, primitives, parts),
-        None => Err(Halt::Refused),
+        None => Err(WalkHalt::Refused),
     }
 }
 
 #[cycle(walk)]
-fn cases(survey: &mut Survey, primitives: &Primitives, items: &[Datum]) -> Result<(), Halt>
+fn cases(survey: &mut Survey, primitives: &Primitives, items: &[Datum]) -> Result<(), WalkHalt>
     ensures { Takes result survey.new (cases (chain items.now nil) survey.old) }
 {
     for item in items {
@@ -274,17 +274,17 @@ fn cases(survey: &mut Survey, primitives: &Primitives, items: &[Datum]) -> Resul
 }
 
 #[cycle(walk)]
-fn binding(survey: &mut Survey, primitives: &Primitives, item: &Datum) -> Result<(), Halt>
+fn binding(survey: &mut Survey, primitives: &Primitives, item: &Datum) -> Result<(), WalkHalt>
     ensures { Takes result survey.new (init item.now survey.old) }
 {
     match item.as_list() {
         Some(parts) => init(survey, primitives, parts),
-        None => Err(Halt::Refused),
+        None => Err(WalkHalt::Refused),
     }
 }
 
 #[cycle(walk)]
-fn inits(survey: &mut Survey, primitives: &Primitives, items: &[Datum]) -> Result<(), Halt>
+fn inits(survey: &mut Survey, primitives: &Primitives, items: &[Datum]) -> Result<(), WalkHalt>
     ensures { Takes result survey.new (inits (chain items.now nil) survey.old) }
 {
     for item in items {
@@ -295,21 +295,21 @@ fn inits(survey: &mut Survey, primitives: &Primitives, items: &[Datum]) -> Resul
 
 /// The bindings of a `letrec`.
 #[cycle(walk)]
-fn bindings(survey: &mut Survey, primitives: &Primitives, datum: &Datum) -> Result<(), Halt>
+fn bindings(survey: &mut Survey, primitives: &Primitives, datum: &Datum) -> Result<(), WalkHalt>
     ensures { Takes result survey.new (inits datum.now survey.old) }
 {
     match datum.as_list() {
         Some(items) => inits(survey, primitives, items),
-        None => Err(Halt::Refused),
+        None => Err(WalkHalt::Refused),
     }
 }
 
 #[cycle(walk)]
-fn recursive(survey: &mut Survey, primitives: &Primitives, items: &[Datum]) -> Result<(), Halt>
+fn recursive(survey: &mut Survey, primitives: &Primitives, items: &[Datum]) -> Result<(), WalkHalt>
     ensures { Takes result survey.new (recursive (chain items.now nil) survey.old) }
 {
     let [first, others @ ..] = items else {
-        return Err(Halt::Refused);
+        return Err(WalkHalt::Refused);
     };
     let size = survey.scope.size();
     binding_names(survey, first)?;
@@ -319,25 +319,25 @@ fn recursive(survey: &mut Survey, primitives: &Primitives, items: &[Datum]) -> R
     Ok(())
 }
 
-fn definition(survey: &mut Survey, primitives: &Primitives, items: &[Datum]) -> Result<(), Halt>
+fn definition(survey: &mut Survey, primitives: &Primitives, items: &[Datum]) -> Result<(), WalkHalt>
     ensures { Takes result survey.new (definition (chain items.now nil) survey.old) }
 {
     let [first, others @ ..] = items else {
-        return Err(Halt::Refused);
+        return Err(WalkHalt::Refused);
     };
     let Some(name) = name_in(first) else {
-        return Err(Halt::Refused);
+        return Err(WalkHalt::Refused);
     };
     survey.define(name)?;
     one(survey, primitives, others)
 }
 
 /// A list that is the form of a line.
-fn line_list(survey: &mut Survey, primitives: &Primitives, items: &[Datum]) -> Result<(), Halt>
+fn line_list(survey: &mut Survey, primitives: &Primitives, items: &[Datum]) -> Result<(), WalkHalt>
     ensures { Takes result survey.new (line_form (chain items.now nil) survey.old) }
 {
     match items {
-        [] => Err(Halt::Refused),
+        [] => Err(WalkHalt::Refused),
         [head, operands @ ..] => {
             if is_define(head) {
                 definition(survey, primitives, operands)
@@ -353,7 +353,7 @@ pub(crate) fn line_form(
     survey: &mut Survey,
     primitives: &Primitives,
     datum: &Datum,
-) -> Result<(), Halt>
+) -> Result<(), WalkHalt>
     ensures { Takes result survey.new (line_form datum.now survey.old) }
 {
     match datum.as_list() {

@@ -4,10 +4,10 @@ use Rattle.std.specs.Prelude.{◌==◌, ◌||◌, ◌&&◌, not, nat_lt, nat_le}
 use Rattle.std.specs.Char.{IsScalar, is_ascii_digit}
 use Rattle.std.proofs.lemmas.Bool.{and_parts}
 use Rattle.std.proofs.lemmas.Bool.Decides.{nat_tests}
-use Rattle.sx_check_grammar.specs.declared.names.Word.{Word}
-use Rattle.sx_check_grammar.specs.declared.names.Word.TheVariants.{Part, Symbol}
-use Rattle.sx_check_grammar.specs.declared.names.Place.{Place}
-use Rattle.sx_check_grammar.specs.declared.names.Place.TheVariants.{Library, Dot, In, Tilde, Hex, Number, Zero, Digits, Nowhere}
+use Rattle.sx_check_grammar.specs.declared.names.WrittenWord.{WrittenWord}
+use Rattle.sx_check_grammar.specs.declared.names.WrittenWord.TheVariants.{Part, Symbol}
+use Rattle.sx_check_grammar.specs.declared.names.NamePlace.{NamePlace}
+use Rattle.sx_check_grammar.specs.declared.names.NamePlace.TheVariants.{Library, Dot, In, Tilde, Hex, Number, Zero, Digits, Nowhere}
 use Rattle.sx_check_grammar.specs.Scan.{is_plain, is_escaped, is_hex_digit, digit_value, next, word_on, tilde_on, hex_on, escape_end, number_on, digits_on, behind_slash, behind_dot, is_end, scanned, is_name}
 use Rattle.sx_check_grammar.specs.Names.{MoreHex, no_digit, digit, IsHex, IsWord, no_character, plain, escaped, AreParts, one, more, IsLibrary, program, library, AreDigits, no_digits, digits, IsNumber, IsName, name, NamesAreScanned}
 use Rattle.sx_check_grammar.specs.Names as names
@@ -17,12 +17,12 @@ branch : {A : Type 0} (P : A → Type 0) (t : Bool) {x y : A} → (t ≡ true �
 branch P true f g = f refl
 branch P false f g = g refl
 
-scanned-append : (p : Place) (xs ys : List ℕ) → scanned p (xs ++ ys) ≡ scanned (scanned p xs) ys
+scanned-append : (p : NamePlace) (xs ys : List ℕ) → scanned p (xs ++ ys) ≡ scanned (scanned p xs) ys
 unfolding scanned
 scanned-append p [] ys = refl
 scanned-append p (x ∷ xs) ys = scanned-append (next p x) xs ys
 
-abbrev Ends : Place → List ℕ → Type 0
+abbrev Ends : NamePlace → List ℕ → Type 0
 Ends p xs = is_end (scanned p xs) ≡ true
 
 -- tests on bytes
@@ -67,51 +67,51 @@ more_least : {v c : ℕ} {ds : List ℕ} → MoreHex v ds c → v ≤ c
 more_least no_digit = omega arith
 more_least (digit h m) = omega (arith, more_least m)
 
-hex_step : (w : Word) (v d : ℕ) → is_hex_digit d ≡ true → 0 < v → v ≤ 0x10FFF → hex_on w v d ≡ Hex w (v * 16 + digit_value d)
+hex_step : (w : WrittenWord) (v d : ℕ) → is_hex_digit d ≡ true → 0 < v → v ≤ 0x10FFF → hex_on w v d ≡ Hex w (v * 16 + digit_value d)
 hex_step w v d h some least = rw (hex_no_tilde d h, h, few v some least) refl
 
-more_scanned : (w : Word) {v c : ℕ} {ds : List ℕ} → MoreHex v ds c → 0 < v → c ≤ 0x10FFFF → scanned (Hex w v) ds ≡ Hex w c
+more_scanned : (w : WrittenWord) {v c : ℕ} {ds : List ℕ} → MoreHex v ds c → 0 < v → c ≤ 0x10FFFF → scanned (Hex w v) ds ≡ Hex w c
 unfolding scanned
 more_scanned w no_digit some least = refl
 more_scanned w (digit {v} {c} {d} {ds} h m) some least =
     let short : v ≤ 0x10FFF = omega (arith, more_least m, least) in
     let on : 0 < v * 16 + digit_value d = omega arith in
-    ap (λ (p : Place). scanned p ds) (hex_step w v d h some short) ∙ more_scanned w m on least
+    ap (λ (p : NamePlace). scanned p ds) (hex_step w v d h some short) ∙ more_scanned w m on least
 
-tilde_step : (w : Word) (d : ℕ) → is_hex_digit d ≡ true → tilde_on w d ≡ Hex w (digit_value d)
+tilde_step : (w : WrittenWord) (d : ℕ) → is_hex_digit d ≡ true → tilde_on w d ≡ Hex w (digit_value d)
 tilde_step w d h = rw h refl
 
-hex_scanned : (w : Word) {ds : List ℕ} {c : ℕ} → IsHex ds c → c ≤ 0x10FFFF → scanned (Tilde w) ds ≡ Hex w c
+hex_scanned : (w : WrittenWord) {ds : List ℕ} {c : ℕ} → IsHex ds c → c ≤ 0x10FFFF → scanned (Tilde w) ds ≡ Hex w c
 unfolding scanned
 hex_scanned w names.zero least = refl
-hex_scanned w (names.positive {d} {c} {ds} h some m) least = ap (λ (p : Place). scanned p ds) (tilde_step w d h) ∙ more_scanned w m some least
+hex_scanned w (names.positive {d} {c} {ds} h some m) least = ap (λ (p : NamePlace). scanned p ds) (tilde_step w d h) ∙ more_scanned w m some least
 
-end_step : (w : Word) (c : ℕ) → is_escaped c ≡ true → escape_end w c ≡ In w
+end_step : (w : WrittenWord) (c : ℕ) → is_escaped c ≡ true → escape_end w c ≡ In w
 end_step w c h = rw h refl
 
 -- behind a tilde
-escape_scanned : (w : Word) {ds : List ℕ} {c : ℕ} (xs : List ℕ) → IsHex ds c → IsScalar c → is_plain c ≡ false → scanned (Tilde w) (ds ++ 0x7E ∷ xs) ≡ scanned (In w) xs
+escape_scanned : (w : WrittenWord) {ds : List ℕ} {c : ℕ} (xs : List ℕ) → IsHex ds c → IsScalar c → is_plain c ≡ false → scanned (Tilde w) (ds ++ 0x7E ∷ xs) ≡ scanned (In w) xs
 unfolding scanned
 escape_scanned w {ds} {c} xs h s e =
-    scanned-append (Tilde w) ds (0x7E ∷ xs) ∙ ap (λ (p : Place). scanned p (0x7E ∷ xs)) (hex_scanned w h (scalar_small c s))
-    ∙ ap (λ (p : Place). scanned p xs) (end_step w c (to_escaped c s e))
+    scanned-append (Tilde w) ds (0x7E ∷ xs) ∙ ap (λ (p : NamePlace). scanned p (0x7E ∷ xs)) (hex_scanned w h (scalar_small c s))
+    ∙ ap (λ (p : NamePlace). scanned p xs) (end_step w c (to_escaped c s e))
 
-plain_step : (w : Word) (c : ℕ) → is_plain c ≡ true → next (In w) c ≡ In w
+plain_step : (w : WrittenWord) (c : ℕ) → is_plain c ≡ true → next (In w) c ≡ In w
 plain_step w c h = rw (plain_no_slash c h, plain_no_dot c h, h) refl
 
 plain_dot : (c : ℕ) → is_plain c ≡ true → word_on Part c ≡ In Part
 plain_dot c h = rw h refl
 
-word_scanned : (w : Word) {xs : List ℕ} → IsWord xs → scanned (In w) xs ≡ In w
+word_scanned : (w : WrittenWord) {xs : List ℕ} → IsWord xs → scanned (In w) xs ≡ In w
 unfolding scanned
 word_scanned w no_character = refl
-word_scanned w (plain {c} {xs} h r) = ap (λ (p : Place). scanned p xs) (plain_step w c h) ∙ word_scanned w r
+word_scanned w (plain {c} {xs} h r) = ap (λ (p : NamePlace). scanned p xs) (plain_step w c h) ∙ word_scanned w r
 word_scanned w (escaped {c} {ds} {xs} h s e r) = escape_scanned w xs h s e ∙ word_scanned w r
 
 part_scanned : {xs : List ℕ} → IsWord xs → 0 < length xs → scanned Dot xs ≡ In Part
 unfolding scanned
 part_scanned no_character some = absurd (omega arith)
-part_scanned (plain {c} {xs} h r) some = ap (λ (p : Place). scanned p xs) (plain_dot c h) ∙ word_scanned Part r
+part_scanned (plain {c} {xs} h r) some = ap (λ (p : NamePlace). scanned p xs) (plain_dot c h) ∙ word_scanned Part r
 part_scanned (escaped {c} {ds} {xs} h s e r) some = escape_scanned Part xs h s e ∙ word_scanned Part r
 
 library_step : (c : ℕ) → is_plain c ≡ true → next Library c ≡ word_on Part c
@@ -120,14 +120,14 @@ library_step c h = rw (plain_no_slash c h) refl
 library_begins : {xs : List ℕ} (ys : List ℕ) → IsWord xs → 0 < length xs → scanned Library (xs ++ ys) ≡ scanned Dot (xs ++ ys)
 unfolding scanned
 library_begins ys no_character some = absurd (omega arith)
-library_begins ys (plain {c} {xs} h r) some = ap (λ (p : Place). scanned p (xs ++ ys)) (library_step c h)
+library_begins ys (plain {c} {xs} h r) some = ap (λ (p : NamePlace). scanned p (xs ++ ys)) (library_step c h)
 library_begins ys (escaped {c} {ds} {xs} h s e r) some = refl
 
 parts_scanned : {xs : List ℕ} → AreParts xs → scanned Dot xs ≡ In Part
 unfolding scanned
 parts_scanned (one w some) = part_scanned w some
 parts_scanned (more {x} {y} w some r) =
-    scanned-append Dot x (0x2E ∷ y) ∙ ap (λ (p : Place). scanned p (0x2E ∷ y)) (part_scanned w some) ∙ parts_scanned r
+    scanned-append Dot x (0x2E ∷ y) ∙ ap (λ (p : NamePlace). scanned p (0x2E ∷ y)) (part_scanned w some) ∙ parts_scanned r
 
 parts_begin : {xs : List ℕ} (ys : List ℕ) → AreParts xs → scanned Library (xs ++ ys) ≡ scanned Dot (xs ++ ys)
 parts_begin ys (one {x} w some) = library_begins ys w some
@@ -136,14 +136,14 @@ parts_begin ys (more {x} {y} w some r) = rw (append_assoc x (0x2E ∷ y) ys) (li
 digits_scanned : {ds : List ℕ} → AreDigits ds → scanned Digits ds ≡ Digits
 unfolding scanned
 digits_scanned no_digits = refl
-digits_scanned (digits {d} {ds} h r) = ap (λ (p : Place). scanned p ds) (step d h) ∙ digits_scanned r where
+digits_scanned (digits {d} {ds} h r) = ap (λ (p : NamePlace). scanned p ds) (step d h) ∙ digits_scanned r where
   step : (d : ℕ) → is_ascii_digit d ≡ true → digits_on d ≡ Digits
   step d h = rw h refl
 
 number_ends : {n : List ℕ} → IsNumber n → Ends Number n
 unfolding scanned
 number_ends names.zero = refl
-number_ends (names.positive {d} {ds} least most r) = ap (λ (p : Place). is_end (scanned p ds)) (step d least most) ∙ ap is_end (digits_scanned r) where
+number_ends (names.positive {d} {ds} least most r) = ap (λ (p : NamePlace). is_end (scanned p ds)) (step d least most) ∙ ap is_end (digits_scanned r) where
   step : (d : ℕ) → 0x31 ≤ d → d ≤ 0x39 → number_on d ≡ Digits
   step d least most =
       let other : (d == 0x30) ≡ false = grind (arith, nat_tests) in
@@ -152,13 +152,13 @@ number_ends (names.positive {d} {ds} least most r) = ap (λ (p : Place). is_end 
 
 symbol_ends : {x n : List ℕ} → IsWord x → IsNumber n → Ends (In Symbol) (x ++ 0x2F ∷ n)
 unfolding scanned
-symbol_ends {x} {n} w r = ap is_end (scanned-append (In Symbol) x (0x2F ∷ n) ∙ ap (λ (p : Place). scanned p (0x2F ∷ n)) (word_scanned Symbol w)) ∙ number_ends r
+symbol_ends {x} {n} w r = ap is_end (scanned-append (In Symbol) x (0x2F ∷ n) ∙ ap (λ (p : NamePlace). scanned p (0x2F ∷ n)) (word_scanned Symbol w)) ∙ number_ends r
 
 library_ends : {l x n : List ℕ} → IsLibrary l → IsWord x → IsNumber n → Ends Library (l ++ 0x2F ∷ (x ++ 0x2F ∷ n))
 unfolding scanned
 library_ends program w r = symbol_ends w r
 library_ends {l} {x} {n} (library ps) w r =
-    ap is_end (parts_begin (0x2F ∷ (x ++ 0x2F ∷ n)) ps ∙ scanned-append Dot l (0x2F ∷ (x ++ 0x2F ∷ n)) ∙ ap (λ (p : Place). scanned p (0x2F ∷ (x ++ 0x2F ∷ n))) (parts_scanned ps))
+    ap is_end (parts_begin (0x2F ∷ (x ++ 0x2F ∷ n)) ps ∙ scanned-append Dot l (0x2F ∷ (x ++ 0x2F ∷ n)) ∙ ap (λ (p : NamePlace). scanned p (0x2F ∷ (x ++ 0x2F ∷ n))) (parts_scanned ps))
     ∙ symbol_ends w r
 
 found : (text : List ℕ) → IsName text → is_name text ≡ true
@@ -181,7 +181,7 @@ to_digits : (xs : List ℕ) → Ends Digits xs → AreDigits xs
 unfolding scanned
 to_digits [] h = no_digits
 to_digits (x ∷ xs) h =
-    branch (λ (p : Place). Ends p xs → AreDigits (x ∷ xs)) (is_ascii_digit x) (λ e g. digits e (to_digits xs g)) (λ e g. absurd (nowhere xs g)) h
+    branch (λ (p : NamePlace). Ends p xs → AreDigits (x ∷ xs)) (is_ascii_digit x) (λ e g. digits e (to_digits xs g)) (λ e g. absurd (nowhere xs g)) h
 
 positive_digit : (d : ℕ) → (d == 0x30) ≡ false → is_ascii_digit d ≡ true → (0x31 ≤ d) × (d ≤ 0x39)
 positive_digit d h e = grind (arith, nat_tests)
@@ -193,23 +193,23 @@ to_number : (xs : List ℕ) → Ends Number xs → IsNumber xs
 unfolding scanned
 to_number [] h = absurd (cc)
 to_number (x ∷ xs) h =
-    branch (λ (p : Place). Ends p xs → IsNumber (x ∷ xs)) (x == 0x30) (λ e g. zero_number x xs (is_byte x 0x30 e) (zero_last xs g))
-    (λ e. branch (λ (p : Place). Ends p xs → IsNumber (x ∷ xs)) (is_ascii_digit x)
+    branch (λ (p : NamePlace). Ends p xs → IsNumber (x ∷ xs)) (x == 0x30) (λ e g. zero_number x xs (is_byte x 0x30 e) (zero_last xs g))
+    (λ e. branch (λ (p : NamePlace). Ends p xs → IsNumber (x ∷ xs)) (is_ascii_digit x)
     (λ d g. let both = positive_digit x e d in names.positive both.0 both.1 (to_digits xs g)) (λ d g. absurd (nowhere xs g))) h
 
 -- what stands behind a word
-data Behind (w : Word) : List ℕ → Type 0 where
+data Behind (w : WrittenWord) : List ℕ → Type 0 where
   slash : (r : List ℕ) → Ends (behind_slash w) r → Behind w (0x2F ∷ r)
   dot : (r : List ℕ) → Ends (behind_dot w) r → Behind w (0x2E ∷ r)
 
-record InWord (w : Word) (xs : List ℕ) : Type 0 where
+record InWord (w : WrittenWord) (xs : List ℕ) : Type 0 where
   word : List ℕ
   rest : List ℕ
   splits : xs ≡ word ++ rest
   is : IsWord word
   behind : Behind w rest
 
-record InEscape (w : Word) (xs : List ℕ) (Digits : List ℕ → ℕ → Type 0) : Type 0 where
+record InEscape (w : WrittenWord) (xs : List ℕ) (Digits : List ℕ → ℕ → Type 0) : Type 0 where
   ds : List ℕ
   c : ℕ
   rest : List ℕ
@@ -219,16 +219,16 @@ record InEscape (w : Word) (xs : List ℕ) (Digits : List ℕ → ℕ → Type 0
   needed : is_plain c ≡ false
   within : InWord w rest
 
-slash_here : (w : Word) (x : ℕ) (xs : List ℕ) → x ≡ 0x2F → Ends (behind_slash w) xs → InWord w (x ∷ xs)
+slash_here : (w : WrittenWord) (x : ℕ) (xs : List ℕ) → x ≡ 0x2F → Ends (behind_slash w) xs → InWord w (x ∷ xs)
 slash_here w x xs e h = rw e (record { word = []; rest = 0x2F ∷ xs; splits = refl; is = no_character; behind = slash xs h })
 
-dot_here : (w : Word) (x : ℕ) (xs : List ℕ) → x ≡ 0x2E → Ends (behind_dot w) xs → InWord w (x ∷ xs)
+dot_here : (w : WrittenWord) (x : ℕ) (xs : List ℕ) → x ≡ 0x2E → Ends (behind_dot w) xs → InWord w (x ∷ xs)
 dot_here w x xs e h = rw e (record { word = []; rest = 0x2E ∷ xs; splits = refl; is = no_character; behind = dot xs h })
 
-plain_here : (w : Word) (x : ℕ) (xs : List ℕ) → is_plain x ≡ true → InWord w xs → InWord w (x ∷ xs)
+plain_here : (w : WrittenWord) (x : ℕ) (xs : List ℕ) → is_plain x ≡ true → InWord w xs → InWord w (x ∷ xs)
 plain_here w x xs e r = record { word = x ∷ r.word; rest = r.rest; splits = ap (λ (l : List ℕ). x ∷ l) r.splits; is = plain e r.is; behind = r.behind }
 
-escape_here : (w : Word) (x : ℕ) (xs : List ℕ) → x ≡ 0x7E → InEscape w xs IsHex → InWord w (x ∷ xs)
+escape_here : (w : WrittenWord) (x : ℕ) (xs : List ℕ) → x ≡ 0x7E → InEscape w xs IsHex → InWord w (x ∷ xs)
 escape_here w x xs e r =
     let i = r.within in
     rw e (record {
@@ -243,10 +243,10 @@ escape_here w x xs e r =
 abbrev After : ℕ → List ℕ → ℕ → Type 0
 After v ds c = MoreHex v ds c × (v ≡ 0 → ds ≡ [])
 
-escape_ends : (w : Word) (v x : ℕ) (xs : List ℕ) → x ≡ 0x7E → is_escaped v ≡ true → InWord w xs → InEscape w (x ∷ xs) (After v)
+escape_ends : (w : WrittenWord) (v x : ℕ) (xs : List ℕ) → x ≡ 0x7E → is_escaped v ≡ true → InWord w xs → InEscape w (x ∷ xs) (After v)
 escape_ends w v x xs e s r = rw e (record { ds = []; c = v; rest = xs; splits = refl; is = (no_digit, λ z. refl); scalar = escaped_scalar v s; needed = escaped_not_plain v s; within = r })
 
-digit_goes : (w : Word) (v x : ℕ) (xs : List ℕ) → is_hex_digit x ≡ true → 0 < v → InEscape w xs (After (v * 16 + digit_value x)) → InEscape w (x ∷ xs) (After v)
+digit_goes : (w : WrittenWord) (v x : ℕ) (xs : List ℕ) → is_hex_digit x ≡ true → 0 < v → InEscape w xs (After (v * 16 + digit_value x)) → InEscape w (x ∷ xs) (After v)
 digit_goes w v x xs h some r = record {
   ds = x ∷ r.ds;
   c = r.c;
@@ -275,7 +275,7 @@ first_digit {x} h no_digit lone = by (digit_value x == 0) refl where
   by false e = names.positive h (grind (arith, nat_tests)) no_digit
 first_digit {x} {c} h (digit {d = d} {ds = ds} k m) lone = names.positive h (lone_some (digit_value x) d ds lone) (digit k m)
 
-tilde_goes : (w : Word) (x : ℕ) (xs : List ℕ) → is_hex_digit x ≡ true → InEscape w xs (After (digit_value x)) → InEscape w (x ∷ xs) IsHex
+tilde_goes : (w : WrittenWord) (x : ℕ) (xs : List ℕ) → is_hex_digit x ≡ true → InEscape w xs (After (digit_value x)) → InEscape w (x ∷ xs) IsHex
 tilde_goes w x xs h r = record {
   ds = x ∷ r.ds;
   c = r.c;
@@ -294,28 +294,28 @@ not_false false h = absurd (cc)
 mutual
   unfolding scanned
 
-  in_word : (w : Word) (xs : List ℕ) → Ends (In w) xs → InWord w xs
+  in_word : (w : WrittenWord) (xs : List ℕ) → Ends (In w) xs → InWord w xs
   in_word w [] h = absurd (cc)
   in_word w (x ∷ xs) h =
-      branch (λ (p : Place). Ends p xs → InWord w (x ∷ xs)) (x == 0x2F) (λ e g. slash_here w x xs (is_byte x 0x2F e) g)
-      (λ _. branch (λ (p : Place). Ends p xs → InWord w (x ∷ xs)) (x == 0x2E) (λ e g. dot_here w x xs (is_byte x 0x2E e) g)
-      (λ _. branch (λ (p : Place). Ends p xs → InWord w (x ∷ xs)) (is_plain x) (λ e g. plain_here w x xs e (in_word w xs g))
-      (λ _. branch (λ (p : Place). Ends p xs → InWord w (x ∷ xs)) (x == 0x7E) (λ e g. escape_here w x xs (is_byte x 0x7E e) (in_tilde w xs g))
+      branch (λ (p : NamePlace). Ends p xs → InWord w (x ∷ xs)) (x == 0x2F) (λ e g. slash_here w x xs (is_byte x 0x2F e) g)
+      (λ _. branch (λ (p : NamePlace). Ends p xs → InWord w (x ∷ xs)) (x == 0x2E) (λ e g. dot_here w x xs (is_byte x 0x2E e) g)
+      (λ _. branch (λ (p : NamePlace). Ends p xs → InWord w (x ∷ xs)) (is_plain x) (λ e g. plain_here w x xs e (in_word w xs g))
+      (λ _. branch (λ (p : NamePlace). Ends p xs → InWord w (x ∷ xs)) (x == 0x7E) (λ e g. escape_here w x xs (is_byte x 0x7E e) (in_tilde w xs g))
       (λ _ g. absurd (nowhere xs g))))) h
 
-  in_tilde : (w : Word) (xs : List ℕ) → Ends (Tilde w) xs → InEscape w xs IsHex
+  in_tilde : (w : WrittenWord) (xs : List ℕ) → Ends (Tilde w) xs → InEscape w xs IsHex
   in_tilde w [] h = absurd (cc)
   in_tilde w (x ∷ xs) h =
-      branch (λ (p : Place). Ends p xs → InEscape w (x ∷ xs) IsHex) (is_hex_digit x) (λ e g. tilde_goes w x xs e (in_hex w (digit_value x) xs g)) (λ _ g. absurd (nowhere xs g)) h
+      branch (λ (p : NamePlace). Ends p xs → InEscape w (x ∷ xs) IsHex) (is_hex_digit x) (λ e g. tilde_goes w x xs e (in_hex w (digit_value x) xs g)) (λ _ g. absurd (nowhere xs g)) h
 
-  in_hex : (w : Word) (v : ℕ) (xs : List ℕ) → Ends (Hex w v) xs → InEscape w xs (After v)
+  in_hex : (w : WrittenWord) (v : ℕ) (xs : List ℕ) → Ends (Hex w v) xs → InEscape w xs (After v)
   in_hex w v [] h = absurd (cc)
   in_hex w v (x ∷ xs) h =
-      branch (λ (p : Place). Ends p xs → InEscape w (x ∷ xs) (After v)) (x == 0x7E)
-      (λ e. branch (λ (p : Place). Ends p xs → InEscape w (x ∷ xs) (After v)) (is_escaped v)
+      branch (λ (p : NamePlace). Ends p xs → InEscape w (x ∷ xs) (After v)) (x == 0x7E)
+      (λ e. branch (λ (p : NamePlace). Ends p xs → InEscape w (x ∷ xs) (After v)) (is_escaped v)
       (λ s g. escape_ends w v x xs (is_byte x 0x7E e) s (in_word w xs g)) (λ _ g. absurd (nowhere xs g)))
-      (λ _. branch (λ (p : Place). Ends p xs → InEscape w (x ∷ xs) (After v)) (not (is_hex_digit x)) (λ _ g. absurd (nowhere xs g))
-      (λ d. branch (λ (p : Place). Ends p xs → InEscape w (x ∷ xs) (After v)) (v == 0 || nat_lt 0x10FFF v) (λ _ g. absurd (nowhere xs g))
+      (λ _. branch (λ (p : NamePlace). Ends p xs → InEscape w (x ∷ xs) (After v)) (not (is_hex_digit x)) (λ _ g. absurd (nowhere xs g))
+      (λ d. branch (λ (p : NamePlace). Ends p xs → InEscape w (x ∷ xs) (After v)) (v == 0 || nat_lt 0x10FFF v) (λ _ g. absurd (nowhere xs g))
       (λ some g. digit_goes w v x xs (not_false (is_hex_digit x) d) (few_is v some) (in_hex w (v * 16 + digit_value x) xs g)))) h
 
 -- a symbol, a slash and a number
@@ -353,8 +353,8 @@ dot_as_in : (xs : List ℕ) → Ends Dot xs → Ends (In Part) xs
 unfolding scanned
 dot_as_in [] h = absurd (cc)
 dot_as_in (x ∷ xs) h =
-    branch (λ (p : Place). Ends p xs) (x == 0x2F) (λ e. absurd (no_slash x xs (is_byte x 0x2F e) h))
-    (λ _. branch (λ (p : Place). Ends p xs) (x == 0x2E) (λ e. absurd (no_dot x xs (is_byte x 0x2E e) h)) (λ _. h))
+    branch (λ (p : NamePlace). Ends p xs) (x == 0x2F) (λ e. absurd (no_slash x xs (is_byte x 0x2F e) h))
+    (λ _. branch (λ (p : NamePlace). Ends p xs) (x == 0x2E) (λ e. absurd (no_dot x xs (is_byte x 0x2E e) h)) (λ _. h))
 
 -- a word behind which neither a slash nor a dot stood at once
 word_some : (xs : List ℕ) → Ends Dot xs → (r : InWord Part xs) → 0 < length r.word
@@ -392,7 +392,7 @@ in_library : (xs : List ℕ) → Ends Library xs → IsName (0x25 ∷ xs)
 unfolding scanned
 in_library [] h = absurd (cc)
 in_library (x ∷ xs) h =
-    branch (λ (p : Place). Ends p xs → IsName (0x25 ∷ x ∷ xs)) (x == 0x2F) (λ e g. programs x (is_byte x 0x2F e) (tail_of xs (in_word Symbol xs g)))
+    branch (λ (p : NamePlace). Ends p xs → IsName (0x25 ∷ x ∷ xs)) (x == 0x2F) (λ e g. programs x (is_byte x 0x2F e) (tail_of xs (in_word Symbol xs g)))
     (λ _ g. users (parts_of (length (x ∷ xs)) (x ∷ xs) (omega arith) g)) h
   where
     programs : (x : ℕ) → x ≡ 0x2F → Tail xs → IsName (0x25 ∷ x ∷ xs)
@@ -405,7 +405,7 @@ is_found : (text : List ℕ) → is_name text ≡ true → IsName text
 unfolding scanned
 is_found [] h = absurd (cc)
 is_found (x ∷ xs) h =
-    branch (λ (p : Place). Ends p xs → IsName (x ∷ xs)) (x == 0x25) (λ e g. here x (is_byte x 0x25 e) (in_library xs g)) (λ _ g. absurd (nowhere xs g)) h
+    branch (λ (p : NamePlace). Ends p xs → IsName (x ∷ xs)) (x == 0x25) (λ e g. here x (is_byte x 0x25 e) (in_library xs g)) (λ _ g. absurd (nowhere xs g)) h
   where
     here : (x : ℕ) → x ≡ 0x25 → IsName (0x25 ∷ xs) → IsName (x ∷ xs)
     here x e n = rw e n

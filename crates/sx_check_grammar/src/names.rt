@@ -6,7 +6,7 @@ ghost use Rattle.sx_check_grammar.specs.Names.{IsName, NamesAreScanned};
 
 /// What is written by characters and escapes.
 #[derive(Clone, Copy)]
-pub enum Word {
+pub enum WrittenWord {
     /// A part of a library's name.
     Part,
     Symbol,
@@ -14,7 +14,7 @@ pub enum Word {
 
 /// How far the bytes so far are the front of a name.
 #[derive(Clone, Copy)]
-pub enum Place {
+pub enum NamePlace {
     /// Before the `%`.
     Begin,
     /// Behind the `%`, where a library's name may begin.
@@ -22,11 +22,11 @@ pub enum Place {
     /// Behind a dot in a library's name, where a further part begins.
     Dot,
     /// In a word, with no escape begun.
-    In(Word),
+    In(WrittenWord),
     /// Behind a `~` in a word.
-    Tilde(Word),
+    Tilde(WrittenWord),
     /// Behind digits of an escape in a word, which have this value.
-    Hex(Word, u32),
+    Hex(WrittenWord, u32),
     /// Before the number.
     Number,
     /// Behind a number that is zero.
@@ -42,7 +42,7 @@ pub enum Place {
 pub fn is_name(text: &str) -> bool
     ensures { result ≡ is_name text.now }
 {
-    let mut place = Place::Begin;
+    let mut place = NamePlace::Begin;
     for byte in text.as_bytes() {
         place = next(place, *byte);
     }
@@ -54,26 +54,26 @@ pub fn names_are_scanned()
     ensures { NamesAreScanned }
 {}
 
-fn next(place: Place, byte: u8) -> Place
+fn next(place: NamePlace, byte: u8) -> NamePlace
     ensures { result ≡ next place byte }
 {
     match place {
-        Place::Begin => {
+        NamePlace::Begin => {
             if byte == b'%' {
-                Place::Library
+                NamePlace::Library
             } else {
-                Place::Nowhere
+                NamePlace::Nowhere
             }
         }
-        Place::Library => {
+        NamePlace::Library => {
             if byte == b'/' {
-                Place::In(Word::Symbol)
+                NamePlace::In(WrittenWord::Symbol)
             } else {
-                word_on(Word::Part, byte)
+                word_on(WrittenWord::Part, byte)
             }
         }
-        Place::Dot => word_on(Word::Part, byte),
-        Place::In(word) => {
+        NamePlace::Dot => word_on(WrittenWord::Part, byte),
+        NamePlace::In(word) => {
             if byte == b'/' {
                 behind_slash(word)
             } else if byte == b'.' {
@@ -82,103 +82,103 @@ fn next(place: Place, byte: u8) -> Place
                 word_on(word, byte)
             }
         }
-        Place::Tilde(word) => tilde_on(word, byte),
-        Place::Hex(word, value) => hex_on(word, value, byte),
-        Place::Number => number_on(byte),
-        Place::Digits => digits_on(byte),
-        Place::Zero | Place::Nowhere => Place::Nowhere,
+        NamePlace::Tilde(word) => tilde_on(word, byte),
+        NamePlace::Hex(word, value) => hex_on(word, value, byte),
+        NamePlace::Number => number_on(byte),
+        NamePlace::Digits => digits_on(byte),
+        NamePlace::Zero | NamePlace::Nowhere => NamePlace::Nowhere,
     }
 }
 
-fn is_end(place: Place) -> bool
+fn is_end(place: NamePlace) -> bool
     ensures { result ≡ is_end place }
 {
-    matches!(place, Place::Zero | Place::Digits)
+    matches!(place, NamePlace::Zero | NamePlace::Digits)
 }
 
-fn behind_slash(word: Word) -> Place
+fn behind_slash(word: WrittenWord) -> NamePlace
     ensures { result ≡ behind_slash word }
 {
     match word {
-        Word::Part => Place::In(Word::Symbol),
-        Word::Symbol => Place::Number,
+        WrittenWord::Part => NamePlace::In(WrittenWord::Symbol),
+        WrittenWord::Symbol => NamePlace::Number,
     }
 }
 
-fn behind_dot(word: Word) -> Place
+fn behind_dot(word: WrittenWord) -> NamePlace
     ensures { result ≡ behind_dot word }
 {
     match word {
-        Word::Part => Place::Dot,
-        Word::Symbol => Place::Nowhere,
+        WrittenWord::Part => NamePlace::Dot,
+        WrittenWord::Symbol => NamePlace::Nowhere,
     }
 }
 
-fn word_on(word: Word, byte: u8) -> Place
+fn word_on(word: WrittenWord, byte: u8) -> NamePlace
     ensures { result ≡ word_on word byte }
 {
     if is_plain(byte as u32) {
-        Place::In(word)
+        NamePlace::In(word)
     } else if byte == b'~' {
-        Place::Tilde(word)
+        NamePlace::Tilde(word)
     } else {
-        Place::Nowhere
+        NamePlace::Nowhere
     }
 }
 
-fn tilde_on(word: Word, byte: u8) -> Place
+fn tilde_on(word: WrittenWord, byte: u8) -> NamePlace
     ensures { result ≡ tilde_on word byte }
 {
     if is_hex_digit(byte) {
-        Place::Hex(word, digit_value(byte))
+        NamePlace::Hex(word, digit_value(byte))
     } else {
-        Place::Nowhere
+        NamePlace::Nowhere
     }
 }
 
 // A number without leading zeros that stays a scalar value goes on.
-fn hex_on(word: Word, value: u32, byte: u8) -> Place
+fn hex_on(word: WrittenWord, value: u32, byte: u8) -> NamePlace
     ensures { result ≡ hex_on word value byte }
 {
     if byte == b'~' {
         return escape_end(word, value);
     }
     if !is_hex_digit(byte) {
-        return Place::Nowhere;
+        return NamePlace::Nowhere;
     }
     if value == 0 || value > 0x10FFF {
-        return Place::Nowhere;
+        return NamePlace::Nowhere;
     }
-    Place::Hex(word, value * 16 + digit_value(byte))
+    NamePlace::Hex(word, value * 16 + digit_value(byte))
 }
 
-fn escape_end(word: Word, value: u32) -> Place
+fn escape_end(word: WrittenWord, value: u32) -> NamePlace
     ensures { result ≡ escape_end word value }
 {
     if is_escaped(value) {
-        Place::In(word)
+        NamePlace::In(word)
     } else {
-        Place::Nowhere
+        NamePlace::Nowhere
     }
 }
 
-fn number_on(byte: u8) -> Place
+fn number_on(byte: u8) -> NamePlace
     ensures { result ≡ number_on byte }
 {
     if byte == b'0' {
-        Place::Zero
+        NamePlace::Zero
     } else {
         digits_on(byte)
     }
 }
 
-fn digits_on(byte: u8) -> Place
+fn digits_on(byte: u8) -> NamePlace
     ensures { result ≡ digits_on byte }
 {
     if byte.is_ascii_digit() {
-        Place::Digits
+        NamePlace::Digits
     } else {
-        Place::Nowhere
+        NamePlace::Nowhere
     }
 }
 

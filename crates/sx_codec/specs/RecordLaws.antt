@@ -13,7 +13,7 @@ use Rattle.sx_core.specs.CoreForm.{place, at_place}
 use Rattle.sx_core.specs.declared.core_form.CoreForm.{CoreForm}
 use Rattle.sx_core.specs.declared.core_form.CoreForm.TheVariants as form
 use Rattle.sx_core.specs.declared.core_form.TheConstants.{CORE_FORMS}
-use Rattle.sx_core.specs.declared.record.LibRecord.{LibRecord}
+use Rattle.sx_core.specs.declared.record.CompiledLibrary.{CompiledLibrary}
 use Rattle.sx_core.specs.declared.record.Line.{Line}
 use Rattle.sx_core.specs.declared.record.Line.TheVariants as l
 
@@ -123,16 +123,16 @@ lib_record-lawful = mapped-lawful record_to record_from (λ p e. refl) (λ r. re
     (then-lawful (checked-lawful bindings_rise (listed-lawful (then-lawful label-lawful binding-lawful))) (then-lawful (checked-lawful rows_rise (listed-lawful frame_row-lawful))
     (then-lawful (listed-lawful line-lawful) (listed-lawful library-lawful))))))))
 
-pub decodes : (r : LibRecord) → has_spelling r ≡ true → decode (encode r) ≡ Some r
+pub decodes : (r : CompiledLibrary) → has_spelling r ≡ true → decode (encode r) ≡ Some r
 decodes r e = all_again lib_record-lawful r e
 
-pub only_encoded : (bytes : List ℕ) (r : LibRecord) → IsBytes bytes → decode bytes ≡ Some r → (bytes ≡ encode r) × (has_spelling r ≡ true)
+pub only_encoded : (bytes : List ℕ) (r : CompiledLibrary) → IsBytes bytes → decode bytes ≡ Some r → (bytes ≡ encode r) × (has_spelling r ≡ true)
 only_encoded bytes r fits e = all_takes lib_record-lawful bytes r fits e
 
 -- what is encoded of a record with a spelling is decoded to that record
 abbrev pub RoundTrip : Type 0
-RoundTrip = (r : LibRecord) → has_spelling r ≡ true → decode (encode r) ≡ Some r
+RoundTrip = (r : CompiledLibrary) → has_spelling r ≡ true → decode (encode r) ≡ Some r
 
 -- bytes that are decoded to a record are those that it is encoded as, and it has a spelling
 abbrev pub NothingElse : Type 0
-NothingElse = (bytes : List ℕ) (r : LibRecord) → IsBytes bytes → decode bytes ≡ Some r → (bytes ≡ encode r) × (has_spelling r ≡ true)
+NothingElse = (bytes : List ℕ) (r : CompiledLibrary) → IsBytes bytes → decode bytes ≡ Some r → (bytes ≡ encode r) × (has_spelling r ≡ true)

@@ -18,7 +18,7 @@ use Rattle.sx_core.specs.declared.binding.Binding.{Binding}
 use Rattle.sx_core.specs.declared.binding.Binding.TheVariants as b
 use Rattle.sx_core.specs.declared.binding.VarInfo.{VarInfo}
 use Rattle.sx_core.specs.declared.core_form.CoreForm.{CoreForm}
-use Rattle.sx_core.specs.declared.record.LibRecord.{LibRecord}
+use Rattle.sx_core.specs.declared.record.CompiledLibrary.{CompiledLibrary}
 use Rattle.sx_core.specs.declared.record.Line.{Line}
 use Rattle.sx_core.specs.declared.record.Line.TheVariants as l
 use Rattle.sx_tree.specs.declared.frame_row.FrameRow.{FrameRow}
@@ -100,23 +100,23 @@ rows_rise (r ∷ rs) = rows_rise_on r.frame rs
 abbrev pub Fields : Type 0
 Fields = List ℕ × (LibName × (List ℕ × (List (List ℕ × Label) × (List (Label × Binding) × (List FrameRow × (List Line × List LibName))))))
 
-abbrev pub record_to : LibRecord → Fields
+abbrev pub record_to : CompiledLibrary → Fields
 record_to r = (r.path, (r.name, (r.version, (r.exports, (r.bindings, (r.frames, (r.run, r.refs)))))))
 
-abbrev pub record_from : Fields → LibRecord
+abbrev pub record_from : Fields → CompiledLibrary
 record_from p = record { path = p.0; name = p.1.0; version = p.1.1.0; exports = p.1.1.1.0; bindings = p.1.1.1.1.0; frames = p.1.1.1.1.1.0; run = p.1.1.1.1.1.1.0; refs = p.1.1.1.1.1.1.1 }
 
-unfoldable pub lib_record : Codec LibRecord
+unfoldable pub lib_record : Codec CompiledLibrary
 lib_record = mapped record_to record_from (text then library then listed u64 then listed (text then label)
     then checked bindings_rise (listed (label then binding)) then checked rows_rise (listed frame_row) then listed line then listed library)
 
 -- the spelling of a record
-abbrev pub encode : LibRecord → List ℕ
+abbrev pub encode : CompiledLibrary → List ℕ
 encode r = lib_record.put r
 
 -- the record that all of the bytes spell
-abbrev pub decode : List ℕ → Option LibRecord
+abbrev pub decode : List ℕ → Option CompiledLibrary
 decode bytes = all_of lib_record bytes
 
-abbrev pub has_spelling : LibRecord → Bool
+abbrev pub has_spelling : CompiledLibrary → Bool
 has_spelling r = lib_record.fits r

@@ -34,7 +34,7 @@ use Rattle.sx_core.specs.declared.binding.Binding.TheVariants as b
 use Rattle.sx_core.specs.declared.binding.VarInfo.{VarInfo}
 use Rattle.sx_core.specs.declared.core_form.CoreForm.{CoreForm}
 use Rattle.sx_core.specs.declared.formals.Formals.{Formals}
-use Rattle.sx_core.specs.declared.record.LibRecord.{LibRecord}
+use Rattle.sx_core.specs.declared.record.CompiledLibrary.{CompiledLibrary}
 use Rattle.sx_core.specs.declared.record.Line.TheVariants as l
 use Rattle.sx_tree.specs.Context.{LeafContext}
 use Rattle.sx_tree.specs.Tree as t
@@ -171,7 +171,7 @@ pub record LayoutOfRecords : Type 0 where
   pub of_definition : (x : Label) (y : PlainCore) → line.put (l.Define x y) ≡ 0 ∷ (label.put x ++ (core 8193).put y)
   pub of_expression : (x : PlainCore) → line.put (l.Expr x) ≡ 1 ∷ (core 8193).put x
   pub of_row : (x : FrameRow) → frame_row.put x ≡ frame.put x.frame ++ (text.put x.symbol ++ (counted mark.put x.marks ++ label.put x.label))
-  pub of_record : (x : LibRecord) → lib_record.put x
+  pub of_record : (x : CompiledLibrary) → lib_record.put x
       ≡ text.put x.path ++ (library.put x.name ++ (counted u64.put x.version ++ (counted (λ y. text.put y.0 ++ label.put y.1) x.exports
       ++ (counted (λ y. label.put y.0 ++ binding.put y.1) x.bindings ++ (counted frame_row.put x.frames
       ++ (counted line.put x.run ++ counted library.put x.refs))))))

@@ -23,14 +23,14 @@ use Rattle.sx_shapes.specs.At.{fault_at}
 use Rattle.sx_shapes.specs.Lists.{is_nil, elements, tail_of}
 use Rattle.sx_shape_laws.specs.Grammar.{IsId, IsList}
 use Rattle.sx_shape_laws.specs.Grammar as g
-use Rattle.sx_shape_laws.specs.Records.{IsWord}
+use Rattle.sx_shape_laws.specs.Records.{IsKeywordIdentifier}
 use Rattle.sx_value.specs.Cells.{Each}
 use Rattle.sx_pattern.specs.Keywords.{is_form, is_ellipsis}
-use Rattle.sx_template.specs.Compile.{Context, bound_made, label_made, is_special, Element, dots, dots_behind, reach, with_ellipses, fitted, item_made, walked, template_of, items_of, list_joined, vector_joined, escape_of, unescaped, list_parts, list_made, vector_made, template, tail_made, with_template}
+use Rattle.sx_template.specs.Compile.{TemplateScope, bound_made, label_made, is_special, TemplateElement, dots, dots_behind, reach, with_ellipses, fitted, item_made, walked, template_of, items_of, list_joined, vector_joined, escape_of, unescaped, list_parts, list_made, vector_made, template, tail_made, with_template}
 use Rattle.sx_template.proofs.Levels.{elements_are}
 use Rattle.sx_pattern_laws.specs.Patterns.{IsChain}
 use Rattle.sx_pattern_laws.specs.Patterns as p
-use Rattle.sx_compiled_laws.specs.Templates.{IsBound, IsOther, IsFree, AreDotted, IsRepeated, constants, list_by, vector_by, IsTemplate, AreItems, IsBadTemplate, HoldsLists, Comes, TemplatesAreCompiled}
+use Rattle.sx_compiled_laws.specs.Templates.{IsBoundAt, IsOther, IsFree, AreDotted, IsRepeated, constants, list_by, vector_by, IsTemplate, AreSubtemplates, IsBadTemplate, HoldsLists, Comes, TemplatesAreCompiled}
 use Rattle.sx_compiled_laws.specs.Templates as r
 use Rattle.sx_pattern_laws.proofs.Words.{form-is, ellipsis-is, untold}
 use Rattle.sx_pattern_laws.proofs.Patterns.{chain-elements, chain-tail}
@@ -60,7 +60,7 @@ tail-holds (leaf s x k) h = h
 tail-holds (pair s a d) h = tail-holds d h.1
 tail-holds (vector s d) h = h
 
-each-rest : {c : Context} {ts rest : List Tree} {n : ℕ} (P : Tree → Type 0) → Skips c ts n rest → Each P ts → Each P rest
+each-rest : {c : TemplateScope} {ts rest : List Tree} {n : ℕ} (P : Tree → Type 0) → Skips c ts n rest → Each P ts → Each P rest
 each-rest P none_skipped h = h
 each-rest P (one_skipped s) h = each-rest P s h.1
 
@@ -70,7 +70,7 @@ IsDeep f = f.kind ≡ kind.TooDeep
 deep-is : (f : Fault) (t : Tree) (place : Span) → f ≡ fault_at kind.TooDeep t place [] → IsDeep f
 deep-is f t place e = ap (λ (x : Fault). x.kind) e
 
-module _ (c : Context) where
+module _ (c : TemplateScope) where
   abbrev Is : PlainTemplate → Made → Type 0
   Is q m = template_of m ≡ q
 
@@ -109,7 +109,7 @@ module _ (c : Context) where
       leaf-comes : ComesTo escaped under t itself
       leaf-comes = special-tells escaped t itself _ _ free (by-label (stands c.frames t) refl)
 
-    module _ (l : Label) (depth : ℕ) (b : IsBound c (leaf s x k) l c.level depth) (le : depth ≤ under) where
+    module _ (l : Label) (depth : ℕ) (b : IsBoundAt c (leaf s x k) l c.level depth) (le : depth ≤ under) where
       abbrev this : PlainTemplate
       this = template_of_core.variable l depth
 
@@ -124,7 +124,7 @@ module _ (c : Context) where
   identifier-comes : (escaped : Bool) (under : ℕ) (t : Tree) → IsId t → IsFree c.frames escaped t → IsOther c t → ComesTo escaped under t (template_of_core.constant (unspanned t))
   identifier-comes escaped under _ (g.id {span = s} {x = x} {c = k}) free other = leaf-comes escaped under s x k free other
 
-  variable-comes : (escaped : Bool) (under : ℕ) (t : Tree) (l : Label) (depth : ℕ) → IsId t → IsFree c.frames escaped t → IsBound c t l c.level depth → depth ≤ under → ComesTo escaped under t (template_of_core.variable l depth)
+  variable-comes : (escaped : Bool) (under : ℕ) (t : Tree) (l : Label) (depth : ℕ) → IsId t → IsFree c.frames escaped t → IsBoundAt c t l c.level depth → depth ≤ under → ComesTo escaped under t (template_of_core.variable l depth)
   variable-comes escaped under _ l depth (g.id {span = s} {x = x} {c = k}) free b le = leaf-varies escaped under s x k free l depth b le
 
   -- Ellipses.
@@ -179,14 +179,14 @@ module _ (c : Context) where
   free-first (r.a_list (p.chain_next h) are i) = refl
   free-first (r.a_vector l are) = refl
 
-  no-escape : (escaped : Bool) (under : ℕ) (x : Tree) (xs : List Tree) (is : PlainItems) (ends : Bool) → AreItems c escaped under (x ∷ xs) is → escape_of c.frames escaped (map (with_template c) (x ∷ xs)) ends ≡ None
+  no-escape : (escaped : Bool) (under : ℕ) (x : Tree) (xs : List Tree) (is : PlainItems) (ends : Bool) → AreSubtemplates c escaped under (x ∷ xs) is → escape_of c.frames escaped (map (with_template c) (x ∷ xs)) ends ≡ None
   no-escape true under x xs is ends h = refl
   no-escape false under x [] is ends h = refl
   no-escape false under x (y ∷ (z ∷ zs)) is ends h = refl
   no-escape false under x (y ∷ []) is false h = refl
   no-escape false under x (y ∷ []) _ true (r.an_item d i rep more) = ap (λ b. if b then Some (with_template c y) else None) (free-first i)
 
-  module _ (escaped : Bool) (under : ℕ) (t u x : Tree) (xs : List Tree) (is : PlainItems) (q : PlainTemplate) (ch : IsChain (x ∷ xs) u t) (are : AreItems c escaped under (x ∷ xs) is) (all : Each (Told c) (x ∷ xs)) (last : Told c u) where
+  module _ (escaped : Bool) (under : ℕ) (t u x : Tree) (xs : List Tree) (is : PlainItems) (q : PlainTemplate) (ch : IsChain (x ∷ xs) u t) (are : AreSubtemplates c escaped under (x ∷ xs) is) (all : Each (Told c) (x ∷ xs)) (last : Told c u) where
     abbrev made-list : PlainTemplate
     made-list = list_by is (constants is) q
 
@@ -229,7 +229,7 @@ module _ (c : Context) where
   second-holds : {e u t : Tree} → IsList (e ∷ (u ∷ [])) t → HoldsLists t → HoldsLists u
   second-holds (g.next (g.next l)) h = h.1.0
 
-  escape-comes : (under : ℕ) (t e u : Tree) (q : PlainTemplate) → IsWord c.frames form.Ellipsis e → IsList (e ∷ (u ∷ [])) t → ComesTo true under u q → ComesTo false under t q
+  escape-comes : (under : ℕ) (t e u : Tree) (q : PlainTemplate) → IsKeywordIdentifier c.frames form.Ellipsis e → IsList (e ∷ (u ∷ [])) t → ComesTo true under u q → ComesTo false under t q
   escape-comes under _ e u q w (g.next {span = s} (g.next {span = o} (g.end {span = z}))) h =
       subst (λ b. Tells (Is q) IsDeep (list_made c false (pair s e (pair o u (atom z Nil))) (map (with_template c) (e ∷ (u ∷ []))) (tail_made c (pair o u (atom z Nil))) under (if b then Some (with_template c u) else None)))
       (sym (ellipsis-is c.frames e w))
@@ -254,10 +254,10 @@ module _ (c : Context) where
     comes (r.a_vector {escaped = escaped} {under = under} {span = s} {t = d} {xs = xs} {is = is} l are) holds =
         let all : Each (Told c) xs = subst (Each (Told c)) (list-elements l) (all-told c d holds.1) in
         let each : Each HoldsLists xs = subst (Each HoldsLists) (list-elements l) (each-holds d holds.1) in
-        subst (λ (ys : List Element). Tells (Is (vector_by is (constants is))) IsDeep (vector_made c escaped (vector s d) ys under)) (sym (elements_are c d ∙ ap (map (with_template c)) (list-elements l)))
+        subst (λ (ys : List TemplateElement). Tells (Is (vector_by is (constants is))) IsDeep (vector_made c escaped (vector s d) ys under)) (sym (elements_are c d ∙ ap (map (with_template c)) (list-elements l)))
         (vector-comes escaped under s d xs is l all (items-come are all each []))
 
-    items-come : {escaped : Bool} {under : ℕ} {ts : List Tree} {is : PlainItems} → AreItems c escaped under ts is → Each (Told c) ts → Each HoldsLists ts → (items : List MadeItem) → Tells (AreAll is items) IsDeep (walked c escaped under 0 items (map (with_template c) ts))
+    items-come : {escaped : Bool} {under : ℕ} {ts : List Tree} {is : PlainItems} → AreSubtemplates c escaped under ts is → Each (Told c) ts → Each HoldsLists ts → (items : List MadeItem) → Tells (AreAll is items) IsDeep (walked c escaped under 0 items (map (with_template c) ts))
     items-come r.no_item all holds items = record { others = []; is = sym (append-nil items); made = refl }
     items-come (r.an_item {escaped = escaped} {under = under} {n = n} {x = x} {xs = xs} {rest = rest} {p = q} {is = is} dots-are i rep more) all holds items =
         let es = dots_behind c.frames escaped (map (with_template c) xs) in

@@ -24,15 +24,15 @@ use Rattle.sx_shapes.specs.At.{fault_at}
 use Rattle.sx_shapes.specs.Lists.{is_nil, elements, tail_of}
 use Rattle.sx_shape_laws.specs.Grammar.{IsId, IsList}
 use Rattle.sx_shape_laws.specs.Grammar as g
-use Rattle.sx_shape_laws.specs.Records.{IsWord}
+use Rattle.sx_shape_laws.specs.Records.{IsKeywordIdentifier}
 use Rattle.sx_shape_laws.proofs.Sound.{proper, some-is}
 use Rattle.sx_value.specs.Cells.{Each}
 use Rattle.sx_pattern.specs.Keywords.{is_ellipsis}
-use Rattle.sx_template.specs.Compile.{Context, bad, variable_made, bound_made, label_made, is_special, Element, dots, dots_behind, reach, with_ellipses, fitted, item_made, walked, template_of, items_of, reaches, is_fixed, all_fixed, is_changed, any_changed, trees, list_joined, vector_joined, escape_of, unescaped, list_parts, list_made, vector_made, template, tail_made, with_template}
+use Rattle.sx_template.specs.Compile.{TemplateScope, bad, variable_made, bound_made, label_made, is_special, TemplateElement, dots, dots_behind, reach, with_ellipses, fitted, item_made, walked, template_of, items_of, reaches, is_fixed, all_fixed, is_changed, any_changed, trees, list_joined, vector_joined, escape_of, unescaped, list_parts, list_made, vector_made, template, tail_made, with_template}
 use Rattle.sx_template.proofs.Levels.{elements_are, tail_is}
-use Rattle.sx_pattern_laws.specs.Patterns.{IsChain, IsPart, IsIn}
+use Rattle.sx_pattern_laws.specs.Patterns.{IsChain, IsPartOfForm, IsIn}
 use Rattle.sx_pattern_laws.specs.Patterns as p
-use Rattle.sx_compiled_laws.specs.Templates.{IsBound, IsOther, IsFree, AreFree, AreDotted, IsRepeated, before, constants, list_by, vector_by, IsTemplate, AreItems, IsBadPart, IsBadTemplate, HoldsLists, IsMade, OthersAreBadTemplates}
+use Rattle.sx_compiled_laws.specs.Templates.{IsBoundAt, IsOther, IsFree, AreFree, AreDotted, IsRepeated, before, constants, list_by, vector_by, IsTemplate, AreSubtemplates, IsBadPart, IsBadTemplate, HoldsLists, IsMade, OthersAreBadTemplates}
 use Rattle.sx_compiled_laws.specs.Templates as r
 use Rattle.sx_pattern_laws.proofs.Words.{form-is, ellipsis-is}
 use Rattle.sx_pattern_laws.proofs.Patterns.{chain-of, chain-elements, chain-tail, element-part, tail-part}
@@ -55,7 +55,7 @@ list-elements (g.next {x = x} h) = ap (λ ys. x ∷ ys) (list-elements h)
 chain-list : {xs : List Tree} {e t : Tree} → IsChain xs e t → is_nil e ≡ true → IsList xs t
 chain-list {xs} {e} {t} h n = proper t xs (ap (λ b. if b then Some (elements t) else None) (ap is_nil (chain-tail h) ∙ n) ∙ ap Some (chain-elements h))
 
-module _ (c : Context) where
+module _ (c : TemplateScope) where
   -- What is told of a form.
 
   pub record Gave (escaped : Bool) (under : ℕ) (t : Tree) (m : Made) : Type 0 where
@@ -74,7 +74,7 @@ module _ (c : Context) where
   is-free true t h = tt
   is-free false t h = λ w. let k = sym h ∙ ellipsis-is c.frames t w in absurd (cc)
 
-  is-dot : (escaped : Bool) (t : Tree) → is_special escaped (stands c.frames t) ≡ true → IsWord c.frames form.Ellipsis t
+  is-dot : (escaped : Bool) (t : Tree) → is_special escaped (stands c.frames t) ≡ true → IsKeywordIdentifier c.frames form.Ellipsis t
   is-dot true t h = absurd (cc)
   is-dot false t h = form-is c.frames form.Ellipsis t h
 
@@ -120,12 +120,12 @@ module _ (c : Context) where
     abbrev Leaves : Result Made Fault → Type 0
     Leaves x = Tells (Gave escaped under t) (IsBadTemplate c t) x
 
-    module _ (x : List ℕ) (distant : (l : Label) (level depth : ℕ) → IsBound c t l level depth → (level ≡ c.level → ⊥) → IsBadPart c t (fault_at kind.OutOfContext t c.place (x ∷ []))) where
-      variable-told : (l : Label) (level depth : ℕ) → IsBound c t l level depth → Leaves (variable_made c under x t l level depth)
+    module _ (x : List ℕ) (distant : (l : Label) (level depth : ℕ) → IsBoundAt c t l level depth → (level ≡ c.level → ⊥) → IsBadPart c t (fault_at kind.OutOfContext t c.place (x ∷ []))) where
+      variable-told : (l : Label) (level depth : ℕ) → IsBoundAt c t l level depth → Leaves (variable_made c under x t l level depth)
       variable-told l level depth b =
           tells-if (Gave escaped under t) (IsBadTemplate c t) (nat_eq level c.level) _ _
           (λ at. let same = (unsigned_Decides level c.level).0 at in
-          let here = subst (λ n. IsBound c t l n depth) same b in
+          let here = subst (λ n. IsBoundAt c t l n depth) same b in
           tells-if (Gave escaped under t) (IsBadTemplate c t) (nat_lt under depth) _ _
           (λ lt. bad-at t (bad c.place t) (r.a_shallow_variable here (some-less under depth lt)))
           (λ le. record {
@@ -169,12 +169,12 @@ module _ (c : Context) where
     pub rest : List Tree
     pub are : AreDotted c.frames escaped ts (length es) rest
     pub skipped : Skips ts (length es) rest
-    pub ellipses : Each (λ e. IsIn e ts × IsWord c.frames form.Ellipsis e) es
+    pub ellipses : Each (λ e. IsIn e ts × IsKeywordIdentifier c.frames form.Ellipsis e) es
 
   abbrev behind : Bool → List Tree → List Tree
   behind escaped ts = dots_behind c.frames escaped (map (with_template c) ts)
 
-  each-behind : (x : Tree) (ts es : List Tree) → Each (λ e. IsIn e ts × IsWord c.frames form.Ellipsis e) es → Each (λ e. IsIn e (x ∷ ts) × IsWord c.frames form.Ellipsis e) es
+  each-behind : (x : Tree) (ts es : List Tree) → Each (λ e. IsIn e ts × IsKeywordIdentifier c.frames form.Ellipsis e) es → Each (λ e. IsIn e (x ∷ ts) × IsKeywordIdentifier c.frames form.Ellipsis e) es
   each-behind x ts [] h = tt
   each-behind x ts (e ∷ es) h = ((p.is_behind h.0.0, h.0.1), each-behind x ts es h.1)
 
@@ -222,7 +222,7 @@ module _ (c : Context) where
     pub reached : n ≤ reach i.made
 
   pub record GaveItems (escaped : Bool) (under : ℕ) (ts : List Tree) (is : List MadeItem) : Type 0 where
-    pub are : AreItems c escaped under ts (items_of is)
+    pub are : AreSubtemplates c escaped under ts (items_of is)
     pub parts : Parts ts is
 
   no-items : (escaped : Bool) (under : ℕ) → GaveItems escaped under [] []
@@ -301,15 +301,15 @@ module _ (c : Context) where
     pub gave : GaveItems escaped under ts others
 
   module _ (escaped : Bool) (under : ℕ) where
-    fitted-told : (x : Tree) (ts es : List Tree) → Each (λ e. IsIn e ts × IsWord c.frames form.Ellipsis e) es → (m : Made) → Gave escaped (under + length es) x m → Tells (GaveItem escaped under x (length es)) (IsBadIn (x ∷ ts)) (fitted c.place es m)
+    fitted-told : (x : Tree) (ts es : List Tree) → Each (λ e. IsIn e ts × IsKeywordIdentifier c.frames form.Ellipsis e) es → (m : Made) → Gave escaped (under + length es) x m → Tells (GaveItem escaped under x (length es)) (IsBadIn (x ∷ ts)) (fitted c.place es m)
     fitted-told x ts es words m h = by (slice_get es (reach m)) refl
       where
         by : (o : Option Tree) → slice_get es (reach m) ≡ o → Tells (GaveItem escaped under x (length es)) (IsBadIn (x ∷ ts)) (with_ellipses c.place es m o)
         by None e = record { ellipses = refl; gave = h; reached = none-left es (reach m) e }
-        by (Some y) e = let w = one-left (λ u. IsIn u ts × IsWord c.frames form.Ellipsis u) es (reach m) y e words in
+        by (Some y) e = let w = one-left (λ u. IsIn u ts × IsKeywordIdentifier c.frames form.Ellipsis u) es (reach m) y e words in
             record { form = y; among = p.is_behind w.0; bad = bad-at y (bad c.place y) (r.a_bad_ellipsis w.1) }
 
-    item-told : (x : Tree) (ts es : List Tree) → Told x → Each (λ e. IsIn e ts × IsWord c.frames form.Ellipsis e) es → Tells (GaveItem escaped under x (length es)) (IsBadIn (x ∷ ts)) (item_made c escaped under (with_template c x) es)
+    item-told : (x : Tree) (ts es : List Tree) → Told x → Each (λ e. IsIn e ts × IsKeywordIdentifier c.frames form.Ellipsis e) es → Tells (GaveItem escaped under x (length es)) (IsBadIn (x ∷ ts)) (item_made c escaped under (with_template c x) es)
     item-told x ts es told words = then-tells (Gave escaped (under + length es) x) (IsBadTemplate c x) (GaveItem escaped under x (length es)) (IsBadIn (x ∷ ts)) (template c x escaped (under + length es)) (fitted c.place es)
         (told escaped (under + length es)) (λ m h. fitted-told x ts es words m h) (λ f h. bad-first x ts f h)
 
@@ -351,7 +351,7 @@ module _ (c : Context) where
   bad-element t ts f e h = record { at = h.bad.at; part = element-part h.bad.at h.form t (subst (IsIn h.form) (sym e) h.among) h.bad.part; is = h.bad.is }
 
   bad-tail : (t u : Tree) (f : Fault) → tail_of t ≡ u → IsBadTemplate c u f → IsBadTemplate c t f
-  bad-tail t u f e h = record { at = h.at; part = tail-part h.at t (subst (IsPart h.at) (sym e) h.part); is = h.is }
+  bad-tail t u f e h = record { at = h.at; part = tail-part h.at t (subst (IsPartOfForm h.at) (sym e) h.part); is = h.is }
 
   -- Lists.
 
@@ -361,7 +361,7 @@ module _ (c : Context) where
 
   pub list-template-is : (s : Option Span) (a d : Tree) (escaped : Bool) (under : ℕ) → template c (pair s a d) escaped under ≡ list-template (pair s a d) (a ∷ elements d) (tail_of d) escaped under
   list-template-is s a d escaped under =
-      ap (λ (xs : List Element). list_made c escaped (pair s a d) ((a, template c a) ∷ xs) (tail_made c d) under (escape_of c.frames escaped ((a, template c a) ∷ xs) (is_nil (tail_of d)))) (elements_are c d)
+      ap (λ (xs : List TemplateElement). list_made c escaped (pair s a d) ((a, template c a) ∷ xs) (tail_made c d) under (escape_of c.frames escaped ((a, template c a) ∷ xs) (is_nil (tail_of d)))) (elements_are c d)
       ∙ ap (λ (go : Bool → ℕ → Result Made Fault). list_made c escaped (pair s a d) (map (with_template c) (a ∷ elements d)) go under (escape_of c.frames escaped (map (with_template c) (a ∷ elements d)) (is_nil (tail_of d)))) (tail_is c d)
 
   module _ (t u x : Tree) (xs : List Tree) (ch : IsChain (x ∷ xs) u t) (all : Each Told (x ∷ xs)) (last : Told u) where
@@ -385,7 +385,7 @@ module _ (c : Context) where
         (λ m k. join-told escaped under is (all-items escaped under (x ∷ xs) is w) m k) (λ f h. bad-tail t u f (chain-tail ch) h))
         (λ f h. bad-element t (x ∷ xs) f (chain-elements ch) h)
 
-  escape-told : (t e y : Tree) (under : ℕ) → IsWord c.frames form.Ellipsis e → IsList (e ∷ y ∷ []) t → Told y → Tells (Gave false under t) (IsBadTemplate c t) (template c y true under >>= λ m. Ok (unescaped m))
+  escape-told : (t e y : Tree) (under : ℕ) → IsKeywordIdentifier c.frames form.Ellipsis e → IsList (e ∷ y ∷ []) t → Told y → Tells (Gave false under t) (IsBadTemplate c t) (template c y true under >>= λ m. Ok (unescaped m))
   escape-told t e y under w l told = then-tells (Gave true under y) (IsBadTemplate c y) (Gave false under t) (IsBadTemplate c t) (template c y true under) (λ m. Ok (unescaped m)) (told true under)
       (λ m k. record {
         is = subst (IsTemplate c false under t) (sym (unescaped-template m)) (r.an_escape w l k.is);
@@ -418,7 +418,7 @@ module _ (c : Context) where
   vector-told : (s : Option Span) (d : Tree) → IsList (elements d) d → Each Told (elements d) → Told (vector s d)
   vector-told s d l all escaped under =
       let t = vector s d in
-      subst (λ (xs : List Element). Tells (Gave escaped under t) (IsBadTemplate c t) (vector_made c escaped t xs under)) (sym (elements_are c d))
+      subst (λ (xs : List TemplateElement). Tells (Gave escaped under t) (IsBadTemplate c t) (vector_made c escaped t xs under)) (sym (elements_are c d))
       (then-tells (Walks escaped under (elements d) []) (IsBadIn (elements d)) (Gave escaped under t) (IsBadTemplate c t) (walked c escaped under 0 [] (map (with_template c) (elements d))) (vector_joined c.place t)
       (walk-told escaped under (elements d) all none_skipped [])
       (λ is w. let h = all-items escaped under (elements d) is w in

@@ -18,26 +18,26 @@ use Rattle.sx_core_laws.specs.Templates.{HasDepth}
 use Rattle.sx_shapes.specs.At.{fault_at}
 use Rattle.sx_shapes.specs.Lists.{elements}
 use Rattle.sx_shape_laws.specs.Grammar.{IsId, IsList}
-use Rattle.sx_shape_laws.specs.Records.{IsWord}
-use Rattle.sx_template.specs.Compile.{Context, compiled}
-use Rattle.sx_pattern_laws.specs.Patterns.{IsChain, IsPart}
+use Rattle.sx_shape_laws.specs.Records.{IsKeywordIdentifier}
+use Rattle.sx_template.specs.Compile.{TemplateScope, compiled}
+use Rattle.sx_pattern_laws.specs.Patterns.{IsChain, IsPartOfForm}
 
 -- Identifiers.
 
 -- it stands for a pattern variable of this level and depth
-pub record IsBound (c : Context) (t : Tree) (l : Label) (level depth : ℕ) : Type 0 where
+pub record IsBoundAt (c : TemplateScope) (t : Tree) (l : Label) (level depth : ℕ) : Type 0 where
   pub label : stands c.frames t ≡ Some l
   pub bound : bound_to c.bindings l ≡ Some (binding.PatternVariable level depth)
 
 -- an identifier that stands for no pattern variable
-pub record IsOther (c : Context) (t : Tree) : Type 0 where
+pub record IsOther (c : TemplateScope) (t : Tree) : Type 0 where
   pub is_id : IsId t
-  pub other : (l : Label) (level depth : ℕ) → IsBound c t l level depth → ⊥
+  pub other : (l : Label) (level depth : ℕ) → IsBoundAt c t l level depth → ⊥
 
 -- Where an ellipsis escapes a template, the ellipses in it are identifiers as any others.
 abbrev pub IsFree : Scope → Bool → Tree → Type 0
 IsFree fs true t = Unit {0}
-IsFree fs false t = IsWord fs form.Ellipsis t → ⊥
+IsFree fs false t = IsKeywordIdentifier fs form.Ellipsis t → ⊥
 
 -- Ellipses.
 
@@ -49,7 +49,7 @@ AreFree fs escaped (t ∷ ts) = IsFree fs escaped t
 -- forms are so many ellipses, and then these
 pub data AreDotted (fs : Scope) (escaped : Bool) : List Tree → ℕ → List Tree → Type 0 where
   undotted : {ts : List Tree} → AreFree fs escaped ts → AreDotted fs escaped ts 0 ts
-  dotted : {e : Tree} {ts rest : List Tree} {n : ℕ} → escaped ≡ false → IsWord fs form.Ellipsis e → AreDotted fs escaped ts n rest → AreDotted fs escaped (e ∷ ts) (suc n) rest
+  dotted : {e : Tree} {ts rest : List Tree} {n : ℕ} → escaped ≡ false → IsKeywordIdentifier fs form.Ellipsis e → AreDotted fs escaped ts n rest → AreDotted fs escaped (e ∷ ts) (suc n) rest
 
 -- for each of so many ellipses behind a template there is a variable in it that the ellipsis repeats
 abbrev pub IsRepeated : ℕ → PlainTemplate → Type 0
@@ -84,41 +84,41 @@ vector_by is (Some us) = template.constant (vector None (chain us nil))
 
 -- Forms, escaped or not, under so many ellipses.
 mutual
-  pub data IsTemplate (c : Context) : Bool → ℕ → Tree → PlainTemplate → Type 0 where
+  pub data IsTemplate (c : TemplateScope) : Bool → ℕ → Tree → PlainTemplate → Type 0 where
     a_datum : {escaped : Bool} {under : ℕ} {span : Option Span} {a : Atom} → IsTemplate c escaped under (atom span a) (template.constant (atom None a))
     an_identifier : {escaped : Bool} {under : ℕ} {t : Tree} → IsFree c.frames escaped t → IsOther c t → IsTemplate c escaped under t (template.constant (unspanned t))
     -- a pattern variable of the template's level, under at least as many ellipses as its depth
     a_variable : {escaped : Bool} {under : ℕ} {t : Tree} {l : Label} {depth : ℕ}
-        → IsId t → IsFree c.frames escaped t → IsBound c t l c.level depth → depth ≤ under → IsTemplate c escaped under t (template.variable l depth)
+        → IsId t → IsFree c.frames escaped t → IsBoundAt c t l c.level depth → depth ≤ under → IsTemplate c escaped under t (template.variable l depth)
     -- `(... template)` is the template, in which ellipses are plain
-    an_escape : {under : ℕ} {e t u : Tree} {p : PlainTemplate} → IsWord c.frames form.Ellipsis e → IsList (e ∷ u ∷ []) t → IsTemplate c true under u p → IsTemplate c false under t p
+    an_escape : {under : ℕ} {e t u : Tree} {p : PlainTemplate} → IsKeywordIdentifier c.frames form.Ellipsis e → IsList (e ∷ u ∷ []) t → IsTemplate c true under u p → IsTemplate c false under t p
     -- `(subtemplate ...)` and `(subtemplate ... . template)`
     a_list : {escaped : Bool} {under : ℕ} {t r x : Tree} {xs : List Tree} {is : PlainItems} {p : PlainTemplate}
-        → IsChain (x ∷ xs) r t → AreItems c escaped under (x ∷ xs) is → IsTemplate c escaped under r p → IsTemplate c escaped under t (list_by is (constants is) p)
+        → IsChain (x ∷ xs) r t → AreSubtemplates c escaped under (x ∷ xs) is → IsTemplate c escaped under r p → IsTemplate c escaped under t (list_by is (constants is) p)
     -- `#(subtemplate ...)`
     a_vector : {escaped : Bool} {under : ℕ} {span : Option Span} {t : Tree} {xs : List Tree} {is : PlainItems}
-        → IsList xs t → AreItems c escaped under xs is → IsTemplate c escaped under (vector span t) (vector_by is (constants is))
+        → IsList xs t → AreSubtemplates c escaped under xs is → IsTemplate c escaped under (vector span t) (vector_by is (constants is))
 
   -- subtemplates: each a template with the ellipses behind it
-  pub data AreItems (c : Context) : Bool → ℕ → List Tree → PlainItems → Type 0 where
-    no_item : {escaped : Bool} {under : ℕ} → AreItems c escaped under [] template.none
+  pub data AreSubtemplates (c : TemplateScope) : Bool → ℕ → List Tree → PlainItems → Type 0 where
+    no_item : {escaped : Bool} {under : ℕ} → AreSubtemplates c escaped under [] template.none
     an_item : {escaped : Bool} {under n : ℕ} {x : Tree} {xs rest : List Tree} {p : PlainTemplate} {is : PlainItems}
-        → AreDotted c.frames escaped xs n rest → IsTemplate c escaped (under + n) x p → IsRepeated n p → AreItems c escaped under rest is → AreItems c escaped under (x ∷ xs) (template.more p n is)
+        → AreDotted c.frames escaped xs n rest → IsTemplate c escaped (under + n) x p → IsRepeated n p → AreSubtemplates c escaped under rest is → AreSubtemplates c escaped under (x ∷ xs) (template.more p n is)
 
 -- Faults.
 
 -- what is at fault at a part of a template: an ellipsis that repeats nothing, a variable under too few ellipses or of another level; or
 -- what is left of the part, where escapes are taken out, passes a limit of trees
-pub data IsBadPart (c : Context) : Tree → Fault → Type 0 where
-  a_bad_ellipsis : {t : Tree} → IsWord c.frames form.Ellipsis t → IsBadPart c t (fault_at kind.BadTemplate t c.place [])
-  a_shallow_variable : {t : Tree} {l : Label} {depth : ℕ} → IsBound c t l c.level depth → 1 ≤ depth → IsBadPart c t (fault_at kind.BadTemplate t c.place [])
+pub data IsBadPart (c : TemplateScope) : Tree → Fault → Type 0 where
+  a_bad_ellipsis : {t : Tree} → IsKeywordIdentifier c.frames form.Ellipsis t → IsBadPart c t (fault_at kind.BadTemplate t c.place [])
+  a_shallow_variable : {t : Tree} {l : Label} {depth : ℕ} → IsBoundAt c t l c.level depth → 1 ≤ depth → IsBadPart c t (fault_at kind.BadTemplate t c.place [])
   a_distant_variable : {span : Option Span} {x : List ℕ} {k : LeafContext} {l : Label} {level depth : ℕ}
-      → IsBound c (leaf span x k) l level depth → (level ≡ c.level → ⊥) → IsBadPart c (leaf span x k) (fault_at kind.OutOfContext (leaf span x k) c.place (x ∷ []))
+      → IsBoundAt c (leaf span x k) l level depth → (level ≡ c.level → ⊥) → IsBadPart c (leaf span x k) (fault_at kind.OutOfContext (leaf span x k) c.place (x ∷ []))
   too_large : {t : Tree} → IsBadPart c t (fault_at kind.TooDeep t c.place [])
 
-pub record IsBadTemplate (c : Context) (t : Tree) (f : Fault) : Type 0 where
+pub record IsBadTemplate (c : TemplateScope) (t : Tree) (f : Fault) : Type 0 where
   pub at : Tree
-  pub part : IsPart at t
+  pub part : IsPartOfForm at t
   pub is : IsBadPart c at f
 
 -- each vector in a form holds a list that ends in the empty list
@@ -129,12 +129,12 @@ HoldsLists (pair s a d) = HoldsLists a × HoldsLists d
 HoldsLists (vector s d) = IsList (elements d) d × HoldsLists d
 
 -- what is compiled is a template, and else a part of it is at fault
-abbrev pub IsMade : Context → Tree → Result PlainTemplate Fault → Type 0
+abbrev pub IsMade : TemplateScope → Tree → Result PlainTemplate Fault → Type 0
 IsMade c t (Ok p) = IsTemplate c false 0 t p
 IsMade c t (Err f) = IsBadTemplate c t f
 
 abbrev pub OthersAreBadTemplates : Type 0
-OthersAreBadTemplates = (c : Context) (t : Tree) → HoldsLists t → IsMade c t (compiled c t)
+OthersAreBadTemplates = (c : TemplateScope) (t : Tree) → HoldsLists t → IsMade c t (compiled c t)
 
 -- what is a template is compiled to it, unless what is left of a part passes a limit of trees
 abbrev pub Comes : PlainTemplate → Result PlainTemplate Fault → Type 0
@@ -142,4 +142,4 @@ Comes p (Ok q) = q ≡ p
 Comes p (Err f) = f.kind ≡ kind.TooDeep
 
 abbrev pub TemplatesAreCompiled : Type 0
-TemplatesAreCompiled = (c : Context) (t : Tree) (p : PlainTemplate) → HoldsLists t → IsTemplate c false 0 t p → Comes p (compiled c t)
+TemplatesAreCompiled = (c : TemplateScope) (t : Tree) (p : PlainTemplate) → HoldsLists t → IsTemplate c false 0 t p → Comes p (compiled c t)

@@ -4,12 +4,12 @@ use Rattle.std.proofs.Common.{arith}
 use denote.Param.Weighed.{most}
 use Rattle.sx_core.specs.Template.{template_size, items_size}
 use Rattle.sx_core.specs.TemplateView.{seen, items}
-use Rattle.sx_core.specs.declared.template.Item.{Item}
+use Rattle.sx_core.specs.declared.template.TemplateItem.{TemplateItem}
 use Rattle.sx_core.specs.declared.template.TemplateNode.{TemplateNode}
 use Rattle.sx_core.specs.declared.template.TemplateNode.TheVariants as node
 use Rattle.sx_core.specs.declared.template.Template.TheDeep.{deep-TemplateNode, deep-Item}
 
-pub items_below : (is : List Item) → most deep-Item is ≤ items_size (items is)
+pub items_below : (is : List TemplateItem) → most deep-Item is ≤ items_size (items is)
 items_below [] = omega arith
 items_below (i ∷ is) = omega (arith, items_below is)
 

@@ -1,11 +1,11 @@
 -- What a template in memory stands for.
 use Rattle.std.specs.Prelude.{List, [], ◌∷◌}
 use Rattle.sx_core.specs.Template.{PlainTemplate, variable, constant, list, vector, PlainItems, none, more}
-use Rattle.sx_core.specs.declared.template.Item.{Item}
+use Rattle.sx_core.specs.declared.template.TemplateItem.{TemplateItem}
 use Rattle.sx_core.specs.declared.template.TemplateNode.{TemplateNode}
 use Rattle.sx_core.specs.declared.template.TemplateNode.TheVariants as node
 
-abbrev pub items : List Item → PlainItems
+abbrev pub items : List TemplateItem → PlainItems
 items [] = none
 items (i ∷ is) = more i.template i.ellipses (items is)
 

@@ -18,7 +18,7 @@ pub enum Line {
 
 /// What expansion makes of a library, or of a program.
 #[derive(Drop)]
-pub struct LibRecord {
+pub struct CompiledLibrary {
     /// The path of its file.
     pub path: Symbol,
     pub name: LibName,

@@ -20,14 +20,14 @@ pub enum TemplateNode {
     /// A part without pattern variables.
     Constant(Syn),
     /// The items, and the tail.
-    List(Vec<Item>, Box<Template>),
-    Vector(Vec<Item>),
+    List(Vec<TemplateItem>, Box<Template>),
+    Vector(Vec<TemplateItem>),
 }
 
 /// An item, with so many ellipses behind it.
 #[derive(Drop)]
 #[cycle(template)]
-pub struct Item {
+pub struct TemplateItem {
     pub template: Template,
     pub ellipses: u32,
 }

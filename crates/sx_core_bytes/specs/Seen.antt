@@ -24,13 +24,13 @@ use Rattle.sx_core.specs.declared.code.CoreNode.TheVariants as n
 use Rattle.sx_core.specs.declared.code.Init.{Init}
 use Rattle.sx_core.specs.declared.code.Lambda.{Lambda}
 use Rattle.sx_core.specs.declared.formals.Formals.{Formals}
-use Rattle.sx_pattern_bytes.specs.declared.held.Held.{Held}
+use Rattle.sx_pattern_bytes.specs.declared.held.HeldReading.{HeldReading}
 
 abbrev pub unboxed : Option (Box PlainCore Global) → Option PlainCore
 unboxed None = None
 unboxed (Some b) = Some b.value
 
-abbrev pub held_there : Option (Held (Box PlainCore Global)) → Option PlainCore
+abbrev pub held_there : Option (HeldReading (Box PlainCore Global)) → Option PlainCore
 held_there None = None
 held_there (Some h) = Some h.value.value
 

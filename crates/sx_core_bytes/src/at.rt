@@ -20,7 +20,7 @@ use crate::leaves::{
     read_quote, read_reference, span_in,
 };
 use crate::lists::{
-    CaseParts, ClauseParts, InitParts, Outcome, add_case, add_clause, add_init, add_part,
+    CaseParts, ClauseParts, InitParts, FenderAndOutput, add_case, add_clause, add_init, add_part,
 };
 use crate::nodes::{
     Boxed, put_assignment, put_call, put_if, put_lambda, put_letrec, put_matching, put_sequence,
@@ -31,14 +31,14 @@ use std::rc::Rc;
 use sx_base::memory::Memory;
 use sx_base::name::CodeNo;
 use sx_base::op::Op;
-use sx_bytes::libraries::Libraries;
+use sx_bytes::libraries::RecentLibraries;
 use sx_core::code::{Clause, Code, Core, CoreNode, Init, Lambda};
-use sx_pattern_bytes::held::Held;
+use sx_pattern_bytes::held::HeldReading;
 
 /// The core code that the bytes begin with, where it has fewer core expressions round one than the
 /// room, and the bytes behind it.
 pub fn core_at<'a>(
-    libraries: &mut Libraries,
+    libraries: &mut RecentLibraries,
     room: u32,
     bytes: &'a [u8],
 ) -> Result<Option<(Core, &'a [u8])>, Memory>
@@ -55,13 +55,13 @@ pub fn core_at<'a>(
 #[inline(never)]
 fn unread(alloc: Global) -> Result<Boxed, Memory> {
     let node = CoreNode::Prim(Op(0));
-    Ok(Held::new(Box::new(alloc, Core { node })?))
+    Ok(HeldReading::new(Box::new(alloc, Core { node })?))
 }
 
 /// A core expression in a box of its own.
 #[cycle(core_read)]
 fn boxed_in<'a>(
-    libraries: &mut Libraries,
+    libraries: &mut RecentLibraries,
     room: u32,
     left: &mut &'a [u8],
 ) -> Result<Option<Boxed>, Memory>
@@ -79,7 +79,7 @@ fn boxed_in<'a>(
 #[cycle(core_read)]
 #[tactic(auto, using(crate::specs::Seen::core_none, crate::specs::Seen::core_more))]
 fn read<'a>(
-    libraries: &mut Libraries,
+    libraries: &mut RecentLibraries,
     room: u32,
     left: &mut &'a [u8],
     core: &mut Core,
@@ -95,7 +95,7 @@ fn read<'a>(
 #[cycle(core_read)]
 #[tactic(auto, unfolding(sx_codec::specs::Code::core_level), using(crate::specs::Seen::seen_from))]
 fn read_node<'a>(
-    libraries: &mut Libraries,
+    libraries: &mut RecentLibraries,
     room: u32,
     left: &mut &'a [u8],
     node: &mut CoreNode,
@@ -112,7 +112,7 @@ fn read_node<'a>(
 /// Reads the core expression that a tag and the parts behind it spell.
 #[cycle(core_read)]
 fn read_choice<'a>(
-    libraries: &mut Libraries,
+    libraries: &mut RecentLibraries,
     room: u32,
     left: &mut &'a [u8],
     node: &mut CoreNode,
@@ -143,7 +143,7 @@ fn read_choice<'a>(
 #[cycle(core_read)]
 #[inline(never)]
 fn read_if<'a>(
-    libraries: &mut Libraries,
+    libraries: &mut RecentLibraries,
     room: u32,
     left: &mut &'a [u8],
     node: &mut CoreNode,
@@ -167,7 +167,7 @@ fn read_if<'a>(
 
 #[cycle(core_read)]
 fn other_in<'a>(
-    libraries: &mut Libraries,
+    libraries: &mut RecentLibraries,
     room: u32,
     left: &mut &'a [u8],
 ) -> Result<Option<Option<Boxed>>, Memory>
@@ -191,7 +191,7 @@ fn other_in<'a>(
 #[cycle(core_read)]
 #[inline(never)]
 fn read_assignment<'a>(
-    libraries: &mut Libraries,
+    libraries: &mut RecentLibraries,
     room: u32,
     left: &mut &'a [u8],
     node: &mut CoreNode,
@@ -215,7 +215,7 @@ fn read_assignment<'a>(
 #[inline(never)]
 #[tactic(auto, using(crate::specs::Seen::cores_there))]
 fn read_sequence<'a>(
-    libraries: &mut Libraries,
+    libraries: &mut RecentLibraries,
     room: u32,
     left: &mut &'a [u8],
     node: &mut CoreNode,
@@ -236,7 +236,7 @@ fn read_sequence<'a>(
 #[cycle(core_read)]
 #[inline(never)]
 fn read_lambda<'a>(
-    libraries: &mut Libraries,
+    libraries: &mut RecentLibraries,
     room: u32,
     left: &mut &'a [u8],
     node: &mut CoreNode,
@@ -256,10 +256,10 @@ fn read_lambda<'a>(
 #[cycle(core_read)]
 #[tactic(auto, using(crate::specs::Seen::count_of_cases))]
 fn procedure_in<'a>(
-    libraries: &mut Libraries,
+    libraries: &mut RecentLibraries,
     room: u32,
     left: &mut &'a [u8],
-) -> Result<Option<Held<Rc<Code>>>, Memory>
+) -> Result<Option<HeldReading<Rc<Code>>>, Memory>
     ensures { IfOk result (λ o. option_map (λ x. ((x.value.value.number, (x.value.value.cases, x.value.value.plain)), left.new.now)) o
         ≡ (checked code.is_procedure (code_number then code.cases (code.core room) then spec.bool)).get left.old.now) }
 {
@@ -283,9 +283,9 @@ fn procedure_in<'a>(
 fn shared(
     alloc: Global,
     number: CodeNo,
-    cases: Held<Vec<Lambda>>,
+    cases: HeldReading<Vec<Lambda>>,
     plain: bool,
-) -> Result<Held<Rc<Code>>, Memory>
+) -> Result<HeldReading<Rc<Code>>, Memory>
     ensures { IfOk result (λ c. c.value.value ≡ record { number = number; cases = view.cases cases.value.items; plain = plain }) }
 {
     let code = Code {
@@ -293,14 +293,14 @@ fn shared(
         cases: cases.take(),
         plain,
     };
-    Ok(Held::new(Rc::new(alloc, code)?))
+    Ok(HeldReading::new(Rc::new(alloc, code)?))
 }
 
 /// Reads the kind, the variables and the body of a `letrec` or a `letrec*`.
 #[cycle(core_read)]
 #[inline(never)]
 fn read_letrec<'a>(
-    libraries: &mut Libraries,
+    libraries: &mut RecentLibraries,
     room: u32,
     left: &mut &'a [u8],
     node: &mut CoreNode,
@@ -326,7 +326,7 @@ fn read_letrec<'a>(
 #[cycle(core_read)]
 #[inline(never)]
 fn read_call<'a>(
-    libraries: &mut Libraries,
+    libraries: &mut RecentLibraries,
     room: u32,
     left: &mut &'a [u8],
     node: &mut CoreNode,
@@ -349,7 +349,7 @@ fn read_call<'a>(
 #[cycle(core_read)]
 #[inline(never)]
 fn read_matching<'a>(
-    libraries: &mut Libraries,
+    libraries: &mut RecentLibraries,
     room: u32,
     left: &mut &'a [u8],
     node: &mut CoreNode,
@@ -374,10 +374,10 @@ fn read_matching<'a>(
 #[cycle(core_read)]
 #[tactic(auto, unfolding(sx_codec::specs::Code::core_parts))]
 fn parts_in<'a>(
-    libraries: &mut Libraries,
+    libraries: &mut RecentLibraries,
     room: u32,
     left: &mut &'a [u8],
-) -> Result<Option<Held<Vec<Core>>>, Memory>
+) -> Result<Option<HeldReading<Vec<Core>>>, Memory>
     ensures { IfOk result (λ o. option_map (λ x. (cores x.value.items, left.new.now)) o ≡ (code.core_parts (code.core room)).get left.old.now) }
 {
     match all_parts_in(libraries, room, left)? {
@@ -388,10 +388,10 @@ fn parts_in<'a>(
 
 #[cycle(core_read)]
 fn all_parts_in<'a>(
-    libraries: &mut Libraries,
+    libraries: &mut RecentLibraries,
     room: u32,
     left: &mut &'a [u8],
-) -> Result<Option<Held<Vec<Core>>>, Memory>
+) -> Result<Option<HeldReading<Vec<Core>>>, Memory>
     ensures { IfOk result (λ o. option_map (λ x. (x.value.items, left.new.now)) o
         ≡ (listed (code.core room)).get left.old.now) }
 {
@@ -403,15 +403,15 @@ fn all_parts_in<'a>(
 
 #[cycle(core_read)]
 fn some_parts<'a>(
-    libraries: &mut Libraries,
+    libraries: &mut RecentLibraries,
     room: u32,
     count: u64,
     left: &mut &'a [u8],
-) -> Result<Option<Held<Vec<Core>>>, Memory>
+) -> Result<Option<HeldReading<Vec<Core>>>, Memory>
     ensures { IfOk result (λ o. option_map (λ x. (x.value.items, left.new.now)) o
         ≡ some_get (code.core room).get count left.old.now) }
 {
-    let mut list = Held::new(Vec::new(libraries.alloc()));
+    let mut list = HeldReading::new(Vec::new(libraries.alloc()));
     for _ in 0..count {
         let Some(core) = boxed_in(libraries, room, left)? else {
             return Ok(None);
@@ -424,10 +424,10 @@ fn some_parts<'a>(
 #[cycle(core_read)]
 #[tactic(auto, unfolding(sx_codec::specs::Code::inits), using(crate::specs::Seen::inits_back))]
 fn inits_in<'a>(
-    libraries: &mut Libraries,
+    libraries: &mut RecentLibraries,
     room: u32,
     left: &mut &'a [u8],
-) -> Result<Option<Held<Vec<Init>>>, Memory>
+) -> Result<Option<HeldReading<Vec<Init>>>, Memory>
     ensures { IfOk result (λ o. option_map (λ x. (view.inits x.value.items, left.new.now)) o ≡ (code.inits (code.core room)).get left.old.now) }
 {
     match all_inits_in(libraries, room, left)? {
@@ -438,10 +438,10 @@ fn inits_in<'a>(
 
 #[cycle(core_read)]
 fn all_inits_in<'a>(
-    libraries: &mut Libraries,
+    libraries: &mut RecentLibraries,
     room: u32,
     left: &mut &'a [u8],
-) -> Result<Option<Held<Vec<Init>>>, Memory>
+) -> Result<Option<HeldReading<Vec<Init>>>, Memory>
     ensures { IfOk result (λ o. option_map (λ x. (map init_part x.value.items, left.new.now)) o
         ≡ (listed (label then code.core room)).get left.old.now) }
 {
@@ -454,15 +454,15 @@ fn all_inits_in<'a>(
 #[cycle(core_read)]
 #[inline(never)]
 fn some_inits<'a>(
-    libraries: &mut Libraries,
+    libraries: &mut RecentLibraries,
     room: u32,
     count: u64,
     left: &mut &'a [u8],
-) -> Result<Option<Held<Vec<Init>>>, Memory>
+) -> Result<Option<HeldReading<Vec<Init>>>, Memory>
     ensures { IfOk result (λ o. option_map (λ x. (map init_part x.value.items, left.new.now)) o
         ≡ some_get (label then code.core room).get count left.old.now) }
 {
-    let mut list = Held::new(Vec::new(libraries.alloc()));
+    let mut list = HeldReading::new(Vec::new(libraries.alloc()));
     for _ in 0..count {
         let Some(init) = init_in(libraries, room, left)? else {
             return Ok(None);
@@ -474,7 +474,7 @@ fn some_inits<'a>(
 
 #[cycle(core_read)]
 fn init_in<'a>(
-    libraries: &mut Libraries,
+    libraries: &mut RecentLibraries,
     room: u32,
     left: &mut &'a [u8],
 ) -> Result<Option<InitParts>, Memory>
@@ -492,10 +492,10 @@ fn init_in<'a>(
 #[cycle(core_read)]
 #[tactic(auto, unfolding(sx_codec::specs::Code::cases), using(crate::specs::Seen::cases_back))]
 fn cases_in<'a>(
-    libraries: &mut Libraries,
+    libraries: &mut RecentLibraries,
     room: u32,
     left: &mut &'a [u8],
-) -> Result<Option<Held<Vec<Lambda>>>, Memory>
+) -> Result<Option<HeldReading<Vec<Lambda>>>, Memory>
     ensures { IfOk result (λ o. option_map (λ x. (view.cases x.value.items, left.new.now)) o ≡ (code.cases (code.core room)).get left.old.now) }
 {
     match all_cases_in(libraries, room, left)? {
@@ -506,10 +506,10 @@ fn cases_in<'a>(
 
 #[cycle(core_read)]
 fn all_cases_in<'a>(
-    libraries: &mut Libraries,
+    libraries: &mut RecentLibraries,
     room: u32,
     left: &mut &'a [u8],
-) -> Result<Option<Held<Vec<Lambda>>>, Memory>
+) -> Result<Option<HeldReading<Vec<Lambda>>>, Memory>
     ensures { IfOk result (λ o. option_map (λ x. (map case_part x.value.items, left.new.now)) o
         ≡ (listed (code.formals then code.core room)).get left.old.now) }
 {
@@ -521,15 +521,15 @@ fn all_cases_in<'a>(
 
 #[cycle(core_read)]
 fn some_cases<'a>(
-    libraries: &mut Libraries,
+    libraries: &mut RecentLibraries,
     room: u32,
     count: u64,
     left: &mut &'a [u8],
-) -> Result<Option<Held<Vec<Lambda>>>, Memory>
+) -> Result<Option<HeldReading<Vec<Lambda>>>, Memory>
     ensures { IfOk result (λ o. option_map (λ x. (map case_part x.value.items, left.new.now)) o
         ≡ some_get (code.formals then code.core room).get count left.old.now) }
 {
-    let mut list = Held::new(Vec::new(libraries.alloc()));
+    let mut list = HeldReading::new(Vec::new(libraries.alloc()));
     for _ in 0..count {
         let Some(case) = case_in(libraries, room, left)? else {
             return Ok(None);
@@ -541,7 +541,7 @@ fn some_cases<'a>(
 
 #[cycle(core_read)]
 fn case_in<'a>(
-    libraries: &mut Libraries,
+    libraries: &mut RecentLibraries,
     room: u32,
     left: &mut &'a [u8],
 ) -> Result<Option<CaseParts>, Memory>
@@ -560,10 +560,10 @@ fn case_in<'a>(
 #[cycle(core_read)]
 #[tactic(auto, unfolding(sx_codec::specs::Code::clauses), using(crate::specs::Seen::clauses_back))]
 fn clauses_in<'a>(
-    libraries: &mut Libraries,
+    libraries: &mut RecentLibraries,
     room: u32,
     left: &mut &'a [u8],
-) -> Result<Option<Held<Vec<Clause>>>, Memory>
+) -> Result<Option<HeldReading<Vec<Clause>>>, Memory>
     ensures { IfOk result (λ o. option_map (λ x. (view.clauses x.value.items, left.new.now)) o ≡ (code.clauses (code.core room)).get left.old.now) }
 {
     match all_clauses_in(libraries, room, left)? {
@@ -574,10 +574,10 @@ fn clauses_in<'a>(
 
 #[cycle(core_read)]
 fn all_clauses_in<'a>(
-    libraries: &mut Libraries,
+    libraries: &mut RecentLibraries,
     room: u32,
     left: &mut &'a [u8],
-) -> Result<Option<Held<Vec<Clause>>>, Memory>
+) -> Result<Option<HeldReading<Vec<Clause>>>, Memory>
     ensures { IfOk result (λ o. option_map (λ x. (map clause_part x.value.items, left.new.now)) o
         ≡ (listed (code.pattern 2000 then optional (code.core room) then code.core room)).get left.old.now) }
 {
@@ -589,15 +589,15 @@ fn all_clauses_in<'a>(
 
 #[cycle(core_read)]
 fn some_clauses<'a>(
-    libraries: &mut Libraries,
+    libraries: &mut RecentLibraries,
     room: u32,
     count: u64,
     left: &mut &'a [u8],
-) -> Result<Option<Held<Vec<Clause>>>, Memory>
+) -> Result<Option<HeldReading<Vec<Clause>>>, Memory>
     ensures { IfOk result (λ o. option_map (λ x. (map clause_part x.value.items, left.new.now)) o
         ≡ some_get (code.pattern 2000 then optional (code.core room) then code.core room).get count left.old.now) }
 {
-    let mut list = Held::new(Vec::new(libraries.alloc()));
+    let mut list = HeldReading::new(Vec::new(libraries.alloc()));
     for _ in 0..count {
         let Some(clause) = clause_in(libraries, room, left)? else {
             return Ok(None);
@@ -609,7 +609,7 @@ fn some_clauses<'a>(
 
 #[cycle(core_read)]
 fn clause_in<'a>(
-    libraries: &mut Libraries,
+    libraries: &mut RecentLibraries,
     room: u32,
     left: &mut &'a [u8],
 ) -> Result<Option<ClauseParts>, Memory>
@@ -627,10 +627,10 @@ fn clause_in<'a>(
 
 #[cycle(core_read)]
 fn outcome_in<'a>(
-    libraries: &mut Libraries,
+    libraries: &mut RecentLibraries,
     room: u32,
     left: &mut &'a [u8],
-) -> Result<Option<Outcome>, Memory>
+) -> Result<Option<FenderAndOutput>, Memory>
     ensures { IfOk result (λ o. option_map (λ x. ((held_there x.fender, x.output.value.value), left.new.now)) o
         ≡ (optional (code.core room) then code.core room).get left.old.now) }
 {
@@ -638,7 +638,7 @@ fn outcome_in<'a>(
         return Ok(None);
     };
     match boxed_in(libraries, room, left)? {
-        Some(output) => Ok(Some(Outcome { fender, output })),
+        Some(output) => Ok(Some(FenderAndOutput { fender, output })),
         None => Ok(None),
     }
 }

@@ -5,7 +5,7 @@ ghost use Rattle.sx_bytes.specs.Puts.{Puts};
 ghost use Rattle.sx_codec.specs.Code.{formals};
 
 use sx_base::memory::Memory;
-use sx_bytes::libraries::Libraries;
+use sx_bytes::libraries::RecentLibraries;
 use sx_bytes::spelled::Spelled;
 use sx_core::formals::Formals;
 
@@ -21,7 +21,7 @@ pub(crate) fn put_formals(out: &mut Vec<u8>, parameters: &Formals) -> Result<(),
 /// The formals that the bytes begin with, and the bytes behind them.
 #[tactic(auto, unfolding(sx_codec::specs::Code::formals))]
 pub(crate) fn formals_at<'a>(
-    libraries: &mut Libraries,
+    libraries: &mut RecentLibraries,
     bytes: &'a [u8],
 ) -> Result<Option<(Formals, &'a [u8])>, Memory>
     ensures { IfOk result (λ o. option_map (λ x. (x.0, x.1.now)) o ≡ formals.get bytes.now) }

@@ -16,7 +16,7 @@ use std::boxed::Box;
 use sx_base::memory::Memory;
 use sx_base::name::{CodeNo, Label};
 use sx_base::span::Span;
-use sx_bytes::libraries::Libraries;
+use sx_bytes::libraries::RecentLibraries;
 use sx_bytes::names::op_at;
 use sx_bytes::numbers::{bool_at, u64_at};
 use sx_bytes::spelled::Spelled;
@@ -24,7 +24,7 @@ use sx_core::code::CoreNode;
 use sx_core::formals::Formals;
 use sx_core::pattern::Pattern;
 use sx_core::template::Template;
-use sx_pattern_bytes::held::Held;
+use sx_pattern_bytes::held::HeldReading;
 use sx_pattern_bytes::patterns::boxed_at as pattern_at;
 use sx_pattern_bytes::templates::template_at;
 use sx_tree_bytes::data::datum_at;
@@ -37,7 +37,7 @@ const MAX_PATTERN: u32 = 2000;
 /// Reads the datum of a quotation.
 #[inline(never)]
 pub(crate) fn read_quote<'a>(
-    libraries: &mut Libraries,
+    libraries: &mut RecentLibraries,
     left: &mut &'a [u8],
     node: &mut CoreNode,
 ) -> Result<bool, Memory>
@@ -56,7 +56,7 @@ pub(crate) fn read_quote<'a>(
 /// Reads the label of a reference.
 #[inline(never)]
 pub(crate) fn read_reference<'a>(
-    libraries: &mut Libraries,
+    libraries: &mut RecentLibraries,
     left: &mut &'a [u8],
     node: &mut CoreNode,
 ) -> Result<bool, Memory>
@@ -95,7 +95,7 @@ struct InstanceParts {
 }
 
 fn instance_at<'a>(
-    libraries: &mut Libraries,
+    libraries: &mut RecentLibraries,
     bytes: &'a [u8],
 ) -> Result<Option<(InstanceParts, &'a [u8])>, Memory>
     ensures { IfOk result (λ o. option_map (λ x. ((x.0.template, x.0.span), x.1.now)) o ≡ (code.template 2000 then span).get bytes.now) }
@@ -112,7 +112,7 @@ fn instance_at<'a>(
 /// Reads the template of a `syntax`, and the span of its form.
 #[inline(never)]
 pub(crate) fn read_instance<'a>(
-    libraries: &mut Libraries,
+    libraries: &mut RecentLibraries,
     left: &mut &'a [u8],
     node: &mut CoreNode,
 ) -> Result<bool, Memory>
@@ -131,7 +131,7 @@ pub(crate) fn read_instance<'a>(
 /// The label that the bytes begin with.
 #[inline(never)]
 pub(crate) fn label_in<'a>(
-    libraries: &mut Libraries,
+    libraries: &mut RecentLibraries,
     left: &mut &'a [u8],
 ) -> Result<Option<Label>, Memory>
     ensures { IfOk result (λ o. option_map (λ x. (x, left.new.now)) o ≡ label.get left.old.now) }
@@ -148,7 +148,7 @@ pub(crate) fn label_in<'a>(
 /// The number of a procedure that the bytes begin with.
 #[inline(never)]
 pub(crate) fn number_in<'a>(
-    libraries: &mut Libraries,
+    libraries: &mut RecentLibraries,
     left: &mut &'a [u8],
 ) -> Result<Option<CodeNo>, Memory>
     ensures { IfOk result (λ o. option_map (λ x. (x, left.new.now)) o ≡ code_number.get left.old.now) }
@@ -164,7 +164,7 @@ pub(crate) fn number_in<'a>(
 
 #[inline(never)]
 pub(crate) fn span_in<'a>(
-    libraries: &mut Libraries,
+    libraries: &mut RecentLibraries,
     left: &mut &'a [u8],
 ) -> Result<Option<Span>, Memory>
     ensures { IfOk result (λ o. option_map (λ x. (x, left.new.now)) o ≡ span.get left.old.now) }
@@ -180,16 +180,16 @@ pub(crate) fn span_in<'a>(
 
 #[inline(never)]
 pub(crate) fn formals_in<'a>(
-    libraries: &mut Libraries,
+    libraries: &mut RecentLibraries,
     left: &mut &'a [u8],
-) -> Result<Option<Held<Box<Formals>>>, Memory>
+) -> Result<Option<HeldReading<Box<Formals>>>, Memory>
     ensures { IfOk result (λ o. option_map (λ x. (x.value.value, left.new.now)) o ≡ code.formals.get left.old.now) }
 {
     match formals_at(libraries, *left)? {
         Some((formals, rest)) => {
             *left = rest;
             let formals = Box::new(libraries.alloc(), formals)?;
-            Ok(Some(Held::new(formals)))
+            Ok(Some(HeldReading::new(formals)))
         }
         None => Ok(None),
     }
@@ -197,9 +197,9 @@ pub(crate) fn formals_in<'a>(
 
 #[inline(never)]
 pub(crate) fn pattern_in<'a>(
-    libraries: &mut Libraries,
+    libraries: &mut RecentLibraries,
     left: &mut &'a [u8],
-) -> Result<Option<Held<Box<Pattern>>>, Memory>
+) -> Result<Option<HeldReading<Box<Pattern>>>, Memory>
     ensures { IfOk result (λ o. option_map (λ x. (x.value.value, left.new.now)) o ≡ (code.pattern 2000).get left.old.now) }
 {
     match pattern_at(libraries, MAX_PATTERN, *left)? {

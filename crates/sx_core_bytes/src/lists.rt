@@ -10,7 +10,7 @@ use sx_base::name::Label;
 use sx_core::code::{Clause, Core, Init, Lambda};
 use sx_core::formals::Formals;
 use sx_core::pattern::Pattern;
-use sx_pattern_bytes::held::Held;
+use sx_pattern_bytes::held::HeldReading;
 
 /// The variable of a `letrec`, and the expression of its value.
 #[derive(Drop)]
@@ -22,20 +22,20 @@ pub(crate) struct InitParts {
 /// The formals and the body of a procedure's case.
 #[derive(Drop)]
 pub(crate) struct CaseParts {
-    pub formals: Held<Box<Formals>>,
+    pub formals: HeldReading<Box<Formals>>,
     pub body: Boxed,
 }
 
 /// The pattern of a clause, and what it gives.
 #[derive(Drop)]
 pub(crate) struct ClauseParts {
-    pub pattern: Held<Box<Pattern>>,
-    pub outcome: Outcome,
+    pub pattern: HeldReading<Box<Pattern>>,
+    pub outcome: FenderAndOutput,
 }
 
 /// The fender and the output of a clause.
 #[derive(Drop)]
-pub(crate) struct Outcome {
+pub(crate) struct FenderAndOutput {
     pub fender: Option<Boxed>,
     pub output: Boxed,
 }

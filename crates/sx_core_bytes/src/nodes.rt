@@ -13,10 +13,10 @@ use std::rc::Rc;
 use sx_base::name::Label;
 use sx_base::span::Span;
 use sx_core::code::{Clause, Code, Core, CoreNode, Init};
-use sx_pattern_bytes::held::Held;
+use sx_pattern_bytes::held::HeldReading;
 
 /// A core expression that is being read.
-pub(crate) type Boxed = Held<Box<Core>>;
+pub(crate) type Boxed = HeldReading<Box<Core>>;
 
 fn taken(core: Option<Boxed>) -> Option<Box<Core>>
     ensures { unboxed result ≡ held_there core }
@@ -42,28 +42,28 @@ pub(crate) fn put_assignment(node: &mut CoreNode, label: Label, value: Boxed)
 }
 
 #[inline(never)]
-pub(crate) fn put_sequence(node: &mut CoreNode, parts: Held<Vec<Core>>)
+pub(crate) fn put_sequence(node: &mut CoreNode, parts: HeldReading<Vec<Core>>)
     ensures { node_cases node.new ≡ sequence_case (cores parts.value.items) }
 {
     *node = CoreNode::Seq(parts.take());
 }
 
 #[inline(never)]
-pub(crate) fn put_lambda(node: &mut CoreNode, code: Held<Rc<Code>>)
+pub(crate) fn put_lambda(node: &mut CoreNode, code: HeldReading<Rc<Code>>)
     ensures { node_cases node.new ≡ lambda_case code.value.value.number code.value.value.cases code.value.value.plain }
 {
     *node = CoreNode::Lambda(code.take());
 }
 
 #[inline(never)]
-pub(crate) fn put_letrec(node: &mut CoreNode, star: bool, inits: Held<Vec<Init>>, body: Boxed)
+pub(crate) fn put_letrec(node: &mut CoreNode, star: bool, inits: HeldReading<Vec<Init>>, body: Boxed)
     ensures { node_cases node.new ≡ letrec_case star (view.inits inits.value.items) body.value.value }
 {
     *node = CoreNode::Letrec(star, inits.take(), body.take());
 }
 
 #[inline(never)]
-pub(crate) fn put_call(node: &mut CoreNode, operator: Boxed, operands: Held<Vec<Core>>)
+pub(crate) fn put_call(node: &mut CoreNode, operator: Boxed, operands: HeldReading<Vec<Core>>)
     ensures { node_cases node.new ≡ call_case operator.value.value (cores operands.value.items) }
 {
     *node = CoreNode::App(operator.take(), operands.take());
@@ -73,7 +73,7 @@ pub(crate) fn put_call(node: &mut CoreNode, operator: Boxed, operands: Held<Vec<
 pub(crate) fn put_matching(
     node: &mut CoreNode,
     subject: Boxed,
-    clauses: Held<Vec<Clause>>,
+    clauses: HeldReading<Vec<Clause>>,
     span: Span,
 )
     ensures { node_cases node.new ≡ matching_case subject.value.value (view.clauses clauses.value.items) span }

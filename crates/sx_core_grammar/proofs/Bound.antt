@@ -9,33 +9,33 @@ use Rattle.sx_base.specs.declared.name.Label.{Label}
 use Rattle.sx_core.specs.Labels.{same_label}
 use Rattle.sx_core.specs.declared.binding.Binding.{Binding}
 use Rattle.sx_core.specs.declared.binding.Binding.TheVariants as binding
-use Rattle.sx_core.specs.declared.record.LibRecord.{LibRecord}
+use Rattle.sx_core.specs.declared.record.CompiledLibrary.{CompiledLibrary}
 use Rattle.sx_core_laws.specs.Words.{Each, Among, Once}
 use Rattle.sx_core_laws.proofs.Decisions.{label_decides}
-use Rattle.sx_core_text.specs.CoreText.{Names}
+use Rattle.sx_core_text.specs.CoreText.{VariableNames}
 use Rattle.sx_core_text.specs.Naming.{with_index, with_name, with_names}
 use Rattle.sx_core_text.specs.Whole.{named_by, plan_names}
-use Rattle.sx_name_laws.specs.Variable.{Variable}
+use Rattle.sx_name_laws.specs.Variable.{NamedVariable}
 use Rattle.sx_name_laws.specs.Variable as variables
 use Rattle.sx_name_laws.proofs.AnyName.{place_told}
 use Rattle.sx_core_grammar.specs.Names.{IsCalled, IsGenerated, AreGenerated, TellApart}
 use Rattle.sx_core_grammar.specs.Bound.{Bound, bound_by, bound_in, record_bindings, all_bindings, place, IsTold, NamesAreGenerated, NamesTellApart}
 
 -- one list of bindings after the other
-names_append : (names : Names) (bs cs : List (Label × Binding)) → with_names names (bs ++ cs) ≡ with_names (with_names names bs) cs
+names_append : (names : VariableNames) (bs cs : List (Label × Binding)) → with_names names (bs ++ cs) ≡ with_names (with_names names bs) cs
 names_append names [] cs = refl
 names_append names (b ∷ bs) cs = names_append (with_name names b.0 b.1) bs cs
 
-named_by_is : (names : Names) (r : Option LibRecord) → named_by names r ≡ with_names names (record_bindings r)
+named_by_is : (names : VariableNames) (r : Option CompiledLibrary) → named_by names r ≡ with_names names (record_bindings r)
 named_by_is names None = refl
 named_by_is names (Some r) = refl
 
-pub all_names_are : (records : List LibRecord) (plan : List ℕ) (program : LibRecord) (names : Names)
+pub all_names_are : (records : List CompiledLibrary) (plan : List ℕ) (program : CompiledLibrary) (names : VariableNames)
     → with_names (plan_names records names plan) program.bindings ≡ with_names names (all_bindings records plan program)
 all_names_are records [] program names = refl
 all_names_are records (p ∷ ps) program names =
     all_names_are records ps program (named_by names (slice_get records p))
-    ∙ ap (λ (ns : Names). with_names ns (all_bindings records ps program)) (named_by_is names (slice_get records p))
+    ∙ ap (λ (ns : VariableNames). with_names ns (all_bindings records ps program)) (named_by_is names (slice_get records p))
     ∙ sym (names_append names (record_bindings (slice_get records p)) (all_bindings records ps program))
 
 -- the name of a label is one that it was given
@@ -54,7 +54,7 @@ no_name : (x : List ℕ) → ◌≡◌ {A = Option (List ℕ)} None (Some x) →
 no_name x e = cc
 
 -- what an inserted name changes
-inserted : (names : Names) (k : Label) (y : List ℕ) (l : Label) (x : List ℕ) → lookup (same_label l) (insert_entry same_label names k y) ≡ Some x
+inserted : (names : VariableNames) (k : Label) (y : List ℕ) (l : Label) (x : List ℕ) → lookup (same_label l) (insert_entry same_label names k y) ≡ Some x
     → ((k ≡ l) × (y ≡ x)) ⊎ (lookup (same_label l) names ≡ Some x)
 inserted [] k y l x e = by_same (same_label l k) refl e where
   by_same : (b : Bool) → same_label l k ≡ b → (if b then Some y else None) ≡ Some x → ((k ≡ l) × (y ≡ x)) ⊎ (None ≡ Some x)
@@ -86,7 +86,7 @@ behind_all [] bs l x g = g
 behind_all (c ∷ cs) bs l x g = further c (cs ++ bs) l x (behind_all cs bs l x g)
 
 -- a name after a binding is of this binding, or was there
-by_index : (names : Names) (k : Label) (symbol : List ℕ) (index : Option ℕ) (bs : List Bound) (l : Label) (x : List ℕ)
+by_index : (names : VariableNames) (k : Label) (symbol : List ℕ) (index : Option ℕ) (bs : List Bound) (l : Label) (x : List ℕ)
     → lookup (same_label l) (with_index names k symbol index) ≡ Some x → Given (bound_by k symbol index ++ bs) l x ⊎ (lookup (same_label l) names ≡ Some x)
 by_index names k symbol None bs l x e = inr e
 by_index names k symbol (Some n) bs l x e = by_part (inserted names k (variables.name_of (record { library = k.0.library; symbol = symbol; number = n })) l x e) where
@@ -95,7 +95,7 @@ by_index names k symbol (Some n) bs l x e = by_part (inserted names k (variables
   by_part (inl p) = inl (record { label = k; variable = record { library = k.0.library; symbol = symbol; number = n } }, (inl refl, record { label = p.0; name = p.1 }))
   by_part (inr f) = inr f
 
-by_binding : (names : Names) (k : Label) (c : Binding) (bs : List Bound) (l : Label) (x : List ℕ)
+by_binding : (names : VariableNames) (k : Label) (c : Binding) (bs : List Bound) (l : Label) (x : List ℕ)
     → lookup (same_label l) (with_name names k c) ≡ Some x → Given (bound_in (k, c) ++ bs) l x ⊎ (lookup (same_label l) names ≡ Some x)
 by_binding names k (binding.Variable v) bs l x e = by_index names k v.symbol v.index bs l x e
 by_binding names k (binding.PatternVariable level depth) bs l x e = inr e
@@ -103,7 +103,7 @@ by_binding names k (binding.Macro level expression) bs l x e = inr e
 by_binding names k (binding.Core form) bs l x e = inr e
 by_binding names k (binding.Primitive o) bs l x e = inr e
 
-given_by : (cs : List (Label × Binding)) (names : Names) (l : Label) (x : List ℕ) → lookup (same_label l) (with_names names cs) ≡ Some x
+given_by : (cs : List (Label × Binding)) (names : VariableNames) (l : Label) (x : List ℕ) → lookup (same_label l) (with_names names cs) ≡ Some x
     → Given (flat_map bound_in cs) l x ⊎ (lookup (same_label l) names ≡ Some x)
 given_by [] names l x e = inr e
 given_by (c ∷ cs) names l x e = by_part (given_by cs (with_name names c.0 c.1) l x e) where
@@ -135,27 +135,27 @@ once_same f (z ∷ zs) x y h (inr a) (inl b) e = absurd (h.0 (subst (λ w. Among
 once_same f (z ∷ zs) x y h (inr a) (inr b) e = once_same f zs x y h.1 a b e
 
 -- each row has a generated name
-insert_generated : (names : Names) (k : Label) (y : List ℕ) → IsGenerated y → AreGenerated names → AreGenerated (insert_entry same_label names k y)
+insert_generated : (names : VariableNames) (k : Label) (y : List ℕ) → IsGenerated y → AreGenerated names → AreGenerated (insert_entry same_label names k y)
 insert_generated [] k y g h = (g, tt)
 insert_generated (r ∷ rs) k y g h = by_row (same_label k r.0) (insert_generated rs k y g h.1) where
   by_row : (b : Bool) → AreGenerated (insert_entry same_label rs k y) → AreGenerated (if b then (r.0, y) ∷ rs else r ∷ insert_entry same_label rs k y)
   by_row true others = (g, h.1)
   by_row false others = (h.0, others)
 
-index_generated : (names : Names) (k : Label) (symbol : List ℕ) (index : Option ℕ) → AreGenerated names → AreGenerated (with_index names k symbol index)
+index_generated : (names : VariableNames) (k : Label) (symbol : List ℕ) (index : Option ℕ) → AreGenerated names → AreGenerated (with_index names k symbol index)
 index_generated names k symbol None good = good
 index_generated names k symbol (Some n) good =
     insert_generated names k (variables.name_of (record { library = k.0.library; symbol = symbol; number = n }))
     (record { of = record { library = k.0.library; symbol = symbol; number = n }; same = refl }) good
 
-binding_generated : (names : Names) (k : Label) (c : Binding) → AreGenerated names → AreGenerated (with_name names k c)
+binding_generated : (names : VariableNames) (k : Label) (c : Binding) → AreGenerated names → AreGenerated (with_name names k c)
 binding_generated names k (binding.Variable v) good = index_generated names k v.symbol v.index good
 binding_generated names k (binding.PatternVariable level depth) good = good
 binding_generated names k (binding.Macro level expression) good = good
 binding_generated names k (binding.Core form) good = good
 binding_generated names k (binding.Primitive o) good = good
 
-names_generated : (names : Names) (cs : List (Label × Binding)) → AreGenerated names → AreGenerated (with_names names cs)
+names_generated : (names : VariableNames) (cs : List (Label × Binding)) → AreGenerated names → AreGenerated (with_names names cs)
 names_generated names [] good = good
 names_generated names (c ∷ cs) good = names_generated (with_name names c.0 c.1) cs (binding_generated names c.0 c.1 good)
 

@@ -10,7 +10,7 @@ use Rattle.sx_base.specs.Op.{name_count, is_keyword, op_text, op_named}
 use Rattle.sx_base.specs.OpNames.{op_names}
 use Rattle.sx_base.specs.declared.name.Label.{Label}
 use Rattle.sx_core.specs.Labels.{same_label}
-use Rattle.sx_core_text.specs.CoreText.{Names, name_of}
+use Rattle.sx_core_text.specs.CoreText.{VariableNames, name_of}
 use Rattle.sx_name_laws.proofs.AnyName.{rest_of_name, any_rest}
 use Rattle.sx_name_laws.proofs.Telling.{name_is}
 use Rattle.sx_printer.specs.Symbols.{symbol_text, is_subsequent}
@@ -120,15 +120,15 @@ by_row P true y others x p q e = subst P (some_same y x e) p where
   some_same y x e = cc
 by_row P false y others x p q e = q e
 
-named_is : (names : Names) → AreGenerated names → (l : Label) (x : List ℕ) → IsCalled names l x → IsGenerated x
+named_is : (names : VariableNames) → AreGenerated names → (l : Label) (x : List ℕ) → IsCalled names l x → IsGenerated x
 named_is [] h l x e = absurd (cc)
 named_is (r ∷ rs) h l x e = by_row IsGenerated (same_label l r.0) r.1 (lookup (same_label l) rs) x h.0 (λ f. named_is rs h.1 l x f) e
 
-pub called_percented : (names : Names) → AreGenerated names → (l : Label) (x : List ℕ) → IsCalled names l x → IsPercented x
+pub called_percented : (names : VariableNames) → AreGenerated names → (l : Label) (x : List ℕ) → IsCalled names l x → IsPercented x
 called_percented names h l x e = percented x (named_is names h l x e)
 
-pub called_is : (names : Names) (l : Label) (x : List ℕ) → IsCalled names l x → name_of names l ≡ x
+pub called_is : (names : VariableNames) (l : Label) (x : List ℕ) → IsCalled names l x → name_of names l ≡ x
 called_is names l x e = ap (λ o. unwrap_or o []) e
 
-pub called_text : (names : Names) → AreGenerated names → (l : Label) (x : List ℕ) → IsCalled names l x → name_of names l ≡ symbol_text x
+pub called_text : (names : VariableNames) → AreGenerated names → (l : Label) (x : List ℕ) → IsCalled names l x → name_of names l ≡ symbol_text x
 called_text names h l x e = called_is names l x e ∙ sym (plain_text x (generated_plain x (called_percented names h l x e)))

@@ -16,11 +16,11 @@ use Rattle.sx_core.specs.declared.formals.Formals.{Formals}
 use Rattle.sx_core.specs.declared.record.Line.{Line}
 use Rattle.sx_core.specs.declared.record.Line.TheVariants as line
 use Rattle.sx_core_laws.proofs.Decisions.{label_decides}
-use Rattle.sx_core_text.specs.CoreText.{Names, name_of}
+use Rattle.sx_core_text.specs.CoreText.{VariableNames, name_of}
 use Rattle.sx_core_grammar.specs.Names.{IsCalled, AreGenerated, TellApart}
 use Rattle.sx_core_grammar.specs.Spells.{word, before, form, one, two, is_itself, SpellsFormals, no_rest, rest, required}
 use Rattle.sx_core_grammar.specs.Spells as s
-use Rattle.sx_core_grammar.specs.Spells.{Spells, SpellsAll, SpellsInits, SpellsCases}
+use Rattle.sx_core_grammar.specs.Spells.{SpellsCode, SpellsAllCode, SpellsInits, SpellsCases}
 use Rattle.sx_core_grammar.specs.Lines.{SpellsLine, definition, expression}
 use Rattle.sx_core_grammar.specs.SameCode.{any_number, told_formals, told, all_told, inits_told, cases_told, line_told, label_called}
 use Rattle.sx_core_grammar.specs.Laws.{OneCodeByNames, OneLineByNames, OneCode, OneLine}
@@ -171,7 +171,7 @@ module _ (label : List ℕ → Label) where
   expression_is : (d : PlainDatum) → is_definition d ≡ false → line_of d ≡ line.Expr (core_of d)
   expression_is d h = by_false (is_definition d) (line.Define (label (symbol_name (first (parts_of d)))) (second_core (all_of (parts_of d)))) (line.Expr (core_of d)) h
 
-  module _ (put : Label → Label) (names : Names) (good : AreGenerated names) (right : (l : Label) (x : List ℕ) → IsCalled names l x → label x ≡ put l) where
+  module _ (put : Label → Label) (names : VariableNames) (good : AreGenerated names) (right : (l : Label) (x : List ℕ) → IsCalled names l x → label x ≡ put l) where
     labels_are : {ls : List Label} {r : Option Label} {d : PlainDatum} → SpellsFormals names ls r d → labels_of d ≡ map put ls
     labels_are no_rest = refl
     labels_are (rest h) = refl
@@ -198,7 +198,7 @@ module _ (label : List ℕ → Label) where
     itself_code (datum.vector s d) h = absurd (cc)
 
     -- an operator is no keyword
-    head_free : {c : PlainCore} {d : PlainDatum} → Spells names c d → is_core_keyword (symbol_name d) ≡ false
+    head_free : {c : PlainCore} {d : PlainDatum} → SpellsCode names c d → is_core_keyword (symbol_name d) ≡ false
     head_free (s.constant d h) = ap is_core_keyword (itself_free d h)
     head_free (s.quotation d h) = refl
     head_free (s.reference {l} {x} h) = generated_free x (called_percented names good l x h)
@@ -212,7 +212,7 @@ module _ (label : List ℕ → Label) where
     head_free (s.letrec ordered ps p) = refl
     head_free (s.application p ps) = refl
 
-    head_undefined : {c : PlainCore} {d : PlainDatum} → Spells names c d → is_define (symbol_name d) ≡ false
+    head_undefined : {c : PlainCore} {d : PlainDatum} → SpellsCode names c d → is_define (symbol_name d) ≡ false
     head_undefined (s.constant d h) = ap is_define (itself_free d h)
     head_undefined (s.quotation d h) = refl
     head_undefined (s.reference {l} {x} h) = generated_undefined x (called_percented names good l x h)
@@ -233,7 +233,7 @@ module _ (label : List ℕ → Label) where
     itself_undefined (datum.vector s d) h = absurd (cc)
 
     -- an expression is no definition
-    undefined : {c : PlainCore} {d : PlainDatum} → Spells names c d → is_definition d ≡ false
+    undefined : {c : PlainCore} {d : PlainDatum} → SpellsCode names c d → is_definition d ≡ false
     undefined (s.constant d h) = itself_undefined d h
     undefined (s.quotation d h) = refl
     undefined (s.reference h) = refl
@@ -249,7 +249,7 @@ module _ (label : List ℕ → Label) where
     undefined (s.application p ps) = head_undefined p
 
     mutual
-      core_is : {c : PlainCore} {d : PlainDatum} → Spells names c d → core_of d ≡ told put c
+      core_is : {c : PlainCore} {d : PlainDatum} → SpellsCode names c d → core_of d ≡ told put c
       core_is (s.constant d h) = itself_code d h
       core_is (s.quotation d h) = refl
       core_is (s.reference {l} {x} h) = variable_is x (generated_is x (called_percented names good l x h)) ∙ ap core.variable (right l x h)
@@ -265,7 +265,7 @@ module _ (label : List ℕ → Label) where
       core_is (s.application {c} {cs} {d} {e} p ps) =
           call_is (symbol_name d) (core_of d) (all_of e) (cases_of e) (first_inits e) e (head_free p) ∙ (λ i. core.call (core_is p i) (all_are ps i))
 
-      all_are : {cs : PlainCores} {e : PlainDatum} → SpellsAll names cs e → all_of e ≡ all_told put cs
+      all_are : {cs : PlainCores} {e : PlainDatum} → SpellsAllCode names cs e → all_of e ≡ all_told put cs
       all_are s.no_more = refl
       all_are (s.more p ps) = λ i. core.more (core_is p i) (all_are ps i)
 
@@ -282,7 +282,7 @@ module _ (label : List ℕ → Label) where
     line_is (expression {c} {d} p) = expression_is d (undefined p) ∙ ap line.Expr (core_is p)
 
 -- each label by its name
-by_name : (names : Names) (l : Label) (x : List ℕ) → IsCalled names l x → label_called x ≡ label_called (name_of names l)
+by_name : (names : VariableNames) (l : Label) (x : List ℕ) → IsCalled names l x → label_called x ≡ label_called (name_of names l)
 by_name names l x h = ap label_called (sym (called_is names l x h))
 
 pub one_code_by_names : OneCodeByNames
@@ -300,10 +300,10 @@ abbrev is_text : List ℕ → Option (List ℕ) → Bool
 is_text x None = false
 is_text x (Some y) = pointwise nat_eq y x
 
-abbrev is_called : Names → Label → List ℕ → Bool
+abbrev is_called : VariableNames → Label → List ℕ → Bool
 is_called names l x = is_text x (lookup (same_label l) names)
 
-abbrev label_among : Names → Names → List ℕ → Label
+abbrev label_among : VariableNames → VariableNames → List ℕ → Label
 label_among names [] x = label_called x
 label_among names (r ∷ rs) x = if is_called names r.0 x then r.0 else label_among names rs x
 
@@ -318,8 +318,8 @@ clash : (b : Bool) → b ≡ true → b ≡ false → ⊥
 clash true h k = cc
 clash false h k = cc
 
-module _ (names : Names) (apart : TellApart names) where
-  label_is : (l : Label) (x : List ℕ) → IsCalled names l x → (rows : Names) (y : List ℕ) → lookup (same_label l) rows ≡ Some y → label_among names rows x ≡ l
+module _ (names : VariableNames) (apart : TellApart names) where
+  label_is : (l : Label) (x : List ℕ) → IsCalled names l x → (rows : VariableNames) (y : List ℕ) → lookup (same_label l) rows ≡ Some y → label_among names rows x ≡ l
   label_is l x h [] y e = absurd (cc)
   label_is l x h (r ∷ rs) y e = by_test (is_called names r.0 x) refl (λ f. label_is l x h rs y f) where
     behind : (b : Bool) → same_label l r.0 ≡ b → is_called names r.0 x ≡ false → (if b then Some r.1 else lookup (same_label l) rs) ≡ Some y → lookup (same_label l) rs ≡ Some y

@@ -4,9 +4,9 @@ use Rattle.sx_base.specs.Datum.{PlainDatum, nil}
 use Rattle.sx_core.specs.Core as core
 use Rattle.sx_core.specs.Core.{PlainCore}
 use Rattle.sx_core_laws.specs.Parts.{case_count}
-use Rattle.sx_core_text.specs.CoreText.{Names}
+use Rattle.sx_core_text.specs.CoreText.{VariableNames}
 use Rattle.sx_core_grammar.specs.Names.{IsPrimitive}
-use Rattle.sx_core_grammar.specs.Spells.{rest, required, Spells}
+use Rattle.sx_core_grammar.specs.Spells.{rest, required, SpellsCode}
 use Rattle.sx_core_grammar.specs.Spells as s
 use Rattle.sx_core_grammar.specs.Lines.{definition}
 use Rattle.sx_core_grammar.specs.SameCode.{any_number}
@@ -14,7 +14,7 @@ use Rattle.sx_core_grammar.specs.Spellable.{HasName}
 use Rattle.sx_core_grammar.specs.Examples.{names, truth, SpellingExamples}
 
 -- what is asked of an expression that has a spelling
-abbrev Named : Names → PlainCore → Type 0
+abbrev Named : VariableNames → PlainCore → Type 0
 Named ns (core.quoted d) = Unit {0}
 Named ns (core.variable l) = HasName ns l
 Named ns (core.primitive o) = IsPrimitive o.0
@@ -29,7 +29,7 @@ Named ns (core.call c cs) = Unit {0}
 Named ns (core.instance t p) = ⊥
 Named ns (core.matching c cs p) = ⊥
 
-named : (ns : Names) {c : PlainCore} {d : PlainDatum} → Spells ns c d → Named ns c
+named : (ns : VariableNames) {c : PlainCore} {d : PlainDatum} → SpellsCode ns c d → Named ns c
 named ns (s.constant d h) = tt
 named ns (s.quotation d h) = tt
 named ns (s.reference {l} {x} h) = (x, h)

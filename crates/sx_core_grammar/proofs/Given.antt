@@ -11,7 +11,7 @@ use Rattle.sx_core.specs.declared.binding.Binding.{Binding}
 use Rattle.sx_core.specs.declared.binding.Binding.TheVariants as binding
 use Rattle.sx_core_laws.specs.Words.{Among}
 use Rattle.sx_core_laws.proofs.Decisions.{label_decides}
-use Rattle.sx_core_text.specs.CoreText.{Names}
+use Rattle.sx_core_text.specs.CoreText.{VariableNames}
 use Rattle.sx_core_text.specs.Naming.{with_index, with_name, with_names}
 use Rattle.sx_names.specs.Generated.{generated_name}
 use Rattle.sx_core_grammar.specs.Spellable.{HasName}
@@ -35,43 +35,43 @@ still_found : (b : Bool) (y z : List ℕ) (o p : Option (List ℕ)) → (Found o
 still_found true y z o p f h = (z, refl)
 still_found false y z o p f h = f h
 
-insert_has : (names : Names) (k : Label) (y : List ℕ) → HasName (insert_entry same_label names k y) k
+insert_has : (names : VariableNames) (k : Label) (y : List ℕ) → HasName (insert_entry same_label names k y) k
 insert_has [] k y = first_found (same_label k k) y None ((label_decides k k).1 refl)
 insert_has (r ∷ rs) k y = by_row (same_label k r.0) refl (insert_has rs k y) where
   by_row : (b : Bool) → same_label k r.0 ≡ b → HasName (insert_entry same_label rs k y) k → HasName (if b then (r.0, y) ∷ rs else r ∷ insert_entry same_label rs k y) k
   by_row true e h = first_found (same_label k r.0) y (lookup (same_label k) rs) e
   by_row false e h = either_found (same_label k r.0) r.1 (lookup (same_label k) (insert_entry same_label rs k y)) h
 
-insert_keeps : (names : Names) (k : Label) (y : List ℕ) (l : Label) → HasName names l → HasName (insert_entry same_label names k y) l
+insert_keeps : (names : VariableNames) (k : Label) (y : List ℕ) (l : Label) → HasName names l → HasName (insert_entry same_label names k y) l
 insert_keeps [] k y l h = either_found (same_label l k) y None h
 insert_keeps (r ∷ rs) k y l h = by_row (same_label k r.0) (λ g. insert_keeps rs k y l g) where
   by_row : (b : Bool) → (HasName rs l → HasName (insert_entry same_label rs k y) l) → HasName (if b then (r.0, y) ∷ rs else r ∷ insert_entry same_label rs k y) l
   by_row true f = still_found (same_label l r.0) r.1 y (lookup (same_label l) rs) (lookup (same_label l) rs) (λ g. g) h
   by_row false f = still_found (same_label l r.0) r.1 r.1 (lookup (same_label l) rs) (lookup (same_label l) (insert_entry same_label rs k y)) f h
 
-index_keeps : (names : Names) (k : Label) (symbol : List ℕ) (index : Option ℕ) (l : Label) → HasName names l → HasName (with_index names k symbol index) l
+index_keeps : (names : VariableNames) (k : Label) (symbol : List ℕ) (index : Option ℕ) (l : Label) → HasName names l → HasName (with_index names k symbol index) l
 index_keeps names k symbol None l h = h
 index_keeps names k symbol (Some n) l h = insert_keeps names k (generated_name k.0.library symbol n) l h
 
-name_keeps : (names : Names) (k : Label) (c : Binding) (l : Label) → HasName names l → HasName (with_name names k c) l
+name_keeps : (names : VariableNames) (k : Label) (c : Binding) (l : Label) → HasName names l → HasName (with_name names k c) l
 name_keeps names k (binding.Variable v) l h = index_keeps names k v.symbol v.index l h
 name_keeps names k (binding.PatternVariable level depth) l h = h
 name_keeps names k (binding.Macro level expression) l h = h
 name_keeps names k (binding.Core form) l h = h
 name_keeps names k (binding.Primitive o) l h = h
 
-names_keep : (cs : List (Label × Binding)) (names : Names) (l : Label) → HasName names l → HasName (with_names names cs) l
+names_keep : (cs : List (Label × Binding)) (names : VariableNames) (l : Label) → HasName names l → HasName (with_names names cs) l
 names_keep [] names l h = h
 names_keep (c ∷ cs) names l h = names_keep cs (with_name names c.0 c.1) l (name_keeps names c.0 c.1 l h)
 
-index_has : (names : Names) (k : Label) (symbol : List ℕ) (index : Option ℕ) (b : Bound) → Among (bound_by k symbol index) b → HasName (with_index names k symbol index) b.label
+index_has : (names : VariableNames) (k : Label) (symbol : List ℕ) (index : Option ℕ) (b : Bound) → Among (bound_by k symbol index) b → HasName (with_index names k symbol index) b.label
 index_has names k symbol None b a = elim a [ ]
 index_has names k symbol (Some n) b (inl e) =
     let label : b.label ≡ k = ap (λ (c : Bound). c.label) e in
     subst (λ (l : Label). HasName (with_index names k symbol (Some n)) l) (sym label) (insert_has names k (generated_name k.0.library symbol n))
 index_has names k symbol (Some n) b (inr a) = elim a [ ]
 
-name_has : (names : Names) (k : Label) (c : Binding) (b : Bound) → Among (bound_in (k, c)) b → HasName (with_name names k c) b.label
+name_has : (names : VariableNames) (k : Label) (c : Binding) (b : Bound) → Among (bound_in (k, c)) b → HasName (with_name names k c) b.label
 name_has names k (binding.Variable v) b a = index_has names k v.symbol v.index b a
 name_has names k (binding.PatternVariable level depth) b a = elim a [ ]
 name_has names k (binding.Macro level expression) b a = elim a [ ]
@@ -86,7 +86,7 @@ among_parts (z ∷ zs) ys x (inr a) = behind (among_parts zs ys x a) where
   behind (inl b) = inl (inr b)
   behind (inr b) = inr b
 
-names_have : (cs : List (Label × Binding)) (names : Names) (b : Bound) → Among (flat_map bound_in cs) b → HasName (with_names names cs) b.label
+names_have : (cs : List (Label × Binding)) (names : VariableNames) (b : Bound) → Among (flat_map bound_in cs) b → HasName (with_names names cs) b.label
 names_have [] names b a = elim a [ ]
 names_have (c ∷ cs) names b a = by_part (among_parts (bound_in c) (flat_map bound_in cs) b a) (λ g. names_have cs (with_name names c.0 c.1) b g) where
   by_part : Among (bound_in c) b ⊎ Among (flat_map bound_in cs) b → (Among (flat_map bound_in cs) b → HasName (with_names (with_name names c.0 c.1) cs) b.label)
@@ -96,4 +96,4 @@ names_have (c ∷ cs) names b a = by_part (among_parts (bound_in c) (flat_map bo
 
 pub bound_have_names : BoundHaveNames
 bound_have_names records plan program b a =
-    subst (λ (ns : Names). HasName ns b.label) (sym (all_names_are records plan program [])) (names_have (all_bindings records plan program) [] b a)
+    subst (λ (ns : VariableNames). HasName ns b.label) (sym (all_names_are records plan program [])) (names_have (all_bindings records plan program) [] b a)

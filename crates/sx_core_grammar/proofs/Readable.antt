@@ -11,13 +11,13 @@ use Rattle.sx_core.specs.declared.record.Line.{Line}
 use Rattle.sx_core_laws.specs.Words.{Each}
 use Rattle.sx_core_laws.specs.Parts.{parts, all_parts, init_parts, case_parts}
 use Rattle.sx_core_laws.specs.Records.{line_core}
-use Rattle.sx_core_text.specs.CoreText.{Names}
+use Rattle.sx_core_text.specs.CoreText.{VariableNames}
 use Rattle.sx_round.specs.Readable.{IsReadable, IsRest, AreElements, IsName}
 use Rattle.sx_round.proofs.Reading.{more, rest_more}
 use Rattle.sx_core_grammar.specs.Names.{IsCalled, AreGenerated}
 use Rattle.sx_core_grammar.specs.Spells.{word, before, form, one, two, three, letrec_keyword, SpellsFormals, no_rest, rest, required}
 use Rattle.sx_core_grammar.specs.Spells as s
-use Rattle.sx_core_grammar.specs.Spells.{Spells, SpellsAll, SpellsInits, SpellsCases}
+use Rattle.sx_core_grammar.specs.Spells.{SpellsCode, SpellsAllCode, SpellsInits, SpellsCases}
 use Rattle.sx_core_grammar.specs.Lines.{SpellsLine, definition, expression, SpellLines, no_line, further}
 use Rattle.sx_core_grammar.specs.Spellable.{CanBeRead, own_constant, constants}
 use Rattle.sx_core_grammar.specs.Laws.{SpellingsCanBeRead}
@@ -126,7 +126,7 @@ Fine ps = Each (λ p. Each CanBeRead (own_constant p)) ps
 abbrev IsFine : PlainCore → Type 0
 IsFine p = Each CanBeRead (own_constant p)
 
-module _ (names : Names) (good : AreGenerated names) where
+module _ (names : VariableNames) (good : AreGenerated names) where
   called_reads : (l : Label) (x : List ℕ) → IsCalled names l x → CanBeRead (word x)
   called_reads l x h = word_reads x (plain_name x (generated_plain x (called_percented names good l x h)))
 
@@ -144,7 +144,7 @@ module _ (names : Names) (good : AreGenerated names) where
   formals_read (required {l} {x} {ls} {r} {e} h others) = pair_reads (word x) e (called_reads l x h) (formals_end others)
 
   mutual
-    reads : {c : PlainCore} {d : PlainDatum} → Spells names c d → Fine (parts c) → CanBeRead d
+    reads : {c : PlainCore} {d : PlainDatum} → SpellsCode names c d → Fine (parts c) → CanBeRead d
     reads (s.constant d h) f = (f.0.0.0, bare_reads f.0.0.0 d f.0.0.1)
     reads (s.quotation d h) f = form_reads (codes "quote") (one (unspanned d)) quote_name (one_ends (unspanned d) (f.0.0.0, bare_reads f.0.0.0 d f.0.0.1))
     reads (s.reference {l} {x} h) f = called_reads l x h
@@ -167,7 +167,7 @@ module _ (names : Names) (good : AreGenerated names) where
     reads (s.application {c} {cs} {d} {e} p ps) f =
         pair_reads d e (reads p (left IsFine (parts c) (all_parts cs) f.1)) (all_end ps (right IsFine (parts c) (all_parts cs) f.1))
 
-    all_end : {cs : PlainCores} {e : PlainDatum} → SpellsAll names cs e → Fine (all_parts cs) → CanEnd e
+    all_end : {cs : PlainCores} {e : PlainDatum} → SpellsAllCode names cs e → Fine (all_parts cs) → CanEnd e
     all_end s.no_more f = nil_ends
     all_end (s.more {c} {cs} {d} {e} p ps) f = pair_ends d e (reads p (left IsFine (parts c) (all_parts cs) f)) (all_end ps (right IsFine (parts c) (all_parts cs) f))
 
@@ -201,7 +201,7 @@ module _ (names : Names) (good : AreGenerated names) where
   formals_bare (required {l} {x} h others) = λ i. before (word x) (formals_bare others i)
 
   mutual
-    spelled_bare : {c : PlainCore} {d : PlainDatum} → Spells names c d → unspanned d ≡ d
+    spelled_bare : {c : PlainCore} {d : PlainDatum} → SpellsCode names c d → unspanned d ≡ d
     spelled_bare (s.constant d h) = unspanned_twice d
     spelled_bare (s.quotation d h) = λ i. form (codes "quote") (one (unspanned_twice d i))
     spelled_bare (s.reference h) = refl
@@ -215,7 +215,7 @@ module _ (names : Names) (good : AreGenerated names) where
     spelled_bare (s.letrec ordered ps p) = λ i. form (letrec_keyword ordered) (two (inits_bare ps i) (spelled_bare p i))
     spelled_bare (s.application p ps) = λ i. before (spelled_bare p i) (all_bare ps i)
 
-    all_bare : {cs : PlainCores} {e : PlainDatum} → SpellsAll names cs e → unspanned e ≡ e
+    all_bare : {cs : PlainCores} {e : PlainDatum} → SpellsAllCode names cs e → unspanned e ≡ e
     all_bare s.no_more = refl
     all_bare (s.more p ps) = λ i. before (spelled_bare p i) (all_bare ps i)
 

@@ -15,18 +15,18 @@ use Rattle.sx_core.specs.declared.record.Line.TheVariants as line
 use Rattle.sx_core_laws.specs.Words.{Each}
 use Rattle.sx_core_laws.specs.Parts.{parts, all_parts, init_parts, case_parts, own_op, case_count}
 use Rattle.sx_core_laws.specs.WellMade.{HasForm}
-use Rattle.sx_core_text.specs.CoreText.{Names, name_of}
+use Rattle.sx_core_text.specs.CoreText.{VariableNames, name_of}
 use Rattle.sx_core_text.specs.Syntax.{Checked, written, checked, all_checked, inits_checked, cases_checked}
 use Rattle.sx_core_grammar.specs.Names.{IsCalled, IsPrimitive}
 use Rattle.sx_core_grammar.specs.Spells.{word, before, form, one, two, three, is_itself, letrec_keyword, SpellsFormals, no_rest, rest, required}
 use Rattle.sx_core_grammar.specs.Spells as s
-use Rattle.sx_core_grammar.specs.Spells.{Spells, SpellsAll, SpellsInits, SpellsCases}
+use Rattle.sx_core_grammar.specs.Spells.{SpellsCode, SpellsAllCode, SpellsInits, SpellsCases}
 use Rattle.sx_core_grammar.specs.Lines.{definition, expression}
 use Rattle.sx_core_grammar.specs.Spellable.{HasName, IsSpellable}
 use Rattle.sx_core_grammar.specs.Laws.{OneSpelling, CodeIsSpelled, LinesAreSpelled}
 use Rattle.sx_core_grammar.proofs.Called.{called_is}
 
-module _ (names : Names) where
+module _ (names : VariableNames) where
   abbrev formals_spelling : List Label → Option Label → PlainDatum
   formals_spelling [] None = nil
   formals_spelling [] (Some l) = word (name_of names l)
@@ -82,7 +82,7 @@ module _ (names : Names) where
   either_false false d e h = refl
 
   mutual
-    only : {c : PlainCore} {d : PlainDatum} → Spells names c d → d ≡ spelling c
+    only : {c : PlainCore} {d : PlainDatum} → SpellsCode names c d → d ≡ spelling c
     only (s.constant d h) = either_true (is_itself d) (unspanned d) (form (codes "quote") (one (unspanned d))) h
     only (s.quotation d h) = either_false (is_itself d) (unspanned d) (form (codes "quote") (one (unspanned d))) h
     only (s.reference {l} {x} h) = called_word l x h
@@ -96,7 +96,7 @@ module _ (names : Names) where
     only (s.letrec ordered ps p) = λ i. form (letrec_keyword ordered) (two (inits_only ps i) (only p i))
     only (s.application p ps) = λ i. before (only p i) (all_only ps i)
 
-    all_only : {cs : PlainCores} {e : PlainDatum} → SpellsAll names cs e → e ≡ all_spelling cs
+    all_only : {cs : PlainCores} {e : PlainDatum} → SpellsAllCode names cs e → e ≡ all_spelling cs
     all_only s.no_more = refl
     all_only (s.more p ps) = λ i. before (only p i) (all_only ps i)
 
@@ -129,7 +129,7 @@ bind_ok : (r q : Checked) → (r >>= λ _. q) ≡ written → (r ≡ written) ×
 bind_ok (Ok u) q h = (refl, h)
 bind_ok (Err f) q h = absurd (cc)
 
-module _ (names : Names) where
+module _ (names : VariableNames) where
   abbrev Own : PlainCore → Type 0
   Own c = Each IsPrimitive (own_op c)
 
@@ -164,7 +164,7 @@ module _ (names : Names) where
   abbrev AskedCore : PlainCore → Type 0
   AskedCore c = Asked (binders c) (mentions c) (parts c) (checked c)
 
-  constant_is : (d : PlainDatum) (b : Bool) → is_itself d ≡ b → Spells names (core.quoted d) (if b then unspanned d else form (codes "quote") (one (unspanned d)))
+  constant_is : (d : PlainDatum) (b : Bool) → is_itself d ≡ b → SpellsCode names (core.quoted d) (if b then unspanned d else form (codes "quote") (one (unspanned d)))
   constant_is d true h = s.constant d h
   constant_is d false h = s.quotation d h
 
@@ -183,7 +183,7 @@ module _ (names : Names) where
   asked_behind fs bs ms ps k h = record { binds = right (HasName names) fs bs h.binds; says = h.says; formed = h.formed; named = h.named; clean = h.clean }
 
   mutual
-    spells : (c : PlainCore) → AskedCore c → Spells names c (spelling names c)
+    spells : (c : PlainCore) → AskedCore c → SpellsCode names c (spelling names c)
     spells (core.quoted d) h = constant_is d (is_itself d) refl
     spells (core.variable l) h = s.reference (called l h.says.0)
     spells (core.primitive o) h = s.primitive o h.named.0.0
@@ -218,7 +218,7 @@ module _ (names : Names) where
     spells (core.instance t p) h = absurd (not_written h.clean)
     spells (core.matching c cs p) h = absurd (not_written h.clean)
 
-    spells_all : (cs : PlainCores) → Asked (all_binders cs) (all_mentions cs) (all_parts cs) (all_checked cs) → SpellsAll names cs (all_spelling names cs)
+    spells_all : (cs : PlainCores) → Asked (all_binders cs) (all_mentions cs) (all_parts cs) (all_checked cs) → SpellsAllCode names cs (all_spelling names cs)
     spells_all core.none h = s.no_more
     spells_all (core.more c cs) h = s.more (spells c (first_of c cs h)) (spells_all cs (others_of c cs h))
 
@@ -240,7 +240,7 @@ module _ (names : Names) where
 
     -- the one case of a `lambda`
     spells_lambda : (n : CodeNo) (cs : PlainCases) → case_count cs ≡ 1 → Asked (case_binders cs) (case_mentions cs) (case_parts cs) (cases_checked cs)
-        → Spells names (core.procedure n cs true) (spelling names (core.procedure n cs true))
+        → SpellsCode names (core.procedure n cs true) (spelling names (core.procedure n cs true))
     spells_lambda n core.no_case e h = absurd (omega (arith, e))
     spells_lambda n (core.case f c core.no_case) e h =
         let k = asked_behind (formals_labels f) (binders c ++ []) (mentions c ++ []) (parts c ++ []) (checked c >>= λ _. written) h in

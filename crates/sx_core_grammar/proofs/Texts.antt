@@ -9,7 +9,7 @@ use Rattle.sx_base.specs.declared.atom.Atom.TheVariants as a
 use Rattle.sx_base.specs.declared.name.Label.{Label}
 use Rattle.sx_core.specs.Core.{PlainCore, PlainCores, PlainInits, PlainCases}
 use Rattle.sx_core.specs.declared.record.Line.{Line}
-use Rattle.sx_core_text.specs.CoreText.{Names, name_of, report_name, quote_text, quoted_text, further_names, rest_name, formals_of, text, further_text, inits_text, further_inits, cases_text, line_text}
+use Rattle.sx_core_text.specs.CoreText.{VariableNames, name_of, report_name, quote_text, quoted_text, further_names, rest_name, formals_of, text, further_text, inits_text, further_inits, cases_text, line_text}
 use Rattle.sx_printer.specs.DatumText.{datum_text, rest_text, elements_text, dotted_text}
 use Rattle.sx_printer.specs.Symbols.{symbol_text}
 use Rattle.std.proofs.lemmas.Bool.Decides.{nat_tests}
@@ -18,7 +18,7 @@ use Rattle.std.specs.Prelude.{nat_lt}
 use Rattle.sx_core_grammar.specs.Names.{IsCalled, AreGenerated}
 use Rattle.sx_core_grammar.specs.Spells.{word, before, form, one, two, three, is_itself, SpellsFormals, no_rest, rest, required}
 use Rattle.sx_core_grammar.specs.Spells as s
-use Rattle.sx_core_grammar.specs.Spells.{Spells, SpellsAll, SpellsInits, SpellsCases}
+use Rattle.sx_core_grammar.specs.Spells.{SpellsCode, SpellsAllCode, SpellsInits, SpellsCases}
 use Rattle.sx_core_grammar.specs.Lines.{SpellsLine, definition, expression}
 use Rattle.sx_core_grammar.specs.Laws.{TextsAreSpellings, LineTextsAreSpellings}
 use Rattle.sx_core_grammar.proofs.Plain.{plain_text}
@@ -127,7 +127,7 @@ named_below o h = grind (arith, nat_tests)
 report_is : (o : ℕ) → o < name_count → report_name o ≡ op_text o
 report_is o h = rw (named_below o h) refl
 
-module _ (names : Names) (good : AreGenerated names) where
+module _ (names : VariableNames) (good : AreGenerated names) where
   called : (l : Label) (x : List ℕ) → IsCalled names l x → name_of names l ≡ symbol_text x
   called l x h = called_text names good l x h
 
@@ -144,7 +144,7 @@ module _ (names : Names) (good : AreGenerated names) where
       ap (λ w. 0x28 ∷ (w ++ 0x29 ∷ [])) (append_assoc (name_of names l) (further_names names ls) (rest_name names r) ∙ (λ i. called l x h i ++ formals_rest others i))
 
   mutual
-    spelled_text : {c : PlainCore} {d : PlainDatum} → Spells names c d → text names c ≡ datum_text d
+    spelled_text : {c : PlainCore} {d : PlainDatum} → SpellsCode names c d → text names c ≡ datum_text d
     spelled_text (s.constant d h) = itself_text d h ∙ sym (unspanned_text d)
     spelled_text (s.quotation d h) =
         other_text d h ∙ (λ i. quote_text (sym (unspanned_text d) i)) ∙ ap (λ w. codes "(quote " ++ w) (one_part (datum_text (unspanned d)))
@@ -180,7 +180,7 @@ module _ (names : Names) (good : AreGenerated names) where
         ∙ sym (form_text (codes "letrec") (two d e) letrec_is)
     spelled_text (s.application p ps) = λ i. codes "(" ++ (spelled_text p i ++ all_text ps i) ++ codes ")"
 
-    all_text : {cs : PlainCores} {e : PlainDatum} → SpellsAll names cs e → further_text names cs ≡ rest_text e
+    all_text : {cs : PlainCores} {e : PlainDatum} → SpellsAllCode names cs e → further_text names cs ≡ rest_text e
     all_text s.no_more = refl
     all_text (s.more p ps) = λ i. codes " " ++ spelled_text p i ++ all_text ps i
 

@@ -5,10 +5,10 @@ use Rattle.std.specs.Prelude.{codes, slice_get}
 use Rattle.sx_base.specs.Gives.{◌>>=◌}
 use Rattle.sx_base.specs.Datum.{PlainDatum, unspanned, nil}
 use Rattle.sx_base.specs.declared.fault.Fault.{Fault}
-use Rattle.sx_core.specs.declared.record.LibRecord.{LibRecord}
+use Rattle.sx_core.specs.declared.record.CompiledLibrary.{CompiledLibrary}
 use Rattle.sx_core.specs.declared.record.Line.{Line}
 use Rattle.sx_core_laws.specs.Words.{Each}
-use Rattle.sx_core_text.specs.CoreText.{Names, line_text, lines_text}
+use Rattle.sx_core_text.specs.CoreText.{VariableNames, line_text, lines_text}
 use Rattle.sx_core_text.specs.Syntax.{Checked, written, line_checked, lines_checked}
 use Rattle.sx_core_text.specs.Whole.{record_checked, plan_checked, record_text, plan_text, all_names, all_text, core_text}
 use Rattle.sx_grammar.specs.Reads.{Reads, SpellingsAre}
@@ -47,15 +47,15 @@ ok_same : (v w : List ℕ) → ◌≡◌ {A = Result (List ℕ) Fault} (Ok v) (O
 ok_same v w e = cc
 
 -- the lines of the planned records, and those of the program
-lines_append : (names : Names) (ks ls : List Line) → lines_text names (ks ++ ls) ≡ lines_text names ks ++ lines_text names ls
+lines_append : (names : VariableNames) (ks ls : List Line) → lines_text names (ks ++ ls) ≡ lines_text names ks ++ lines_text names ls
 lines_append names [] ls = refl
 lines_append names (k ∷ ks) ls = ap (λ w. line_text names k ++ w) (lines_append names ks ls) ∙ sym (append_assoc (line_text names k) (lines_text names ks) (lines_text names ls))
 
-record_text_is : (names : Names) (r : Option LibRecord) → record_text names r ≡ lines_text names (record_lines r)
+record_text_is : (names : VariableNames) (r : Option CompiledLibrary) → record_text names r ≡ lines_text names (record_lines r)
 record_text_is names None = refl
 record_text_is names (Some r) = refl
 
-plan_text_is : (records : List LibRecord) (names : Names) (plan : List ℕ) (program : LibRecord)
+plan_text_is : (records : List CompiledLibrary) (names : VariableNames) (plan : List ℕ) (program : CompiledLibrary)
     → plan_text records names plan ++ lines_text names program.run ≡ lines_text names (all_lines records plan program)
 plan_text_is records names [] program = refl
 plan_text_is records names (p ∷ ps) program =
@@ -69,11 +69,11 @@ checked_append (l ∷ ks) ls h k =
     let p = checked_both (line_checked l) (lines_checked ks) h in
     both_written (line_checked l) (lines_checked (ks ++ ls)) p.0 (checked_append ks ls p.1 k)
 
-record_checked_is : (r : Option LibRecord) → record_checked r ≡ written → lines_checked (record_lines r) ≡ written
+record_checked_is : (r : Option CompiledLibrary) → record_checked r ≡ written → lines_checked (record_lines r) ≡ written
 record_checked_is None h = refl
 record_checked_is (Some r) h = h
 
-plan_checked_is : (records : List LibRecord) (plan : List ℕ) (program : LibRecord) → plan_checked records plan ≡ written → lines_checked program.run ≡ written
+plan_checked_is : (records : List CompiledLibrary) (plan : List ℕ) (program : CompiledLibrary) → plan_checked records plan ≡ written → lines_checked program.run ≡ written
     → lines_checked (all_lines records plan program) ≡ written
 plan_checked_is records [] program h k = k
 plan_checked_is records (p ∷ ps) program h k =
@@ -81,7 +81,7 @@ plan_checked_is records (p ∷ ps) program h k =
     checked_append (record_lines (slice_get records p)) (all_lines records ps program) (record_checked_is (slice_get records p) q.0) (plan_checked_is records ps program q.1 k)
 
 -- where there is a text, each line was found to have one
-pub whole_checked : (records : List LibRecord) (plan : List ℕ) (program : LibRecord) (whole : List ℕ) → core_text records plan program ≡ Ok whole → lines_checked (all_lines records plan program) ≡ written
+pub whole_checked : (records : List CompiledLibrary) (plan : List ℕ) (program : CompiledLibrary) (whole : List ℕ) → core_text records plan program ≡ Ok whole → lines_checked (all_lines records plan program) ≡ written
 whole_checked records plan program whole h =
     let text = all_text (all_names records plan program) records plan program in
     let p = bind_gives (plan_checked records plan) (lines_checked program.run >>= λ _. Ok text) whole h in
@@ -89,11 +89,11 @@ whole_checked records plan program whole h =
     plan_checked_is records plan program p.0 q.0
 
 -- each line is spelled
-pub record Spelled (names : Names) (ls : List Line) : Type 0 where
+pub record Spelled (names : VariableNames) (ls : List Line) : Type 0 where
   pub ds : List PlainDatum
   pub spelled : SpellLines names ls ds
 
-pub spell_lines : (names : Names) (ls : List Line) → lines_checked ls ≡ written → Each (IsLineSpellable names) ls → Spelled names ls
+pub spell_lines : (names : VariableNames) (ls : List Line) → lines_checked ls ≡ written → Each (IsLineSpellable names) ls → Spelled names ls
 spell_lines names [] k h = record { ds = []; spelled = no_line }
 spell_lines names (l ∷ ls) k h =
     let c = checked_both (line_checked l) (lines_checked ls) k in
@@ -101,7 +101,7 @@ spell_lines names (l ∷ ls) k h =
     let q = spell_lines names ls c.1 h.1 in
     record { ds = p.0 ∷ q.ds; spelled = further p.1 q.spelled }
 
-spelled_text : (names : Names) → AreGenerated names → {ls : List Line} {ds : List PlainDatum} → SpellLines names ls ds → lines_text names ls ≡ printed.lines_text ds
+spelled_text : (names : VariableNames) → AreGenerated names → {ls : List Line} {ds : List PlainDatum} → SpellLines names ls ds → lines_text names ls ≡ printed.lines_text ds
 spelled_text names good no_line = refl
 spelled_text names good (further {l} {ls} {d} {ds} p ps) = λ i. line_texts_are names l d good p i ++ spelled_text names good ps i
 
@@ -155,7 +155,7 @@ like (f ∷ fs) d ds h =
     let p = data_parts (unspanned f) d (map unspanned fs) ds h in
     record { first = f; others = fs; same = refl; head = p.0; tail = p.1 }
 
-read_as : SpellingsAre → (names : Names) (ls : List Line) (ds : List PlainDatum) (file text : List ℕ) (nesting : ℕ) → AreGenerated names → SpellLines names ls ds
+read_as : SpellingsAre → (names : VariableNames) (ls : List Line) (ds : List PlainDatum) (file text : List ℕ) (nesting : ℕ) → AreGenerated names → SpellLines names ls ds
     → text ≡ printed.lines_text (import_form ∷ ds) → All (IsReadable nesting) (import_form ∷ ds) → IsReadAs names ls file text nesting
 read_as spellings_are names ls ds file text nesting good spelled is all =
     let back = lines_back file nesting (import_form ∷ ds) all in
@@ -172,7 +172,7 @@ read_as spellings_are names ls ds file text nesting good spelled is all =
 
 pub core_text_back : SpellingsAre → CoreTextIsReadBack
 core_text_back spellings_are records plan program whole h =
-    let names : Names = all_names records plan program in
+    let names : VariableNames = all_names records plan program in
     let ls : List Line = all_lines records plan program in
     let p = bind_gives (plan_checked records plan) (lines_checked program.run >>= λ _. Ok (all_text names records plan program)) whole h.given in
     let q = bind_gives (lines_checked program.run) (Ok (all_text names records plan program)) whole p.1 in
@@ -186,7 +186,7 @@ core_text_back spellings_are records plan program whole h =
     record { enough = most.enough; read = λ file nesting l. read_as spellings_are names ls lines.ds file whole nesting h.generated lines.spelled text (most.read nesting l) }
 
 -- what the same data spell is the same by names
-lines_told : (names others : Names) → AreGenerated names → AreGenerated others → {ks ls : List Line} {ds es : List PlainDatum} → SpellLines names ks ds → SpellLines others ls es → ds ≡ es
+lines_told : (names others : VariableNames) → AreGenerated names → AreGenerated others → {ks ls : List Line} {ds es : List PlainDatum} → SpellLines names ks ds → SpellLines others ls es → ds ≡ es
     → map (line_by_names names) ks ≡ map (line_by_names others) ls
 lines_told names others good fine no_line no_line e = refl
 lines_told names others good fine no_line (further q qs) e = absurd (cc)

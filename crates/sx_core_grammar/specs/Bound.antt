@@ -5,17 +5,17 @@ use Rattle.sx_base.specs.declared.library.LibName.{LibName}
 use Rattle.sx_base.specs.declared.name.Label.{Label}
 use Rattle.sx_core.specs.declared.binding.Binding.{Binding}
 use Rattle.sx_core.specs.declared.binding.Binding.TheVariants as binding
-use Rattle.sx_core.specs.declared.record.LibRecord.{LibRecord}
+use Rattle.sx_core.specs.declared.record.CompiledLibrary.{CompiledLibrary}
 use Rattle.sx_core_laws.specs.Words.{Each, Among, Once}
 use Rattle.sx_core_text.specs.Whole.{all_names}
-use Rattle.sx_name_laws.specs.Variable.{Variable, IsNamed}
+use Rattle.sx_name_laws.specs.Variable.{NamedVariable, IsNamed}
 use Rattle.sx_core_grammar.specs.Names.{AreGenerated, TellApart}
 use Rattle.sx_core_grammar.specs.Spellable.{HasName}
 
 -- a label, and the variable that its name tells
 pub record Bound : Type 0 where
   pub label : Label
-  pub variable : Variable
+  pub variable : NamedVariable
 
 abbrev pub bound_by : Label → List ℕ → Option ℕ → List Bound
 bound_by l symbol None = []
@@ -28,16 +28,16 @@ bound_in (l, binding.Macro level expression) = []
 bound_in (l, binding.Core form) = []
 bound_in (l, binding.Primitive o) = []
 
-abbrev pub record_bindings : Option LibRecord → List (Label × Binding)
+abbrev pub record_bindings : Option CompiledLibrary → List (Label × Binding)
 record_bindings None = []
 record_bindings (Some r) = r.bindings
 
 -- those of the planned libraries, and those of the program
-abbrev pub all_bindings : List LibRecord → List ℕ → LibRecord → List (Label × Binding)
+abbrev pub all_bindings : List CompiledLibrary → List ℕ → CompiledLibrary → List (Label × Binding)
 all_bindings records [] program = program.bindings
 all_bindings records (p ∷ ps) program = record_bindings (slice_get records p) ++ all_bindings records ps program
 
-abbrev pub all_bound : List LibRecord → List ℕ → LibRecord → List Bound
+abbrev pub all_bound : List CompiledLibrary → List ℕ → CompiledLibrary → List Bound
 all_bound records plan program = flat_map bound_in (all_bindings records plan program)
 
 -- the library and the number of a variable
@@ -46,7 +46,7 @@ place b = (b.variable.library, b.variable.number)
 
 -- each variable that is bound with an index has a name
 abbrev pub BoundHaveNames : Type 0
-BoundHaveNames = (records : List LibRecord) (plan : List ℕ) (program : LibRecord) (b : Bound) → Among (all_bound records plan program) b
+BoundHaveNames = (records : List CompiledLibrary) (plan : List ℕ) (program : CompiledLibrary) (b : Bound) → Among (all_bound records plan program) b
     → HasName (all_names records plan program) b.label
 
 -- a variable of the program or of a library that has a name
@@ -55,8 +55,8 @@ IsTold b = IsNamed b.variable.library
 
 -- names are generated ones, and tell such variables apart where no two share library and number
 abbrev pub NamesAreGenerated : Type 0
-NamesAreGenerated = (records : List LibRecord) (plan : List ℕ) (program : LibRecord) → AreGenerated (all_names records plan program)
+NamesAreGenerated = (records : List CompiledLibrary) (plan : List ℕ) (program : CompiledLibrary) → AreGenerated (all_names records plan program)
 
 abbrev pub NamesTellApart : Type 0
-NamesTellApart = (records : List LibRecord) (plan : List ℕ) (program : LibRecord) → Each IsTold (all_bound records plan program)
+NamesTellApart = (records : List CompiledLibrary) (plan : List ℕ) (program : CompiledLibrary) → Each IsTold (all_bound records plan program)
     → Once (map place (all_bound records plan program)) → TellApart (all_names records plan program)

@@ -9,8 +9,8 @@ use Rattle.sx_base.specs.declared.op.Op.{Op}
 use Rattle.sx_core.specs.Core.{PlainCore, quoted, variable, primitive, two_armed, procedure, PlainCases, no_case, case}
 use Rattle.sx_core.specs.declared.record.Line.{Line}
 use Rattle.sx_core.specs.declared.record.Line.TheVariants as line
-use Rattle.sx_core_text.specs.CoreText.{Names, line_text}
-use Rattle.sx_core_grammar.specs.Spells.{word, before, form, one, two, three, Spells}
+use Rattle.sx_core_text.specs.CoreText.{VariableNames, line_text}
+use Rattle.sx_core_grammar.specs.Spells.{word, before, form, one, two, three, SpellsCode}
 use Rattle.sx_core_grammar.specs.Lines.{SpellsLine}
 use Rattle.sx_core_grammar.specs.SameCode.{any_number}
 
@@ -18,7 +18,7 @@ use Rattle.sx_core_grammar.specs.SameCode.{any_number}
 abbrev pub label_of : ℕ → Label
 label_of n = record { 0 = record { library = library.Program; number = n } }
 
-abbrev pub names : Names
+abbrev pub names : VariableNames
 names = (label_of 0, codes "%/f/0") ∷ (label_of 1, codes "%/x/1") ∷ (label_of 2, codes "%/y/2") ∷ []
 
 abbrev pub op : ℕ → PlainCore
@@ -44,6 +44,6 @@ pub record SpellingExamples : Type 0 where
   pub spelled : SpellsLine names define_f define_form
   pub text : line_text names define_f ≡ codes "(define %/f/0 (lambda (%/x/1 . %/y/2) (if %/x/1 (quote ()) #t)))\n"
   -- a variable without a name, the keyword `if` in the place of a primitive, and a `lambda` of two cases have no spelling
-  pub nameless : (d : PlainDatum) → Spells names (variable (label_of 3)) d → ⊥
-  pub keyword : (d : PlainDatum) → Spells names (op 2) d → ⊥
-  pub two_cases : (d : PlainDatum) → Spells names (procedure any_number (taking (quoted truth) (taking (quoted truth) no_case)) true) d → ⊥
+  pub nameless : (d : PlainDatum) → SpellsCode names (variable (label_of 3)) d → ⊥
+  pub keyword : (d : PlainDatum) → SpellsCode names (op 2) d → ⊥
+  pub two_cases : (d : PlainDatum) → SpellsCode names (procedure any_number (taking (quoted truth) (taking (quoted truth) no_case)) true) d → ⊥

@@ -5,12 +5,12 @@ use Rattle.sx_base.specs.Op.{name_count, is_keyword}
 use Rattle.sx_base.specs.declared.name.Label.{Label}
 use Rattle.sx_core.specs.Labels.{same_label}
 use Rattle.sx_core_laws.specs.Words.{Each}
-use Rattle.sx_core_text.specs.CoreText.{Names}
-use Rattle.sx_name_laws.specs.Variable.{Variable}
+use Rattle.sx_core_text.specs.CoreText.{VariableNames}
+use Rattle.sx_name_laws.specs.Variable.{NamedVariable}
 use Rattle.sx_name_laws.specs.Variable as variables
 
 -- the variable of this label is called so
-abbrev pub IsCalled : Names → Label → List ℕ → Type 0
+abbrev pub IsCalled : VariableNames → Label → List ℕ → Type 0
 IsCalled names l x = lookup (same_label l) names ≡ Some x
 
 -- a name that this implementation gives, of a procedure or another value, and no keyword
@@ -19,13 +19,13 @@ IsPrimitive o = (o < name_count) × (is_keyword o ≡ false)
 
 -- the generated name of a variable
 pub record IsGenerated (x : List ℕ) : Type 0 where
-  pub of : Variable
+  pub of : NamedVariable
   pub same : x ≡ variables.name_of of
 
 -- each name is a generated one
-abbrev pub AreGenerated : Names → Type 0
+abbrev pub AreGenerated : VariableNames → Type 0
 AreGenerated names = Each (λ (r : Label × List ℕ). IsGenerated r.1) names
 
 -- no two variables are called the same
-abbrev pub TellApart : Names → Type 0
+abbrev pub TellApart : VariableNames → Type 0
 TellApart names = (l m : Label) (x : List ℕ) → IsCalled names l x → IsCalled names m x → l ≡ m

@@ -9,7 +9,7 @@ use Rattle.sx_core.specs.declared.record.Line.{Line}
 use Rattle.sx_core.specs.declared.record.Line.TheVariants as line
 use Rattle.sx_core.specs.Core.{PlainCore, quoted, variable, primitive, one_armed, two_armed, assignment, sequence, procedure, letrec, call, instance, matching}
 use Rattle.sx_core.specs.Core.{PlainCores, none, more, PlainInits, no_init, init, PlainCases, no_case, case}
-use Rattle.sx_core_text.specs.CoreText.{Names, name_of}
+use Rattle.sx_core_text.specs.CoreText.{VariableNames, name_of}
 
 -- a number that all codes share
 abbrev pub any_number : CodeNo
@@ -56,10 +56,10 @@ abbrev pub label_called : List ℕ → Label
 label_called x = record { 0 = record { library = library.User (x ∷ []); number = 0 } }
 
 -- with its names for its variables
-abbrev pub by_names : Names → PlainCore → PlainCore
+abbrev pub by_names : VariableNames → PlainCore → PlainCore
 by_names names c = told (λ l. label_called (name_of names l)) c
 
-abbrev pub line_by_names : Names → Line → Line
+abbrev pub line_by_names : VariableNames → Line → Line
 line_by_names names l = line_told (λ m. label_called (name_of names m)) l
 
 -- with its own variables

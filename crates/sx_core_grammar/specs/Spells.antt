@@ -11,7 +11,7 @@ use Rattle.sx_base.specs.declared.op.Op.{Op}
 use Rattle.sx_core.specs.declared.formals.Formals.{Formals}
 use Rattle.sx_core.specs.Core as core
 use Rattle.sx_core.specs.Core.{PlainCore, PlainCores, PlainInits, PlainCases}
-use Rattle.sx_core_text.specs.CoreText.{Names}
+use Rattle.sx_core_text.specs.CoreText.{VariableNames}
 use Rattle.sx_core_grammar.specs.Names.{IsCalled, IsPrimitive}
 
 abbrev pub word : List ℕ → PlainDatum
@@ -54,7 +54,7 @@ abbrev pub letrec_keyword : Bool → List ℕ
 letrec_keyword true = codes "letrec*"
 letrec_keyword false = codes "letrec"
 
-module _ (names : Names) where
+module _ (names : VariableNames) where
   -- (x ...), (x ... . r) or r
   pub data SpellsFormals : List Label → Option Label → PlainDatum → Type 0 where
     no_rest : SpellsFormals [] None nil
@@ -62,41 +62,41 @@ module _ (names : Names) where
     required : {l : Label} {x : List ℕ} {ls : List Label} {r : Option Label} {e : PlainDatum} → IsCalled names l x → SpellsFormals ls r e → SpellsFormals (l ∷ ls) r (before (word x) e)
 
   mutual
-    pub data Spells : PlainCore → PlainDatum → Type 0 where
+    pub data SpellsCode : PlainCore → PlainDatum → Type 0 where
       -- a constant that evaluates to itself, and (quote d) of any other
-      constant : (d : PlainDatum) → is_itself d ≡ true → Spells (core.quoted d) (unspanned d)
-      quotation : (d : PlainDatum) → is_itself d ≡ false → Spells (core.quoted d) (form (codes "quote") (one (unspanned d)))
+      constant : (d : PlainDatum) → is_itself d ≡ true → SpellsCode (core.quoted d) (unspanned d)
+      quotation : (d : PlainDatum) → is_itself d ≡ false → SpellsCode (core.quoted d) (form (codes "quote") (one (unspanned d)))
       -- the name of a variable, and the report name of a primitive
-      reference : {l : Label} {x : List ℕ} → IsCalled names l x → Spells (core.variable l) (word x)
-      primitive : (o : Op) → IsPrimitive o.0 → Spells (core.primitive o) (word (op_text o.0))
+      reference : {l : Label} {x : List ℕ} → IsCalled names l x → SpellsCode (core.variable l) (word x)
+      primitive : (o : Op) → IsPrimitive o.0 → SpellsCode (core.primitive o) (word (op_text o.0))
       -- (if t c) and (if t c a)
-      one_armed : {t c : PlainCore} {d e : PlainDatum} → Spells t d → Spells c e → Spells (core.one_armed t c) (form (codes "if") (two d e))
-      two_armed : {t c a : PlainCore} {d e f : PlainDatum} → Spells t d → Spells c e → Spells a f → Spells (core.two_armed t c a) (form (codes "if") (three d e f))
+      one_armed : {t c : PlainCore} {d e : PlainDatum} → SpellsCode t d → SpellsCode c e → SpellsCode (core.one_armed t c) (form (codes "if") (two d e))
+      two_armed : {t c a : PlainCore} {d e f : PlainDatum} → SpellsCode t d → SpellsCode c e → SpellsCode a f → SpellsCode (core.two_armed t c a) (form (codes "if") (three d e f))
       -- (set! x e)
-      assignment : {l : Label} {x : List ℕ} {c : PlainCore} {d : PlainDatum} → IsCalled names l x → Spells c d → Spells (core.assignment l c) (form (codes "set!") (two (word x) d))
+      assignment : {l : Label} {x : List ℕ} {c : PlainCore} {d : PlainDatum} → IsCalled names l x → SpellsCode c d → SpellsCode (core.assignment l c) (form (codes "set!") (two (word x) d))
       -- (begin e e ...)
-      sequence : {c : PlainCore} {cs : PlainCores} {d e : PlainDatum} → Spells c d → SpellsAll cs e → Spells (core.sequence (core.more c cs)) (form (codes "begin") (before d e))
+      sequence : {c : PlainCore} {cs : PlainCores} {d e : PlainDatum} → SpellsCode c d → SpellsAllCode cs e → SpellsCode (core.sequence (core.more c cs)) (form (codes "begin") (before d e))
       -- (lambda formals e), whatever the number of its code
-      lambda : {f : Formals} {c : PlainCore} {d e : PlainDatum} (n : CodeNo) → SpellsFormals f.required f.rest d → Spells c e
-          → Spells (core.procedure n (core.case f c core.no_case) true) (form (codes "lambda") (two d e))
+      lambda : {f : Formals} {c : PlainCore} {d e : PlainDatum} (n : CodeNo) → SpellsFormals f.required f.rest d → SpellsCode c e
+          → SpellsCode (core.procedure n (core.case f c core.no_case) true) (form (codes "lambda") (two d e))
       -- (case-lambda (formals e) ...)
-      case_lambda : {cs : PlainCases} {e : PlainDatum} (n : CodeNo) → SpellsCases cs e → Spells (core.procedure n cs false) (form (codes "case-lambda") e)
+      case_lambda : {cs : PlainCases} {e : PlainDatum} (n : CodeNo) → SpellsCases cs e → SpellsCode (core.procedure n cs false) (form (codes "case-lambda") e)
       -- (letrec ((x e) ...) e), or letrec* where it is in order
-      letrec : {is : PlainInits} {c : PlainCore} {d e : PlainDatum} (ordered : Bool) → SpellsInits is d → Spells c e
-          → Spells (core.letrec ordered is c) (form (letrec_keyword ordered) (two d e))
+      letrec : {is : PlainInits} {c : PlainCore} {d e : PlainDatum} (ordered : Bool) → SpellsInits is d → SpellsCode c e
+          → SpellsCode (core.letrec ordered is c) (form (letrec_keyword ordered) (two d e))
       -- (operator operand ...)
-      application : {c : PlainCore} {cs : PlainCores} {d e : PlainDatum} → Spells c d → SpellsAll cs e → Spells (core.call c cs) (before d e)
+      application : {c : PlainCore} {cs : PlainCores} {d e : PlainDatum} → SpellsCode c d → SpellsAllCode cs e → SpellsCode (core.call c cs) (before d e)
 
-    pub data SpellsAll : PlainCores → PlainDatum → Type 0 where
-      no_more : SpellsAll core.none nil
-      more : {c : PlainCore} {cs : PlainCores} {d e : PlainDatum} → Spells c d → SpellsAll cs e → SpellsAll (core.more c cs) (before d e)
+    pub data SpellsAllCode : PlainCores → PlainDatum → Type 0 where
+      no_more : SpellsAllCode core.none nil
+      more : {c : PlainCore} {cs : PlainCores} {d e : PlainDatum} → SpellsCode c d → SpellsAllCode cs e → SpellsAllCode (core.more c cs) (before d e)
 
     pub data SpellsInits : PlainInits → PlainDatum → Type 0 where
       no_init : SpellsInits core.no_init nil
-      init : {l : Label} {x : List ℕ} {c : PlainCore} {is : PlainInits} {d e : PlainDatum} → IsCalled names l x → Spells c d → SpellsInits is e
+      init : {l : Label} {x : List ℕ} {c : PlainCore} {is : PlainInits} {d e : PlainDatum} → IsCalled names l x → SpellsCode c d → SpellsInits is e
           → SpellsInits (core.init l c is) (before (two (word x) d) e)
 
     pub data SpellsCases : PlainCases → PlainDatum → Type 0 where
       no_case : SpellsCases core.no_case nil
-      case : {f : Formals} {c : PlainCore} {cs : PlainCases} {d e g : PlainDatum} → SpellsFormals f.required f.rest d → Spells c e → SpellsCases cs g
+      case : {f : Formals} {c : PlainCore} {cs : PlainCases} {d e g : PlainDatum} → SpellsFormals f.required f.rest d → SpellsCode c e → SpellsCases cs g
           → SpellsCases (core.case f c cs) (before (two d e) g)

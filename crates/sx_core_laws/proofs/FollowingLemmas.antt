@@ -6,7 +6,7 @@ use Rattle.sx_base.specs.declared.name.Label.{Label}
 use Rattle.sx_core.specs.Core.{PlainCore, quoted, variable, primitive, one_armed, two_armed, assignment, sequence, procedure, letrec, call, instance, matching}
 use Rattle.sx_core.specs.Core.{PlainCores, none, more, PlainInits, no_init, init, PlainCases, no_case, case, PlainClauses, no_clause, clause, fended}
 use Rattle.sx_core.specs.References.{variables, formals_labels}
-use Rattle.sx_core.specs.declared.record.LibRecord.{LibRecord}
+use Rattle.sx_core.specs.declared.record.CompiledLibrary.{CompiledLibrary}
 use Rattle.sx_core.specs.declared.record.Line.{Line}
 use Rattle.sx_core_laws.specs.Words.{Each, Among}
 use Rattle.sx_core_laws.specs.Parts.{init_labels}
@@ -65,22 +65,22 @@ lines_more : (ls ms : List Label) (run : List Line) → Within ls ms → Each (S
 lines_more ls ms [] w h = tt
 lines_more ls ms (l ∷ run) w h = (closed_more ls ms (line_core l) w h.0.1, lines_more ls ms run w h.1)
 
-defined_parts : (xs ys : List LibRecord) → flat_map defined (xs ++ ys) ≡ flat_map defined xs ++ flat_map defined ys
+defined_parts : (xs ys : List CompiledLibrary) → flat_map defined (xs ++ ys) ≡ flat_map defined xs ++ flat_map defined ys
 defined_parts [] ys = refl
 defined_parts (x ∷ xs) ys = ap (λ ls. defined x ++ ls) (defined_parts xs ys) ∙ sym (append_assoc (defined x) (flat_map defined xs) (flat_map defined ys))
 
 -- what a record and those before it define is among all that is defined
-there : (earlier : List LibRecord) (r : LibRecord) (rs : List LibRecord) → Within (flat_map defined earlier ++ defined r) (flat_map defined (earlier ++ r ∷ rs))
+there : (earlier : List CompiledLibrary) (r : CompiledLibrary) (rs : List CompiledLibrary) → Within (flat_map defined earlier ++ defined r) (flat_map defined (earlier ++ r ∷ rs))
 there earlier r rs =
     subst (λ (ls : List Label). Within (flat_map defined earlier ++ defined r) ls) (sym (defined_parts earlier (r ∷ rs)))
     (behind (flat_map defined earlier) (defined r) (defined r ++ flat_map defined rs) (among_left (defined r) (flat_map defined rs)))
 
-all_closed : (earlier rs : List LibRecord) (ls : List Label) → ls ≡ flat_map defined (earlier ++ rs) → AllFollow earlier rs → Each (LinesClosed ls) rs
+all_closed : (earlier rs : List CompiledLibrary) (ls : List Label) → ls ≡ flat_map defined (earlier ++ rs) → AllFollow earlier rs → Each (LinesClosed ls) rs
 all_closed earlier [] ls e h = tt
 all_closed earlier (r ∷ rs) ls e h =
     let visible : List Label = flat_map defined earlier ++ defined r in
     let w : Within visible ls = subst (λ (ms : List Label). Within visible ms) (sym e) (there earlier r rs) in
-    let next : ls ≡ flat_map defined ((earlier ++ r ∷ []) ++ rs) = e ∙ ap (λ (xs : List LibRecord). flat_map defined xs) (sym (append_assoc earlier (r ∷ []) rs)) in
+    let next : ls ≡ flat_map defined ((earlier ++ r ∷ []) ++ rs) = e ∙ ap (λ (xs : List CompiledLibrary). flat_map defined xs) (sym (append_assoc earlier (r ∷ []) rs)) in
     (lines_more visible ls r.run w h.0.code.lines, all_closed (earlier ++ r ∷ []) rs ls next h.1)
 
 pub followers_closed : FollowersAreClosed

@@ -16,7 +16,7 @@ use Rattle.sx_core.specs.Core.{PlainCore}
 use Rattle.sx_core.specs.Labels.{same_label}
 use Rattle.sx_core.specs.declared.binding.Binding.{Binding}
 use Rattle.sx_core.specs.declared.binding.Binding.TheVariants as binding
-use Rattle.sx_core.specs.declared.record.LibRecord.{LibRecord}
+use Rattle.sx_core.specs.declared.record.CompiledLibrary.{CompiledLibrary}
 use Rattle.sx_core_laws.specs.Words.{Each, Among, Once, each, among, once}
 use Rattle.sx_core_laws.specs.Scope.{closed}
 use Rattle.sx_core_laws.specs.WellMade.{is_well_made, same_code}
@@ -51,7 +51,7 @@ there_decides (Some n) = true_decides
 suits_decides : (ls : List Label) (c : PlainCore) → Decides (suits ls c) (Suits ls c)
 suits_decides ls c = Decides-and (is_well_made [] c) (closed ls c) (well_made_decides [] c) (closed_decides ls c)
 
-module _ (r : LibRecord) where
+module _ (r : CompiledLibrary) where
   own_decides : (n : Named) → Decides (is_own r n) (IsOwn r n)
   own_decides n = same_library_decides n.library r.name
 
@@ -100,7 +100,7 @@ module _ (r : LibRecord) where
   binds_out : BindsWhatItDefines r → Binds
   binds_out b = (b.kinds, (b.tops_defined, b.defined_top))
 
-module _ (r : LibRecord) (earlier : List LibRecord) where
+module _ (r : CompiledLibrary) (earlier : List CompiledLibrary) where
   abbrev New : Type 0
   New = (Among (names_of earlier) r.name → ⊥) × ((r.name ≡ library.Core → ⊥) × ((r.name ≡ library.Prelude → ⊥) × Once (export_names r)))
 

@@ -5,7 +5,7 @@ use Rattle.std.specs.Bool.{Decides}
 use Rattle.std.proofs.lemmas.Bool.Decides.{Decides-and}
 use Rattle.sx_base.specs.declared.name.Label.{Label}
 use Rattle.sx_core.specs.Labels.{same_label}
-use Rattle.sx_core.specs.declared.record.LibRecord.{LibRecord}
+use Rattle.sx_core.specs.declared.record.CompiledLibrary.{CompiledLibrary}
 use Rattle.sx_core_laws.specs.Words.{once}
 use Rattle.sx_core_laws.specs.Scope.{Closed, closed}
 use Rattle.sx_core_laws.specs.Records.{line_core, defined, run_binders, LinesClosed, lines_closed, record_names, same_text}
@@ -13,7 +13,7 @@ use Rattle.sx_core_laws.specs.Decided.{RecordsClosedIsDecided, BoundOnceIsDecide
 use Rattle.sx_core_laws.proofs.Decisions.{each_decides, once_decides, label_decides, text_decides}
 use Rattle.sx_core_laws.proofs.ScopeLemmas.{closed_decides}
 
-lines_decide : (ls : List Label) (r : LibRecord) → Decides (lines_closed ls r) (LinesClosed ls r)
+lines_decide : (ls : List Label) (r : CompiledLibrary) → Decides (lines_closed ls r) (LinesClosed ls r)
 lines_decide ls r = each_decides (λ l. closed ls (line_core l)) (λ l. Closed ls (line_core l)) (λ l. closed_decides ls (line_core l)) r.run
 
 pub records_decide : RecordsClosedIsDecided

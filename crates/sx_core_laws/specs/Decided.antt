@@ -3,7 +3,7 @@ use Rattle.std.specs.Prelude.{List}
 use Rattle.std.specs.Bool.{Decides}
 use Rattle.sx_base.specs.declared.name.Label.{Label}
 use Rattle.sx_core.specs.Core.{PlainCore}
-use Rattle.sx_core.specs.declared.record.LibRecord.{LibRecord}
+use Rattle.sx_core.specs.declared.record.CompiledLibrary.{CompiledLibrary}
 use Rattle.sx_core_laws.specs.Scope.{Closed, closed}
 use Rattle.sx_core_laws.specs.Templates.{Depths}
 use Rattle.sx_core_laws.specs.WellMade.{IsWellMade, is_well_made}
@@ -17,10 +17,10 @@ abbrev pub WellMadeIsDecided : Type 0
 WellMadeIsDecided = (given : Depths) (c : PlainCore) → Decides (is_well_made given c) (IsWellMade given c)
 
 abbrev pub RecordsClosedIsDecided : Type 0
-RecordsClosedIsDecided = (rs : List LibRecord) → Decides (are_closed rs) (AreClosed rs)
+RecordsClosedIsDecided = (rs : List CompiledLibrary) → Decides (are_closed rs) (AreClosed rs)
 
 abbrev pub BoundOnceIsDecided : Type 0
-BoundOnceIsDecided = (rs : List LibRecord) → Decides (are_bound_once rs) (AreBoundOnce rs)
+BoundOnceIsDecided = (rs : List CompiledLibrary) → Decides (are_bound_once rs) (AreBoundOnce rs)
 
 abbrev pub FollowsIsDecided : Type 0
-FollowsIsDecided = (r : LibRecord) (earlier : List LibRecord) → Decides (follows r earlier) (Follows r earlier)
+FollowsIsDecided = (r : CompiledLibrary) (earlier : List CompiledLibrary) → Decides (follows r earlier) (Follows r earlier)

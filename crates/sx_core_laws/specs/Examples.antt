@@ -20,7 +20,7 @@ use Rattle.sx_core.specs.Template as template
 use Rattle.sx_core.specs.Template.{PlainTemplate}
 use Rattle.sx_core.specs.declared.binding.Binding.{Binding}
 use Rattle.sx_core.specs.declared.binding.Binding.TheVariants as binding
-use Rattle.sx_core.specs.declared.record.LibRecord.{LibRecord}
+use Rattle.sx_core.specs.declared.record.CompiledLibrary.{CompiledLibrary}
 use Rattle.sx_core.specs.declared.record.Line.{Line}
 use Rattle.sx_core.specs.declared.record.Line.TheVariants as line
 use Rattle.sx_core_laws.specs.Scope.{closed}
@@ -128,15 +128,15 @@ variable_row l symbol index top = (l, binding.Variable (record { symbol = symbol
 abbrev keyword_row : Label → Option PlainCore → Label × Binding
 keyword_row l expression = (l, binding.Macro 0 expression)
 
-abbrev recorded : LibName → List (List ℕ × Label) → List (Label × Binding) → List Line → List LibName → LibRecord
+abbrev recorded : LibName → List (List ℕ × Label) → List (Label × Binding) → List Line → List LibName → CompiledLibrary
 recorded l exports bindings run refs = record { path = codes "p.sps"; name = l; version = []; exports = exports; bindings = bindings; frames = []; run = run; refs = refs }
 
 -- (define x 1)
-abbrev defines_x : LibRecord
+abbrev defines_x : CompiledLibrary
 defines_x = recorded library.Program [] (variable_row x (codes "x") (Some 0) true ∷ []) (line.Define x one ∷ []) []
 
 -- two definitions, by their labels and indices
-abbrev defines_two : Label → ℕ → LibRecord
+abbrev defines_two : Label → ℕ → CompiledLibrary
 defines_two l n = recorded library.Program [] (variable_row x (codes "x") (Some 0) true ∷ variable_row l (codes "x") (Some n) true ∷ []) (line.Define x one ∷ line.Define l one ∷ []) []
 
 pub record RecordExamples : Type 0 where
@@ -156,11 +156,11 @@ util = library.User (codes "util" ∷ [])
 abbrev z : Label
 z = label_of util 0
 
-abbrev defines_z : LibRecord
+abbrev defines_z : CompiledLibrary
 defines_z = recorded util ((codes "z", z) ∷ []) (variable_row z (codes "z") (Some 0) true ∷ []) (line.Define z one ∷ []) []
 
 -- a program whose line mentions that variable
-abbrev mentions_z : List LibName → LibRecord
+abbrev mentions_z : List LibName → CompiledLibrary
 mentions_z refs = recorded library.Program [] [] (line.Expr (variable z) ∷ []) refs
 
 pub record FollowsExamples : Type 0 where

@@ -1,13 +1,13 @@
 -- Records that follow one another.
 use Rattle.std.specs.Prelude.{List, [], ◌∷◌, ◌++◌}
-use Rattle.sx_core.specs.declared.record.LibRecord.{LibRecord}
+use Rattle.sx_core.specs.declared.record.CompiledLibrary.{CompiledLibrary}
 use Rattle.sx_core_laws.specs.Records.{AreClosed}
 use Rattle.sx_core_laws.specs.Follows.{Follows}
 
 -- behind some records, each of these follows those before it
-abbrev pub AllFollow : List LibRecord → List LibRecord → Type 0
+abbrev pub AllFollow : List CompiledLibrary → List CompiledLibrary → Type 0
 AllFollow earlier [] = Unit {0}
 AllFollow earlier (r ∷ rs) = Follows r earlier × AllFollow (earlier ++ r ∷ []) rs
 
 abbrev pub FollowersAreClosed : Type 0
-FollowersAreClosed = (rs : List LibRecord) → AllFollow [] rs → AreClosed rs
+FollowersAreClosed = (rs : List CompiledLibrary) → AllFollow [] rs → AreClosed rs

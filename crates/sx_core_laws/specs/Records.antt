@@ -8,7 +8,7 @@ use Rattle.sx_core.specs.Labels.{same_label}
 use Rattle.sx_core.specs.References.{binders}
 use Rattle.sx_core.specs.declared.binding.Binding.{Binding}
 use Rattle.sx_core.specs.declared.binding.Binding.TheVariants as binding
-use Rattle.sx_core.specs.declared.record.LibRecord.{LibRecord}
+use Rattle.sx_core.specs.declared.record.CompiledLibrary.{CompiledLibrary}
 use Rattle.sx_core.specs.declared.record.Line.{Line}
 use Rattle.sx_core.specs.declared.record.Line.TheVariants as line
 use Rattle.sx_names.specs.Generated.{generated_name}
@@ -28,23 +28,23 @@ line_labels (line.Expr c) = []
 abbrev pub line_binders : Line → List Label
 line_binders r = line_labels r ++ binders (line_core r)
 
-abbrev pub defined : LibRecord → List Label
+abbrev pub defined : CompiledLibrary → List Label
 defined r = flat_map line_labels r.run
 
-abbrev pub run_binders : LibRecord → List Label
+abbrev pub run_binders : CompiledLibrary → List Label
 run_binders r = flat_map line_binders r.run
 
 -- each run line is closed under the labels that their lines define
-abbrev pub LinesClosed : List Label → LibRecord → Type 0
+abbrev pub LinesClosed : List Label → CompiledLibrary → Type 0
 LinesClosed ls r = Each (λ l. Closed ls (line_core l)) r.run
 
-abbrev pub lines_closed : List Label → LibRecord → Bool
+abbrev pub lines_closed : List Label → CompiledLibrary → Bool
 lines_closed ls r = each (λ l. closed ls (line_core l)) r.run
 
-abbrev pub AreClosed : List LibRecord → Type 0
+abbrev pub AreClosed : List CompiledLibrary → Type 0
 AreClosed rs = Each (LinesClosed (flat_map defined rs)) rs
 
-abbrev pub are_closed : List LibRecord → Bool
+abbrev pub are_closed : List CompiledLibrary → Bool
 are_closed rs = each (lines_closed (flat_map defined rs)) rs
 
 abbrev pub indexed_name : Label → List ℕ → Option ℕ → List (List ℕ)
@@ -59,15 +59,15 @@ names_bound (l, binding.Macro level expression) = []
 names_bound (l, binding.Core form) = []
 names_bound (l, binding.Primitive o) = []
 
-abbrev pub record_names : LibRecord → List (List ℕ)
+abbrev pub record_names : CompiledLibrary → List (List ℕ)
 record_names r = flat_map names_bound r.bindings
 
 abbrev pub same_text : List ℕ → List ℕ → Bool
 same_text a b = pointwise nat_eq a b
 
 -- no label has two binders, and no two variables of level 0 have one generated name
-abbrev pub AreBoundOnce : List LibRecord → Type 0
+abbrev pub AreBoundOnce : List CompiledLibrary → Type 0
 AreBoundOnce rs = Once (flat_map run_binders rs) × Once (flat_map record_names rs)
 
-abbrev pub are_bound_once : List LibRecord → Bool
+abbrev pub are_bound_once : List CompiledLibrary → Bool
 are_bound_once rs = once same_label (flat_map run_binders rs) && once same_text (flat_map record_names rs)

@@ -16,11 +16,11 @@ use Rattle.sx_core.specs.Core.{PlainCore, quoted, variable, primitive, one_armed
 use Rattle.sx_core.specs.Core.{PlainCores, none, more, PlainInits, no_init, init, PlainCases, no_case, case}
 
 -- the text of each variable's name
-abbrev pub Names : Type 0
-Names = List (Label × List ℕ)
+abbrev pub VariableNames : Type 0
+VariableNames = List (Label × List ℕ)
 
 -- the name of a variable; one that has none is written as nothing
-abbrev pub name_of : Names → Label → List ℕ
+abbrev pub name_of : VariableNames → Label → List ℕ
 name_of names l = unwrap_or (lookup (same_label l) names) []
 
 -- the report name of a primitive; past the table of names there is none
@@ -43,25 +43,25 @@ quoted_text (datum.pair s d e) = quote_text (datum_text (datum.pair s d e))
 quoted_text (datum.vector s d) = quote_text (datum_text (datum.vector s d))
 
 -- names, each behind a space
-abbrev pub further_names : Names → List Label → List ℕ
+abbrev pub further_names : VariableNames → List Label → List ℕ
 further_names names [] = []
 further_names names (l ∷ ls) = codes " " ++ name_of names l ++ further_names names ls
 
 -- the name of the rest behind those that are required
-abbrev pub rest_name : Names → Option Label → List ℕ
+abbrev pub rest_name : VariableNames → Option Label → List ℕ
 rest_name names None = []
 rest_name names (Some l) = codes " . " ++ name_of names l
 
-abbrev pub lone_rest : Names → Option Label → List ℕ
+abbrev pub lone_rest : VariableNames → Option Label → List ℕ
 lone_rest names None = codes "()"
 lone_rest names (Some l) = name_of names l
 
 -- (N ...), (N ... . N) or N
-abbrev pub formals_of : Names → List Label → Option Label → List ℕ
+abbrev pub formals_of : VariableNames → List Label → Option Label → List ℕ
 formals_of names [] rest = lone_rest names rest
 formals_of names (l ∷ ls) rest = codes "(" ++ name_of names l ++ further_names names ls ++ rest_name names rest ++ codes ")"
 
-abbrev pub formals_text : Names → Formals → List ℕ
+abbrev pub formals_text : VariableNames → Formals → List ℕ
 formals_text names f = formals_of names f.required f.rest
 
 abbrev pub letrec_word : Bool → List ℕ
@@ -82,7 +82,7 @@ case_close false = codes ")"
 
 -- forms of `syntax` and `syntax-case` have no text
 abbrev mutual
-  pub text : Names → PlainCore → List ℕ
+  pub text : VariableNames → PlainCore → List ℕ
   text names (quoted d) = quoted_text d
   text names (variable l) = name_of names l
   text names (primitive o) = report_name o.0
@@ -97,27 +97,27 @@ abbrev mutual
   text names (matching c cs s) = []
 
   -- each behind a space
-  pub further_text : Names → PlainCores → List ℕ
+  pub further_text : VariableNames → PlainCores → List ℕ
   further_text names none = []
   further_text names (more c cs) = codes " " ++ text names c ++ further_text names cs
 
-  pub inits_text : Names → PlainInits → List ℕ
+  pub inits_text : VariableNames → PlainInits → List ℕ
   inits_text names no_init = []
   inits_text names (init l c is) = codes "(" ++ name_of names l ++ codes " " ++ text names c ++ codes ")" ++ further_inits names is
 
-  pub further_inits : Names → PlainInits → List ℕ
+  pub further_inits : VariableNames → PlainInits → List ℕ
   further_inits names no_init = []
   further_inits names (init l c is) = codes " (" ++ name_of names l ++ codes " " ++ text names c ++ codes ")" ++ further_inits names is
 
   -- the one case of a `lambda` has no parentheses of its own
-  pub cases_text : Names → Bool → PlainCases → List ℕ
+  pub cases_text : VariableNames → Bool → PlainCases → List ℕ
   cases_text names plain no_case = []
   cases_text names plain (case f c cs) = case_open plain ++ formals_text names f ++ codes " " ++ text names c ++ case_close plain ++ cases_text names plain cs
 
-abbrev pub line_text : Names → Line → List ℕ
+abbrev pub line_text : VariableNames → Line → List ℕ
 line_text names (line.Define l c) = codes "(define " ++ name_of names l ++ codes " " ++ text names c ++ codes ")\n"
 line_text names (line.Expr c) = text names c ++ codes "\n"
 
-abbrev pub lines_text : Names → List Line → List ℕ
+abbrev pub lines_text : VariableNames → List Line → List ℕ
 lines_text names [] = []
 lines_text names (l ∷ ls) = line_text names l ++ lines_text names ls

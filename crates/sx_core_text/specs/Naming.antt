@@ -7,20 +7,20 @@ use Rattle.sx_core.specs.declared.binding.Binding.{Binding}
 use Rattle.sx_core.specs.declared.binding.Binding.TheVariants as binding
 use Rattle.sx_core.specs.declared.binding.VarInfo.{VarInfo}
 use Rattle.sx_core.specs.Labels.{same_label}
-use Rattle.sx_core_text.specs.CoreText.{Names}
+use Rattle.sx_core_text.specs.CoreText.{VariableNames}
 
 -- a variable that is bound at level 0 has an index, and with it a name
-abbrev pub with_index : Names → Label → List ℕ → Option ℕ → Names
+abbrev pub with_index : VariableNames → Label → List ℕ → Option ℕ → VariableNames
 with_index names l symbol None = names
 with_index names l symbol (Some n) = insert_entry same_label names l (generated_name l.0.library symbol n)
 
-abbrev pub with_name : Names → Label → Binding → Names
+abbrev pub with_name : VariableNames → Label → Binding → VariableNames
 with_name names l (binding.Variable v) = with_index names l v.symbol v.index
 with_name names l (binding.PatternVariable level depth) = names
 with_name names l (binding.Macro level expression) = names
 with_name names l (binding.Core form) = names
 with_name names l (binding.Primitive o) = names
 
-abbrev pub with_names : Names → List (Label × Binding) → Names
+abbrev pub with_names : VariableNames → List (Label × Binding) → VariableNames
 with_names names [] = names
 with_names names (b ∷ bs) = with_names (with_name names b.0 b.1) bs

@@ -15,29 +15,29 @@ use sx_names::put_generated_name;
 
 /// The texts of variables' names.
 #[derive(Drop)]
-pub struct Names {
+pub struct VariableNames {
     alloc: Global,
     texts: NameMap<Label, Symbol>,
 }
 
-impl Model for Names {
+impl Model for VariableNames {
     ghost use Rattle.std.specs.Coded.{coded_list, coded×, coded_ℕ};
     ghost use Rattle.sx_base.specs.contracts.name.Label as labels;
-    ghost use Rattle.sx_core_text.specs.CoreText.{Names};
+    ghost use Rattle.sx_core_text.specs.CoreText.{VariableNames};
 
-    ghost Value = { Names };
+    ghost Value = { VariableNames };
 
     ghost coded = { coded_list (coded× labels.the_row.coded (coded_list coded_ℕ)) };
 
     ghost view = { λ n. n.texts.entries };
 }
 
-impl Names {
+impl VariableNames {
     /// No names. It takes no memory.
-    pub fn new(alloc: Global) -> Names
+    pub fn new(alloc: Global) -> VariableNames
         ensures { result ≡ [] }
     {
-        Names {
+        VariableNames {
             alloc,
             texts: new_map(alloc),
         }

@@ -7,7 +7,7 @@ ghost use Rattle.sx_core.specs.CoreView.{inits, cases};
 ghost use Rattle.sx_printer.specs.DatumText.{datum_text};
 ghost use Rattle.sx_core_text.specs.CoreText.{report_name, quote_text, quoted_text, quoted_atom, formals_text, formals_of, lone_rest, rest_name, further_names, name_of, letrec_word, lambda_word, case_open, case_close, text, further_text, inits_text, further_inits, cases_text, line_text, lines_text};
 
-use crate::names::Names;
+use crate::names::VariableNames;
 use std::alloc::AllocError;
 use sx_base::atom::Atom;
 use sx_base::datum::{Datum, Node};
@@ -18,7 +18,7 @@ use sx_core::formals::Formals;
 use sx_core::record::Line;
 use sx_printer::datum_text::{put_atom, put_datum};
 
-fn put_name(out: &mut String, names: &Names, label: &Label) -> Result<(), AllocError>
+fn put_name(out: &mut String, names: &VariableNames, label: &Label) -> Result<(), AllocError>
     ensures { OnOk result (string_bytes out.new ≡ string_bytes out.old ++ name_of names.now label.now) }
 {
     out.push_str(names.name(label))
@@ -64,7 +64,7 @@ fn put_quoted(out: &mut String, datum: &Datum) -> Result<(), AllocError>
     }
 }
 
-fn put_further_names(out: &mut String, names: &Names, labels: &[Label]) -> Result<(), AllocError>
+fn put_further_names(out: &mut String, names: &VariableNames, labels: &[Label]) -> Result<(), AllocError>
     ensures { OnOk result (string_bytes out.new ≡ string_bytes out.old ++ further_names names.now labels.now) }
 {
     for label in labels {
@@ -74,7 +74,7 @@ fn put_further_names(out: &mut String, names: &Names, labels: &[Label]) -> Resul
     Ok(())
 }
 
-fn put_rest(out: &mut String, names: &Names, rest: &Option<Label>) -> Result<(), AllocError>
+fn put_rest(out: &mut String, names: &VariableNames, rest: &Option<Label>) -> Result<(), AllocError>
     ensures { OnOk result (string_bytes out.new ≡ string_bytes out.old ++ rest_name names.now rest.now) }
 {
     match rest {
@@ -86,7 +86,7 @@ fn put_rest(out: &mut String, names: &Names, rest: &Option<Label>) -> Result<(),
     }
 }
 
-fn put_lone_rest(out: &mut String, names: &Names, rest: &Option<Label>) -> Result<(), AllocError>
+fn put_lone_rest(out: &mut String, names: &VariableNames, rest: &Option<Label>) -> Result<(), AllocError>
     ensures { OnOk result (string_bytes out.new ≡ string_bytes out.old ++ lone_rest names.now rest.now) }
 {
     match rest {
@@ -97,7 +97,7 @@ fn put_lone_rest(out: &mut String, names: &Names, rest: &Option<Label>) -> Resul
 
 fn put_parameters(
     out: &mut String,
-    names: &Names,
+    names: &VariableNames,
     required: &[Label],
     rest: &Option<Label>,
 ) -> Result<(), AllocError>
@@ -115,7 +115,7 @@ fn put_parameters(
     }
 }
 
-fn put_formals(out: &mut String, names: &Names, formals: &Formals) -> Result<(), AllocError>
+fn put_formals(out: &mut String, names: &VariableNames, formals: &Formals) -> Result<(), AllocError>
     ensures { OnOk result (string_bytes out.new ≡ string_bytes out.old ++ formals_text names.now formals.now) }
 {
     put_parameters(out, names, formals.required.as_slice(), &formals.rest)
@@ -147,7 +147,7 @@ fn case_close(plain: bool) -> &'static str
 
 /// Adds the text of a core expression. It recurses as deep as expressions stand in one another.
 #[cycle(put)]
-fn put(out: &mut String, names: &Names, core: &Core) -> Result<(), AllocError>
+fn put(out: &mut String, names: &VariableNames, core: &Core) -> Result<(), AllocError>
     ensures { OnOk result (string_bytes out.new ≡ string_bytes out.old ++ text names.now core.now) }
 {
     match &core.node {
@@ -201,7 +201,7 @@ fn put(out: &mut String, names: &Names, core: &Core) -> Result<(), AllocError>
 }
 
 #[cycle(put)]
-fn put_further(out: &mut String, names: &Names, parts: &[Core]) -> Result<(), AllocError>
+fn put_further(out: &mut String, names: &VariableNames, parts: &[Core]) -> Result<(), AllocError>
     ensures { OnOk result (string_bytes out.new ≡ string_bytes out.old ++ further_text names.now (cores parts.now)) }
 {
     for part in parts {
@@ -212,7 +212,7 @@ fn put_further(out: &mut String, names: &Names, parts: &[Core]) -> Result<(), Al
 }
 
 #[cycle(put)]
-fn put_code(out: &mut String, names: &Names, code: &Code) -> Result<(), AllocError>
+fn put_code(out: &mut String, names: &VariableNames, code: &Code) -> Result<(), AllocError>
     ensures { OnOk result (string_bytes out.new ≡ string_bytes out.old ++ (lambda_word code.now.plain ++ cases_text names.now code.now.plain code.now.cases ++ codes ")")) }
 {
     out.push_str(lambda_word(code.plain))?;
@@ -223,7 +223,7 @@ fn put_code(out: &mut String, names: &Names, code: &Code) -> Result<(), AllocErr
 #[cycle(put)]
 fn put_cases(
     out: &mut String,
-    names: &Names,
+    names: &VariableNames,
     plain: bool,
     list: &[Lambda],
 ) -> Result<(), AllocError>
@@ -240,7 +240,7 @@ fn put_cases(
 }
 
 #[cycle(put)]
-fn put_inits(out: &mut String, names: &Names, list: &[Init]) -> Result<(), AllocError>
+fn put_inits(out: &mut String, names: &VariableNames, list: &[Init]) -> Result<(), AllocError>
     ensures { OnOk result (string_bytes out.new ≡ string_bytes out.old ++ inits_text names.now (inits list.now)) }
 {
     match list {
@@ -257,7 +257,7 @@ fn put_inits(out: &mut String, names: &Names, list: &[Init]) -> Result<(), Alloc
 }
 
 #[cycle(put)]
-fn put_further_inits(out: &mut String, names: &Names, list: &[Init]) -> Result<(), AllocError>
+fn put_further_inits(out: &mut String, names: &VariableNames, list: &[Init]) -> Result<(), AllocError>
     ensures { OnOk result (string_bytes out.new ≡ string_bytes out.old ++ further_inits names.now (inits list.now)) }
 {
     for init in list {
@@ -270,7 +270,7 @@ fn put_further_inits(out: &mut String, names: &Names, list: &[Init]) -> Result<(
     Ok(())
 }
 
-fn put_line(out: &mut String, names: &Names, line: &Line) -> Result<(), AllocError>
+fn put_line(out: &mut String, names: &VariableNames, line: &Line) -> Result<(), AllocError>
     ensures { OnOk result (string_bytes out.new ≡ string_bytes out.old ++ line_text names.now line.now) }
 {
     match line {
@@ -289,7 +289,7 @@ fn put_line(out: &mut String, names: &Names, line: &Line) -> Result<(), AllocErr
 }
 
 /// Adds the text of lines.
-pub(crate) fn put_lines(out: &mut String, names: &Names, lines: &[Line]) -> Result<(), AllocError>
+pub(crate) fn put_lines(out: &mut String, names: &VariableNames, lines: &[Line]) -> Result<(), AllocError>
     ensures { OnOk result (string_bytes out.new ≡ string_bytes out.old ++ lines_text names.now lines.now) }
 {
     for line in lines {

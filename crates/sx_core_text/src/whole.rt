@@ -7,14 +7,14 @@ ghost use Rattle.sx_core_text.specs.CoreText.{lines_text};
 ghost use Rattle.sx_core_text.specs.Whole.{named_by, plan_names, record_checked, plan_checked, record_text, plan_text, all_text, core_text};
 
 use crate::check::check_lines;
-use crate::names::Names;
+use crate::names::VariableNames;
 use crate::text::put_lines;
 use std::alloc::{AllocError, Global};
 use sx_base::fault::Stop;
 use sx_base::memory::Memory;
-use sx_core::record::LibRecord;
+use sx_core::record::CompiledLibrary;
 
-fn record_at(records: &[LibRecord], place: usize) -> Option<&LibRecord>
+fn record_at(records: &[CompiledLibrary], place: usize) -> Option<&CompiledLibrary>
     ensures { option_map (λ r. r.now) result ≡ slice_get records.now place }
 {
     if place < records.len() {
@@ -24,7 +24,7 @@ fn record_at(records: &[LibRecord], place: usize) -> Option<&LibRecord>
     }
 }
 
-fn add_record(names: &mut Names, library: Option<&LibRecord>) -> Result<(), Memory>
+fn add_record(names: &mut VariableNames, library: Option<&CompiledLibrary>) -> Result<(), Memory>
     ensures { OnOk result (names.new ≡ named_by names.old (option_map (λ r. r.now) library.entry)) }
 {
     match library {
@@ -33,7 +33,7 @@ fn add_record(names: &mut Names, library: Option<&LibRecord>) -> Result<(), Memo
     }
 }
 
-fn add_plan(names: &mut Names, records: &[LibRecord], plan: &[usize]) -> Result<(), Memory>
+fn add_plan(names: &mut VariableNames, records: &[CompiledLibrary], plan: &[usize]) -> Result<(), Memory>
     ensures { OnOk result (names.new ≡ plan_names records.now names.old plan.now) }
 {
     for place in plan {
@@ -43,7 +43,7 @@ fn add_plan(names: &mut Names, records: &[LibRecord], plan: &[usize]) -> Result<
     Ok(())
 }
 
-fn check_record(alloc: Global, library: Option<&LibRecord>) -> Result<(), Stop>
+fn check_record(alloc: Global, library: Option<&CompiledLibrary>) -> Result<(), Stop>
     ensures { Gives (λ _. tt) result (record_checked (option_map (λ r. r.now) library.entry)) }
 {
     match library {
@@ -52,7 +52,7 @@ fn check_record(alloc: Global, library: Option<&LibRecord>) -> Result<(), Stop>
     }
 }
 
-fn check_plan(alloc: Global, records: &[LibRecord], plan: &[usize]) -> Result<(), Stop>
+fn check_plan(alloc: Global, records: &[CompiledLibrary], plan: &[usize]) -> Result<(), Stop>
     ensures { Gives (λ _. tt) result (plan_checked records.now plan.now) }
 {
     for place in plan {
@@ -64,8 +64,8 @@ fn check_plan(alloc: Global, records: &[LibRecord], plan: &[usize]) -> Result<()
 
 fn put_record(
     out: &mut String,
-    names: &Names,
-    library: Option<&LibRecord>,
+    names: &VariableNames,
+    library: Option<&CompiledLibrary>,
 ) -> Result<(), AllocError>
     ensures { OnOk result (string_bytes out.new ≡ string_bytes out.old ++ record_text names.now (option_map (λ r. r.now) library.entry)) }
 {
@@ -77,8 +77,8 @@ fn put_record(
 
 fn put_plan(
     out: &mut String,
-    names: &Names,
-    records: &[LibRecord],
+    names: &VariableNames,
+    records: &[CompiledLibrary],
     plan: &[usize],
 ) -> Result<(), AllocError>
     ensures { OnOk result (string_bytes out.new ≡ string_bytes out.old ++ plan_text records.now names.now plan.now) }
@@ -93,10 +93,10 @@ fn put_plan(
 /// Adds the lines of the planned records, and those of the program.
 fn put_all(
     out: &mut String,
-    names: &Names,
-    records: &[LibRecord],
+    names: &VariableNames,
+    records: &[CompiledLibrary],
     plan: &[usize],
-    program: &LibRecord,
+    program: &CompiledLibrary,
 ) -> Result<(), Memory>
     ensures { OnOk result (string_bytes out.new ≡ string_bytes out.old ++ (plan_text records.now names.now plan.now ++ lines_text names.now program.now.run)) }
 {
@@ -109,15 +109,15 @@ fn put_all(
 /// first form of `syntax` or `syntax-case` in the order of the text.
 pub fn core_text(
     alloc: Global,
-    records: &[LibRecord],
+    records: &[CompiledLibrary],
     plan: &[usize],
-    program: &LibRecord,
+    program: &CompiledLibrary,
 ) -> Result<String, Stop>
     ensures { Gives string_bytes result (core_text records.now plan.now program.now) }
 {
     check_plan(alloc, records, plan)?;
     check_lines(alloc, program.run.as_slice())?;
-    let mut names = Names::new(alloc);
+    let mut names = VariableNames::new(alloc);
     add_plan(&mut names, records, plan)?;
     names.add_all(program.bindings.as_slice())?;
     let mut out = String::from_str(alloc, "(import (rnrs))\n")?;

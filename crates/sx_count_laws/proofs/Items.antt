@@ -6,7 +6,7 @@ use Rattle.sx_base.specs.declared.fault.Fault.{Fault}
 use Rattle.sx_base.specs.declared.name.Label.{Label}
 use Rattle.sx_tree.specs.Tree.{Tree, atom, leaf, pair, vector}
 use Rattle.sx_core.specs.declared.core_form.CoreForm.{CoreForm}
-use Rattle.sx_core.specs.declared.record.LibRecord.{LibRecord}
+use Rattle.sx_core.specs.declared.record.CompiledLibrary.{CompiledLibrary}
 use Rattle.sx_shapes.specs.At.{place_of}
 use Rattle.sx_shapes.specs.Forms.{shape}
 use Rattle.sx_shapes.specs.Lists.{is_leaf}
@@ -27,7 +27,7 @@ use Rattle.sx_heads.specs.declared.item.Item.TheVariants as items
 use Rattle.sx_heads.specs.declared.taken.BodyAt.{BodyAt}
 use Rattle.sx_heads.specs.declared.taken.Taken.{Taken}
 use Rattle.sx_heads.specs.declared.taken.Waits.TheVariants as waits
-use Rattle.sx_expand.specs.Settle.{set_item_step, item_step_of, item_step}
+use Rattle.sx_expand.specs.ExpandUses.{set_item_step, item_step_of, item_step}
 use Rattle.sx_count_laws.proofs.Standing.{Keeps, keeps-after, keeps-if, variable-keeps, bind-keyword-keeps, asks-variable-keeps}
 
 module _ (at : BodyAt) where
@@ -161,7 +161,7 @@ module _ (at : BodyAt) where
     plan-keeps d (pair r a e) s = list-keeps d (pair r a e) a s
     plan-keeps d (vector r e) s = refl
 
-module _ (rs : List LibRecord) where
+module _ (rs : List CompiledLibrary) where
   set-step-keeps : (at : BodyAt) (depth : ℕ) (d : Taken) (t : Tree) (l : Label) (b : Bool) (s : State) → Keeps s (set_item_step at depth d t l b s)
   set-step-keeps at depth d t l true s = refl
   set-step-keeps at depth d t l false s = refl

@@ -10,7 +10,7 @@ use Rattle.sx_tree.specs.Tree.{Tree, span_of}
 use Rattle.sx_core.specs.Core as core
 use Rattle.sx_core.specs.Core.{PlainCore, instance}
 use Rattle.sx_core.specs.declared.link.LinkKind.TheVariants as link
-use Rattle.sx_core.specs.declared.record.LibRecord.{LibRecord}
+use Rattle.sx_core.specs.declared.record.CompiledLibrary.{CompiledLibrary}
 use Rattle.sx_shapes.specs.At.{place_of}
 use Rattle.sx_standing.specs.Patterns.{template_of}
 use Rattle.sx_standing.specs.Standing.{standing_of}
@@ -26,11 +26,11 @@ use Rattle.sx_heads.specs.declared.plan.Plan.{Plan}
 use Rattle.sx_heads.specs.declared.plan.Plan.TheVariants as plans
 use Rattle.sx_heads.specs.declared.taken.BodyAt.{BodyAt}
 use Rattle.sx_heads.specs.declared.taken.Taken.{Taken}
-use Rattle.sx_expand.specs.Settle.{used_form, next_form, too_many, set_step, step_of, step, target_span, linked_code, linked, settle, at_use, item_step, item_by, settle_item_to, settle_item}
-use Rattle.sx_expand.specs.declared.settle.ItemStep.{ItemStep}
-use Rattle.sx_expand.specs.declared.settle.ItemStep.TheVariants as item_steps
-use Rattle.sx_expand.specs.declared.settle.Settled.{Settled}
-use Rattle.sx_expand.specs.declared.settle.SettledItem.{SettledItem}
+use Rattle.sx_expand.specs.ExpandUses.{used_form, next_form, too_many, set_step, step_of, step, target_span, linked_code, linked, expand_uses, at_use, item_step, item_by, expand_item_uses_to, expand_item_uses}
+use Rattle.sx_expand.specs.declared.expand_uses.ItemOrUse.{ItemOrUse}
+use Rattle.sx_expand.specs.declared.expand_uses.ItemOrUse.TheVariants as item_steps
+use Rattle.sx_expand.specs.declared.expand_uses.PlannedForm.{PlannedForm}
+use Rattle.sx_expand.specs.declared.expand_uses.PlannedItem.{PlannedItem}
 use Rattle.sx_expand_laws.proofs.Acts.{Gave, gave-after, gave-less}
 use Rattle.sx_expand_laws.proofs.Plans.{IsTemplate, template-is, plan-cases}
 use Rattle.sx_expand_laws.proofs.References.{Refers, AssignsBy, reference-is, assign-is}
@@ -74,7 +74,7 @@ module _ (place : Span) (level : ℕ) (s : State) where
 
 -- Steps and uses.
 
-module _ (rs : List LibRecord) where
+module _ (rs : List CompiledLibrary) where
   set-keeps : (place : Span) (t : Tree) (l : Label) (id : Tree) (b : Bool) (s : State) → Keeps s (set_step place t l id b s)
   set-keeps place t l id true s = refl
   set-keeps place t l id false s = tt
@@ -113,7 +113,7 @@ linked-keeps t (plans.Done c) s = code-keeps t c s
 linked-keeps t (plans.Assignment l value) s = noted-keeps (target_span t) l link.Refer s
 linked-keeps t _ s = refl
 
-pub settled-by : (rs : List LibRecord) (level : ℕ) (place : Span) (t : Tree) (s v : State) (d : Settled) → settle rs place level t s ≡ Ok (d, v) → IsSettledBy rs level place t s v d
+pub settled-by : (rs : List CompiledLibrary) (level : ℕ) (place : Span) (t : Tree) (s v : State) (d : PlannedForm) → expand_uses rs place level t s ≡ Ok (d, v) → IsSettledBy rs level place t s v d
 settled-by rs level place t s v d h =
     let c = uses-counted.only rs level place t s v d h in
     let n = c.0 in
@@ -133,47 +133,47 @@ settled-by rs level place t s v d h =
 
 -- Forms of bodies.
 
-module _ (rs : List LibRecord) (depth : ℕ) where
+module _ (rs : List CompiledLibrary) (depth : ℕ) where
   item-chain-leaves : {n more left : ℕ} {at to : BodyAt} {done end : Taken} {t y : Tree} {s w : State} → BecomesItem rs depth n more left at done t s to end y w → s.uses_left ≡ more → w.uses_left ≡ left
   item-chain-leaves counted.item_itself e = e
   item-chain-leaves (counted.item_used {more = more} {at = at} {t = t} {u = u} {k = k} f g b) e = item-chain-leaves b (keeps-given (record u { uses_left = more }) g (next-keeps rs more at.place t k (Some at.frame) u))
 
   -- what settling comes to
-  abbrev Came : ℕ → BodyAt → Taken → Tree → State → Taken → SettledItem → State → Type 0
+  abbrev Came : ℕ → BodyAt → Taken → Tree → State → Taken → PlannedItem → State → Type 0
   Came more at done t s end d v =
       (n : ℕ) × ((left : ℕ) × ((taken : Taken) × ((w : State) × (BecomesItem rs depth n more left at done t s d.at taken d.form w × (item_step rs d.at depth taken d.form w ≡ Ok ((end, item_steps.Item d.item), v))))))
 
-  came-now : (left : ℕ) (at : BodyAt) (done : Taken) (t : Tree) (s u v : State) (taken end : Taken) (i : Item) (d : SettledItem) → item_step rs at depth done t s ≡ Ok ((taken, item_steps.Item i), u)
-      → ◌≡◌ {A = (Taken × SettledItem) × State} ((taken, record { at = at; form = t; item = i }), u) ((end, d), v) → Came left at done t s end d v
+  came-now : (left : ℕ) (at : BodyAt) (done : Taken) (t : Tree) (s u v : State) (taken end : Taken) (i : Item) (d : PlannedItem) → item_step rs at depth done t s ≡ Ok ((taken, item_steps.Item i), u)
+      → ◌≡◌ {A = (Taken × PlannedItem) × State} ((taken, record { at = at; form = t; item = i }), u) ((end, d), v) → Came left at done t s end d v
   came-now left at done t s u v taken end i d e is =
-      subst (λ (q : (Taken × SettledItem) × State). Came left at done t s q.0.0 q.0.1 q.1) is (0, (left, (done, (s, (counted.item_itself, e)))))
+      subst (λ (q : (Taken × PlannedItem) × State). Came left at done t s q.0.0 q.0.1 q.1) is (0, (left, (done, (s, (counted.item_itself, e)))))
 
-  came : (more : ℕ) (at : BodyAt) (done end : Taken) (t : Tree) (s v : State) (d : SettledItem) → settle_item_to rs more at depth done t s ≡ Ok ((end, d), v) → Came more at done t s end d v
-  unfolding settle_item_to
+  came : (more : ℕ) (at : BodyAt) (done end : Taken) (t : Tree) (s v : State) (d : PlannedItem) → expand_item_uses_to rs more at depth done t s ≡ Ok ((end, d), v) → Came more at done t s end d v
+  unfolding expand_item_uses_to
   came zero at done end t s v d h = by (item_step rs at depth done t s) refl h
     where
-      by : (r : Result ((Taken × ItemStep) × State) Fault) → item_step rs at depth done t s ≡ r → after r (item_by (λ done k. too_many t at.place) at t) ≡ Ok ((end, d), v) → Came zero at done t s end d v
+      by : (r : Result ((Taken × ItemOrUse) × State) Fault) → item_step rs at depth done t s ≡ r → after r (item_by (λ done k. too_many t at.place) at t) ≡ Ok ((end, d), v) → Came zero at done t s end d v
       by (Ok ((taken, item_steps.Item i), u)) e is =
-          came-now zero at done t s u v taken end i d e (let same : ◌≡◌ {A = (Taken × SettledItem) × State} ((taken, record { at = at; form = t; item = i }), u) ((end, d), v) = cc in same)
+          came-now zero at done t s u v taken end i d e (let same : ◌≡◌ {A = (Taken × PlannedItem) × State} ((taken, record { at = at; form = t; item = i }), u) ((end, d), v) = cc in same)
       by (Ok ((taken, item_steps.Use k), u)) e is = absurd (cc)
       by (Err f) e is = absurd (cc)
   came (suc more) at done end t s v d h = by (λ taken x w i. came more (at_use at t) taken end x w v d i) (item_step rs at depth done t s) refl h
     where
-      by-form : ((taken : Taken) (x : Tree) (w : State) → settle_item_to rs more (at_use at t) depth taken x w ≡ Ok ((end, d), v) → Came more (at_use at t) taken x w end d v)
+      by-form : ((taken : Taken) (x : Tree) (w : State) → expand_item_uses_to rs more (at_use at t) depth taken x w ≡ Ok ((end, d), v) → Came more (at_use at t) taken x w end d v)
           → (taken : Taken) (k : KeywordUse) (u : State) → item_step rs at depth done t s ≡ Ok ((taken, item_steps.Use k), u) → (r : Result (Tree × State) Fault) → next_form rs more at.place t k (Some at.frame) u ≡ r
-          → after r (settle_item_to rs more (at_use at t) depth taken) ≡ Ok ((end, d), v) → Came (suc more) at done t s end d v
+          → after r (expand_item_uses_to rs more (at_use at t) depth taken) ≡ Ok ((end, d), v) → Came (suc more) at done t s end d v
       by-form again taken k u e (Ok p) f is = let c = again taken p.0 p.1 is in (suc c.0, (c.1.0, (c.1.1.0, (c.1.1.1.0, (counted.item_used e f c.1.1.1.1.0, c.1.1.1.1.1)))))
       by-form again taken k u e (Err x) f is = absurd (cc)
 
-      by : ((taken : Taken) (x : Tree) (w : State) → settle_item_to rs more (at_use at t) depth taken x w ≡ Ok ((end, d), v) → Came more (at_use at t) taken x w end d v)
-          → (r : Result ((Taken × ItemStep) × State) Fault) → item_step rs at depth done t s ≡ r
-          → after r (item_by (λ taken k s'. after (next_form rs more at.place t k (Some at.frame) s') (settle_item_to rs more (at_use at t) depth taken)) at t) ≡ Ok ((end, d), v) → Came (suc more) at done t s end d v
+      by : ((taken : Taken) (x : Tree) (w : State) → expand_item_uses_to rs more (at_use at t) depth taken x w ≡ Ok ((end, d), v) → Came more (at_use at t) taken x w end d v)
+          → (r : Result ((Taken × ItemOrUse) × State) Fault) → item_step rs at depth done t s ≡ r
+          → after r (item_by (λ taken k s'. after (next_form rs more at.place t k (Some at.frame) s') (expand_item_uses_to rs more (at_use at t) depth taken)) at t) ≡ Ok ((end, d), v) → Came (suc more) at done t s end d v
       by again (Ok ((taken, item_steps.Item i), u)) e is =
-          came-now (suc more) at done t s u v taken end i d e (let same : ◌≡◌ {A = (Taken × SettledItem) × State} ((taken, record { at = at; form = t; item = i }), u) ((end, d), v) = cc in same)
+          came-now (suc more) at done t s u v taken end i d e (let same : ◌≡◌ {A = (Taken × PlannedItem) × State} ((taken, record { at = at; form = t; item = i }), u) ((end, d), v) = cc in same)
       by again (Ok ((taken, item_steps.Use k), u)) e is = by-form again taken k u e (next_form rs more at.place t k (Some at.frame) u) refl is
       by again (Err f) e is = absurd (cc)
 
-  pub item-by : (at : BodyAt) (done end : Taken) (t : Tree) (s v : State) (d : SettledItem) → settle_item rs at depth done t s ≡ Ok ((end, d), v) → IsItemBy rs depth at done t s v d
+  pub item-by : (at : BodyAt) (done end : Taken) (t : Tree) (s v : State) (d : PlannedItem) → expand_item_uses rs at depth done t s ≡ Ok ((end, d), v) → IsItemBy rs depth at done t s v d
   item-by at done end t s v d h =
       let c = came s.uses_left at done end t s v d h in
       let n = c.0 in

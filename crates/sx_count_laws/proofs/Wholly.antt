@@ -6,7 +6,7 @@ use Rattle.sx_base.specs.declared.name.Label.{Label}
 use Rattle.sx_tree.specs.Changes.{stamp}
 use Rattle.sx_tree.specs.Tree.{Tree}
 use Rattle.sx_scope.specs.Stands.{stands}
-use Rattle.sx_core.specs.declared.record.LibRecord.{LibRecord}
+use Rattle.sx_core.specs.declared.record.CompiledLibrary.{CompiledLibrary}
 use Rattle.sx_eval.specs.Codes.{Codes}
 use Rattle.sx_standing.specs.Own.{export_labels}
 use Rattle.sx_standing.specs.Start.{started}
@@ -34,7 +34,7 @@ unfolding exports
 exports-keep at es s =
     keeps-after s (all_exports at es s) (λ ls t. after (export_labels ls t) (λ _. give ls)) (keeps-each (export at) (λ e t. export-keeps at e t) [] es s) (λ ls t. refl)
 
-record-counted : (libs : List LibName) (own : LibName) (records : List LibRecord) (imports : List (List ℕ × Label)) (codes : Codes) (at : TopAt) (es : List (List ℕ × Tree)) (fs : List Tree) (r : LibRecord)
+record-counted : (libs : List LibName) (own : LibName) (records : List CompiledLibrary) (imports : List (List ℕ × Label)) (codes : Codes) (at : TopAt) (es : List (List ℕ × Tree)) (fs : List Tree) (r : CompiledLibrary)
     (h : RunIsRight libs own records (started own records imports codes) at es fs r) → (items_made h.taking + lines_made h.ends) + h.last.uses_left ≡ 1000000
 record-counted libs own records imports codes at es fs r h =
     let begins = uses-counted.starts own records imports codes in

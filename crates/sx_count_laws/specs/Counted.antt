@@ -5,32 +5,32 @@ use Rattle.sx_base.specs.declared.name.Label.{Label}
 use Rattle.sx_base.specs.declared.span.Span.{Span}
 use Rattle.sx_tree.specs.Tree.{Tree}
 use Rattle.sx_core.specs.Core.{PlainCore}
-use Rattle.sx_core.specs.declared.record.LibRecord.{LibRecord}
+use Rattle.sx_core.specs.declared.record.CompiledLibrary.{CompiledLibrary}
 use Rattle.sx_eval.specs.Codes.{Codes}
 use Rattle.sx_standing.specs.Start.{started}
 use Rattle.sx_standing.specs.State.{State}
 use Rattle.sx_heads.specs.declared.taken.BodyAt.{BodyAt}
 use Rattle.sx_heads.specs.declared.taken.Taken.{Taken}
 use Rattle.sx_heads.specs.declared.taken.Waiting.{Waiting}
-use Rattle.sx_expand.specs.Settle.{settle, settle_item}
-use Rattle.sx_expand.specs.declared.settle.Settled.{Settled}
-use Rattle.sx_expand.specs.declared.settle.SettledItem.{SettledItem}
+use Rattle.sx_expand.specs.ExpandUses.{expand_uses, expand_item_uses}
+use Rattle.sx_expand.specs.declared.expand_uses.PlannedForm.{PlannedForm}
+use Rattle.sx_expand.specs.declared.expand_uses.PlannedItem.{PlannedItem}
 use Rattle.sx_expand.specs.declared.top.TopAt.{TopAt}
 use Rattle.sx_use_laws.specs.Counted.{Becomes, BecomesItem}
 use Rattle.sx_reference_laws.specs.Expands.{Expands, Take, Finish}
-use Rattle.sx_reference_laws.specs.Noted.{Expression, Noted, Told}
+use Rattle.sx_reference_laws.specs.Noted.{KeywordExpression, Noted, NotedLine}
 use Rattle.sx_reference_laws.specs.Records.{RunIsRight}
 use Rattle.sx_count_laws.specs.Made.{made, items_made, lines_made}
 
 -- A form was so many uses, one behind another, until it was none. They and the uses that are left then are those that were left before.
-pub record IsSettledBy (rs : List LibRecord) (level : ℕ) (place : Span) (t : Tree) (s v : State) (d : Settled) : Type 0 where
+pub record IsSettledBy (rs : List CompiledLibrary) (level : ℕ) (place : Span) (t : Tree) (s v : State) (d : PlannedForm) : Type 0 where
   pub uses : ℕ
   pub last : State
   pub becomes : Becomes rs level uses s.uses_left v.uses_left place t s d.place d.form last
   pub left : uses + v.uses_left ≡ s.uses_left
 
 -- so it is of a form of a body
-pub record IsItemBy (rs : List LibRecord) (depth : ℕ) (at : BodyAt) (done : Taken) (t : Tree) (s v : State) (d : SettledItem) : Type 0 where
+pub record IsItemBy (rs : List CompiledLibrary) (depth : ℕ) (at : BodyAt) (done : Taken) (t : Tree) (s v : State) (d : PlannedItem) : Type 0 where
   pub uses : ℕ
   pub taken : Taken
   pub last : State
@@ -40,17 +40,17 @@ pub record IsItemBy (rs : List LibRecord) (depth : ℕ) (at : BodyAt) (done : Ta
 -- All uses that are made in the expansion of a form, and those that are left after it, are those that were left before it: no use is counted twice,
 -- and none is given back. So all that are made in the expansion of a library, and those that are left at its end, are 1,000,000.
 pub record UsesAreCountedInWhole : Type 0 where
-  pub settled : (rs : List LibRecord) (level : ℕ) (place : Span) (t : Tree) (s v : State) (d : Settled)
-      → settle rs place level t s ≡ Ok (d, v) → IsSettledBy rs level place t s v d
-  pub items : (rs : List LibRecord) (depth : ℕ) (at : BodyAt) (done end : Taken) (t : Tree) (s v : State) (d : SettledItem)
-      → settle_item rs at depth done t s ≡ Ok ((end, d), v) → IsItemBy rs depth at done t s v d
-  pub forms : (rs : List LibRecord) (place : Span) (level : ℕ) (t : Tree) (s u : State) (c : PlainCore) (x : Noted)
+  pub settled : (rs : List CompiledLibrary) (level : ℕ) (place : Span) (t : Tree) (s v : State) (d : PlannedForm)
+      → expand_uses rs place level t s ≡ Ok (d, v) → IsSettledBy rs level place t s v d
+  pub items : (rs : List CompiledLibrary) (depth : ℕ) (at : BodyAt) (done end : Taken) (t : Tree) (s v : State) (d : PlannedItem)
+      → expand_item_uses rs at depth done t s ≡ Ok ((end, d), v) → IsItemBy rs depth at done t s v d
+  pub forms : (rs : List CompiledLibrary) (place : Span) (level : ℕ) (t : Tree) (s u : State) (c : PlainCore) (x : Noted)
       (h : Expands rs place level t s c u x) → made h + u.uses_left ≡ s.uses_left
-  pub first : (rs : List LibRecord) (at : BodyAt) (depth : ℕ) (done end : Taken) (ts : List Tree) (s u : State) (es : List Expression)
+  pub first : (rs : List CompiledLibrary) (at : BodyAt) (depth : ℕ) (done end : Taken) (ts : List Tree) (s u : State) (es : List KeywordExpression)
       (h : Take rs at depth done ts s end u es) → items_made h + u.uses_left ≡ s.uses_left
-  pub second : (rs : List LibRecord) (level : ℕ) (ws : List Waiting) (s u : State) (xs : List Told)
+  pub second : (rs : List CompiledLibrary) (level : ℕ) (ws : List Waiting) (s u : State) (xs : List NotedLine)
       (h : Finish rs level ws s xs u) → lines_made h + u.uses_left ≡ s.uses_left
-  pub libraries : (libs : List LibName) (own : LibName) (records : List LibRecord) (imports : List (List ℕ × Label)) (codes : Codes) (at : TopAt)
-      (exports : List (List ℕ × Tree)) (forms : List Tree) (r : LibRecord)
+  pub libraries : (libs : List LibName) (own : LibName) (records : List CompiledLibrary) (imports : List (List ℕ × Label)) (codes : Codes) (at : TopAt)
+      (exports : List (List ℕ × Tree)) (forms : List Tree) (r : CompiledLibrary)
       (h : RunIsRight libs own records (started own records imports codes) at exports forms r)
       → (items_made h.taking + lines_made h.ends) + h.last.uses_left ≡ 1000000

@@ -7,7 +7,7 @@ use Rattle.sx_core.specs.Core.{PlainCore}
 use Rattle.sx_core.specs.declared.code.Clause.{Clause}
 use Rattle.sx_core.specs.declared.code.Init.{Init}
 use Rattle.sx_core.specs.declared.code.Lambda.{Lambda}
-use Rattle.sx_core.specs.declared.record.LibRecord.{LibRecord}
+use Rattle.sx_core.specs.declared.record.CompiledLibrary.{CompiledLibrary}
 use Rattle.sx_shapes.specs.declared.shape.BindingSpec.{BindingSpec}
 use Rattle.sx_shapes.specs.declared.shape.FormalIds.{FormalIds}
 use Rattle.sx_shapes.specs.declared.shape.LambdaCase.{LambdaCase}
@@ -22,15 +22,15 @@ use Rattle.sx_heads.specs.declared.taken.Waiting.{Waiting}
 use Rattle.sx_heads.specs.declared.taken.Waits.{Waits}
 use Rattle.sx_reference_laws.specs.Expands as derivation
 use Rattle.sx_reference_laws.specs.Expands.{Expands, settles, Performs, refers, is_done, is_template, calls, tests, chooses, assigns}
-use Rattle.sx_reference_laws.specs.Expands.{follows, makes, makes_cases, binds_all, matches_one, has_keywords, fills, Expand, Binds}
-use Rattle.sx_reference_laws.specs.Expands.{binds_formals, Bind, Starts, starts_with, Start, Matches, matches_pattern, Match, Asks, Means}
-use Rattle.sx_reference_laws.specs.Expands.{means, Mean, BindsKeywords, binds_keywords, Takes, takes, Acts, is_taken, takes_forms}
+use Rattle.sx_reference_laws.specs.Expands.{follows, makes, makes_cases, binds_all, matches_one, has_keywords, fills, Expand, CaseBinds}
+use Rattle.sx_reference_laws.specs.Expands.{binds_formals, ExpandedBind, Starts, starts_with, ExpansionStart, ExpandsClause, matches_pattern, Match, Asks, KeywordMeans}
+use Rattle.sx_reference_laws.specs.Expands.{means, Mean, BindsKeywords, binds_keywords, TakesForm, takes, Acts, is_taken, takes_forms}
 use Rattle.sx_reference_laws.specs.Expands.{defines_keyword, takes_among, Take, IsBody, is_body, Finish, Ends, declares, defines}
 use Rattle.sx_reference_laws.specs.Expands.{defines_procedure, is_expression}
-use Rattle.sx_reference_laws.specs.Noted.{Expression, Noted, Told}
+use Rattle.sx_reference_laws.specs.Noted.{KeywordExpression, Noted, NotedLine}
 
 -- A form that is settled was as many uses, one behind another, as there are fewer left then.
-module _ {rs : List LibRecord} where
+module _ {rs : List CompiledLibrary} where
   abbrev mutual
     -- a form: those of what it was until it was none, and those in what came of it
     pub made : {place : Span} {level : ℕ} {t : Tree} {s u : State} {c : PlainCore} {x : Noted} → Expands rs place level t s c u x → ℕ
@@ -57,11 +57,11 @@ module _ {rs : List LibRecord} where
     all_made (derivation.more h g) = made h + all_made g
 
     pub case_made : {place : Span} {level : ℕ} {t : Tree} {ids : FormalIds} {forms : List Tree} {s u : State} {c : Lambda} {x : Noted}
-        → Binds rs place level t ids forms s c u x → ℕ
+        → CaseBinds rs place level t ids forms s c u x → ℕ
     case_made (binds_formals e h) = body_made h
 
     pub cases_made : {place : Span} {level : ℕ} {t : Tree} {xs : List LambdaCase} {s u : State} {cs : List Lambda} {x : Noted}
-        → Bind rs place level t xs s cs u x → ℕ
+        → ExpandedBind rs place level t xs s cs u x → ℕ
     cases_made derivation.no_case = 0
     cases_made (derivation.case h g) = case_made h + cases_made g
 
@@ -70,12 +70,12 @@ module _ {rs : List LibRecord} where
     init_made (starts_with h) = made h
 
     pub inits_made : {place : Span} {level : ℕ} {f : FrameNo} {bs : List BoundSpec} {s u : State} {is : List Init} {x : Noted}
-        → Start rs place level f bs s is u x → ℕ
+        → ExpansionStart rs place level f bs s is u x → ℕ
     inits_made derivation.no_init = 0
     inits_made (derivation.init h g) = init_made h + inits_made g
 
     pub clause_made : {place : Span} {level : ℕ} {literals : List Tree} {c : PatternCase} {s u : State} {k : Clause} {x : Noted}
-        → Matches rs place level literals c s k u x → ℕ
+        → ExpandsClause rs place level literals c s k u x → ℕ
     clause_made (matches_pattern e f h g) = fender_made h + made g
 
     pub clauses_made : {place : Span} {level : ℕ} {literals : List Tree} {xs : List PatternCase} {s u : State} {cs : List Clause} {x : Noted}
@@ -88,23 +88,23 @@ module _ {rs : List LibRecord} where
     fender_made derivation.asks_nothing = 0
     fender_made (derivation.asks_first h) = made h
 
-    pub keyword_made : {place : Span} {level : ℕ} {b : BoundSpec} {s u : State} {es : List Expression} → Means rs place level b s u es → ℕ
+    pub keyword_made : {place : Span} {level : ℕ} {b : BoundSpec} {s u : State} {es : List KeywordExpression} → KeywordMeans rs place level b s u es → ℕ
     keyword_made (means h e) = made h
 
-    pub keywords_made : {place : Span} {level : ℕ} {recursive : Bool} {f : FrameNo} {bs : List BoundSpec} {s u : State} {es : List Expression}
+    pub keywords_made : {place : Span} {level : ℕ} {recursive : Bool} {f : FrameNo} {bs : List BoundSpec} {s u : State} {es : List KeywordExpression}
         → Mean rs place level recursive f bs s u es → ℕ
     keywords_made derivation.no_keyword = 0
     keywords_made (derivation.keyword h g) = keyword_made h + keywords_made g
 
-    pub scope_made : {place : Span} {level : ℕ} {recursive : Bool} {bs : List BindingSpec} {forms stamped : List Tree} {s u : State} {es : List Expression}
+    pub scope_made : {place : Span} {level : ℕ} {recursive : Bool} {bs : List BindingSpec} {forms stamped : List Tree} {s u : State} {es : List KeywordExpression}
         → BindsKeywords rs place level recursive bs forms s stamped u es → ℕ
     scope_made (binds_keywords e h) = keywords_made h
 
-    pub item_made : {at : BodyAt} {depth : ℕ} {done end : Taken} {t : Tree} {s u : State} {es : List Expression}
-        → Takes rs at depth done t s end u es → ℕ
+    pub item_made : {at : BodyAt} {depth : ℕ} {done end : Taken} {t : Tree} {s u : State} {es : List KeywordExpression}
+        → TakesForm rs at depth done t s end u es → ℕ
     item_made (takes {s = s} {v = v} e h) = (s.uses_left - v.uses_left) + made_of_item h
 
-    pub made_of_item : {at : BodyAt} {depth : ℕ} {done end : Taken} {t : Tree} {i : Item} {s u : State} {es : List Expression}
+    pub made_of_item : {at : BodyAt} {depth : ℕ} {done end : Taken} {t : Tree} {i : Item} {s u : State} {es : List KeywordExpression}
         → Acts rs at depth done t i s end u es → ℕ
     made_of_item is_taken = 0
     made_of_item (takes_forms h) = items_made h
@@ -112,7 +112,7 @@ module _ {rs : List LibRecord} where
     made_of_item (takes_among h g) = scope_made h + items_made g
 
     -- the first pass over a body
-    pub items_made : {at : BodyAt} {depth : ℕ} {done end : Taken} {ts : List Tree} {s u : State} {es : List Expression}
+    pub items_made : {at : BodyAt} {depth : ℕ} {done end : Taken} {ts : List Tree} {s u : State} {es : List KeywordExpression}
         → Take rs at depth done ts s end u es → ℕ
     items_made derivation.none_taken = 0
     items_made (derivation.more_taken h g) = item_made h + items_made g
@@ -122,11 +122,11 @@ module _ {rs : List LibRecord} where
     body_made (is_body depth h g) = items_made h + lines_made g
 
     -- the second pass
-    pub lines_made : {level : ℕ} {ws : List Waiting} {s u : State} {xs : List Told} → Finish rs level ws s xs u → ℕ
+    pub lines_made : {level : ℕ} {ws : List Waiting} {s u : State} {xs : List NotedLine} → Finish rs level ws s xs u → ℕ
     lines_made derivation.no_line = 0
     lines_made (derivation.next_line h g) = line_made h + lines_made g
 
-    pub line_made : {level : ℕ} {place : Span} {w : Waits} {s u : State} {x : Told} → Ends rs level place w s x u → ℕ
+    pub line_made : {level : ℕ} {place : Span} {w : Waits} {s u : State} {x : NotedLine} → Ends rs level place w s x u → ℕ
     line_made declares = 0
     line_made (defines h) = made h
     line_made (defines_procedure h) = case_made h

@@ -10,7 +10,7 @@ use Rattle.sx_base.specs.declared.library.LibName.TheVariants as library
 use Rattle.sx_base.specs.declared.name.Label.{Label}
 use Rattle.sx_builtin.specs.Exports.{derived}
 use Rattle.sx_builtin.specs.declared.derived.TheConstants.{DERIVED_SOURCE}
-use Rattle.sx_core.specs.declared.record.LibRecord.{LibRecord}
+use Rattle.sx_core.specs.declared.record.CompiledLibrary.{CompiledLibrary}
 use Rattle.sx_eval.specs.Codes.{Codes}
 use Rattle.sx_expand.specs.Expanding.{ready, library_record, library_spent}
 use Rattle.sx_import.specs.Table.{same_text}
@@ -36,11 +36,11 @@ unfoldable pub forms_of : List ℕ → Result (List Tree) Fault
 forms_of text = data_of path text file_nesting >>= trees []
 
 -- the record of these forms, behind no others
-unfoldable pub record_of : Codes → List Tree → Result LibRecord Fault
+unfoldable pub record_of : Codes → List Tree → Result CompiledLibrary Fault
 record_of codes forms = library_record (ready library.Derived path [] names codes) [] [] start (exports_of derived) forms
 
 -- the record of the derived library; as in any library, what procedures mean that are texts comes after its forms
-unfoldable pub derived_record : Result Codes Fault → Result LibRecord Fault
+unfoldable pub derived_record : Result Codes Fault → Result CompiledLibrary Fault
 derived_record prelude = forms_of DERIVED_SOURCE.now >>= (λ forms. prelude >>= (λ codes. record_of codes forms))
 
 -- the fuel that the expansion of these forms spends
@@ -57,5 +57,5 @@ abbrev pub label_or : Label → Option Label → Label
 label_or l None = l
 label_or l (Some m) = m
 
-abbrev pub relabelled_in : LibRecord → List ℕ × Label → List ℕ × Label
+abbrev pub relabelled_in : CompiledLibrary → List ℕ × Label → List ℕ × Label
 relabelled_in r e = if same_library e.1.0.library library.Derived then (e.0, label_or e.1 (lookup (same_text e.0) r.exports)) else e

@@ -25,7 +25,7 @@ use sx_base::name::Label;
 use sx_base::span::Span;
 use sx_base::symbol::Symbol;
 use sx_builtin::derived::derived_source;
-use sx_core::record::LibRecord;
+use sx_core::record::CompiledLibrary;
 use sx_expand::expander::{Expander, LibraryBody};
 use sx_expand::tally::Tally;
 use sx_prims::table::PrimTable;
@@ -76,7 +76,7 @@ fn forms_of(alloc: Global, place: &Span, text: &[u8]) -> Result<Items<Syn>, Stop
 
 // What stands round the forms of the derived library.
 #[derive(Drop)]
-struct Text<'a> {
+struct DerivedText<'a> {
     alloc: Global,
     /// Its start.
     place: &'a Span,
@@ -105,11 +105,11 @@ fn expander_of<L: Ledger>(
 // The record of these forms.
 fn record_by<N: Ledger, L: Ledger>(
     begun: Expander<L>,
-    text: &Text,
+    text: &DerivedText,
     forms: Items<Syn>,
     prims: &PrimTable,
     tally: &mut Tally<N, L>,
-) -> Result<LibRecord, Stop>
+) -> Result<CompiledLibrary, Stop>
     requires { begun.failed ≡ false }
     ensures record { Gives (λ r. r) result (library_record begun [] [] text.now.place.now text.now.exports.now forms) }
     ensures fuel { OnOk result (tally.new.fuel ≡ tally.old.fuel + library_spent begun [] [] text.now.place.now text.now.exports.now forms) }
@@ -132,11 +132,11 @@ fn record_by<N: Ledger, L: Ledger>(
 #[tactic(auto, unfolding(crate::specs::Derived::record_of, crate::specs::Derived::record_spent))]
 fn record_of<N: Ledger, L: Ledger>(
     supplies: Supplies<L>,
-    text: &Text,
+    text: &DerivedText,
     forms: Items<Syn>,
     prims: &PrimTable,
     tally: &mut Tally<N, L>,
-) -> Result<LibRecord, Stop>
+) -> Result<CompiledLibrary, Stop>
     requires imports { text.now.imports.now ≡ names }
     requires exports { text.now.exports.now ≡ exports_of derived }
     requires place { text.now.place.now ≡ start }
@@ -153,7 +153,7 @@ pub fn derived_record<N: Ledger, L: Ledger>(
     alloc: Global,
     implementation: &Implementation,
     tally: &mut Tally<N, L>,
-) -> Result<LibRecord, Stop>
+) -> Result<CompiledLibrary, Stop>
     ensures record { Gives (λ r. r) result (derived_record (kept implementation.now.prelude)) }
     ensures fuel { OnOk result (tally.new.fuel ≡ tally.old.fuel + derived_spent (kept implementation.now.prelude)) }
 {
@@ -166,7 +166,7 @@ pub fn derived_record<N: Ledger, L: Ledger>(
         return Err(Stop::Memory);
     };
     let supplies = Supplies { codes, unspent };
-    let text = Text {
+    let text = DerivedText {
         alloc,
         place: &place,
         imports: names.as_slice(),
@@ -176,7 +176,7 @@ pub fn derived_record<N: Ledger, L: Ledger>(
 }
 
 // The label under which a record exports a name, or another.
-fn label_in(derived: &LibRecord, name: &Symbol, label: &Label) -> Result<Label, Memory>
+fn label_in(derived: &CompiledLibrary, name: &Symbol, label: &Label) -> Result<Label, Memory>
     ensures { IfOk result (λ l. l ≡ label_or label.now (lookup (same_text name.now) derived.now.exports)) }
 {
     for (exported, own) in derived.exports.as_slice() {
@@ -189,7 +189,7 @@ fn label_in(derived: &LibRecord, name: &Symbol, label: &Label) -> Result<Label, 
 
 /// A name of the implementation with what it stands for: a derived one for the label under which the record exports it.
 pub fn relabelled(
-    derived: &LibRecord,
+    derived: &CompiledLibrary,
     name: &Symbol,
     label: &Label,
 ) -> Result<(Symbol, Label), Memory>

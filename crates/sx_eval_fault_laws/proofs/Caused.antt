@@ -25,7 +25,7 @@ use Rattle.sx_value.specs.declared.value.Value.{Value}
 use Rattle.sx_value.specs.declared.value.Value.TheVariants as value
 use Rattle.sx_value.specs.declared.cell.Cell.{Cell}
 use Rattle.sx_value.specs.declared.cell.Cell.TheVariants as cell
-use Rattle.sx_pattern.specs.declared.columns.Found.{Found}
+use Rattle.sx_pattern.specs.declared.columns.PatternBinds.{PatternBinds}
 use Rattle.sx_prims.specs.Answers.{Answer}
 use Rattle.sx_prims.specs.Chains.{list_elements}
 use Rattle.sx_prims.specs.Cost.{cost}
@@ -41,9 +41,9 @@ use Rattle.sx_eval.specs.Procedures.{takes_so_many, takes, first_case, has_text,
 use Rattle.sx_eval.specs.Quoted.{datum_cost}
 use Rattle.sx_eval.specs.Setting.{PlainSetting}
 use Rattle.sx_eval.specs.Spread.{Call, apply_args, before_last, parted, with_elements, with_front, on_parts, spread_once, spread_on, spread_to, spread}
-use Rattle.sx_eval.specs.State.{State, Outcome, done, faulted, unfit, Go, then_do, charged, made, store, next_place}
+use Rattle.sx_eval.specs.State.{WorldState, Outcome, done, faulted, unfit, Go, then_do, charged, made, store, next_place}
 use Rattle.sx_eval.specs.Variables.{Entries, entry_in, here_or_up, found, assigned}
-use Rattle.sx_eval_fault_laws.specs.Causes.{AreWords, HasUnset, HasNone, IsUnset, AreFor, NoneTakes, IsBadApply, IsFaultOf, FaultsAreOfThese}
+use Rattle.sx_eval_fault_laws.specs.Causes.{AreWords, HasUnset, HasNone, IsUnset, AreFor, NoneTakes, IsBadApply, IsEvaluationFault, FaultsAreOfThese}
 use Rattle.sx_eval_fault_laws.specs.Causes as c
 use Rattle.sx_eval_fault_laws.proofs.Refused.{refusals-are-told}
 use Rattle.sx_eval_fault_laws.proofs.Uneven.{MayBeUneven, IsUneven, uneven-instance, uneven-measure}
@@ -159,10 +159,10 @@ parted-is (x ∷ xs) front last h = by (parted-is xs) (parted xs) refl (let k : 
 module _ (w : PlainSetting) where
   abbrev pub Told : Outcome → Type 0
   Told (done v t m) = Unit {0}
-  Told (faulted f t m) = IsFaultOf w t f
+  Told (faulted f t m) = IsEvaluationFault w t f
   Told unfit = Unit {0}
 
-  told-then : (o : Outcome) (g : Go) → Told o → ((v : Value) (t : State) (m : ℕ) → Told (g v t m)) → Told (then_do o g)
+  told-then : (o : Outcome) (g : Go) → Told o → ((v : Value) (t : WorldState) (m : ℕ) → Told (g v t m)) → Told (then_do o g)
   told-then (done v t m) g h k = k v t m
   told-then (faulted f t m) g h k = h
   told-then unfit g h k = tt
@@ -171,53 +171,53 @@ module _ (w : PlainSetting) where
   told-if true o p h k = h
   told-if false o p h k = k
 
-  told-charged : (s : State) (price n : ℕ) (g : ℕ → Outcome) → ((m : ℕ) → Told (g m)) → Told (charged price s n g)
+  told-charged : (s : WorldState) (price n : ℕ) (g : ℕ → Outcome) → ((m : ℕ) → Told (g m)) → Told (charged price s n g)
   told-charged s price n g h = told-if (nat_lt n price) (faulted fuel_spent s n) (g (n - price)) c.spent (h (n - price))
 
-  of-uneven : (s : State) (f : Bare) → IsUneven f → IsFaultOf w s f
-  of-uneven s f u = subst (λ g. IsFaultOf w s g) (sym u.1.1.1) (c.uneven u.1.1.0)
+  of-uneven : (s : WorldState) (f : Bare) → IsUneven f → IsEvaluationFault w s f
+  of-uneven s f u = subst (λ g. IsEvaluationFault w s g) (sym u.1.1.1) (c.uneven u.1.1.0)
 
-  told-made : (s : State) (r : Result (Value × List Cell) Bare) → MayBeUneven r → (n : ℕ) → Told (instance_made s r n)
+  told-made : (s : WorldState) (r : Result (Value × List Cell) Bare) → MayBeUneven r → (n : ℕ) → Told (instance_made s r n)
   told-made s (Ok p) u n = tt
   told-made s (Err f) u n = of-uneven s f u
 
-  told-paid : (s : State) (n : ℕ) (r : Result (Value × List Cell) Bare) (k : Result ℕ Bare) → MayBeUneven r → MayBeUneven k → Told (instance_paid s n r k)
+  told-paid : (s : WorldState) (n : ℕ) (r : Result (Value × List Cell) Bare) (k : Result ℕ Bare) → MayBeUneven r → MayBeUneven k → Told (instance_paid s n r k)
   told-paid s n r (Ok price) u v = told-charged s price n (instance_made s r) (told-made s r u)
   told-paid s n r (Err f) u v = of-uneven s f v
 
-  told-with : (t : PlainTemplate) (s : State) (n : ℕ) (o : Option Binds) → Told (instance_with t s n o)
+  told-with : (t : PlainTemplate) (s : WorldState) (n : ℕ) (o : Option Binds) → Told (instance_with t s n o)
   told-with t s n None = tt
   told-with t s n (Some bs) = told-paid s n (instance_of bs t s.cells) (cost_of bs t) (uneven-instance unbound bs t [] s.cells) (uneven-measure unbound bs t [])
 
-  told-instanced : (t : PlainTemplate) (scope : Place) (s : State) (n : ℕ) → Told (instanced t scope s n)
+  told-instanced : (t : PlainTemplate) (scope : Place) (s : WorldState) (n : ℕ) → Told (instanced t scope s n)
   unfolding instanced
   told-instanced t scope s n = told-with t s n (gathered s.cells scope t [])
 
-  told-answer : (op : ℕ) (args : List Value) (s : State) (n : ℕ) (a : Answer) → delta op args s.cells w.frames ≡ a → Told (answer_made s n a)
+  told-answer : (op : ℕ) (args : List Value) (s : WorldState) (n : ℕ) (a : Answer) → delta op args s.cells w.frames ≡ a → Told (answer_made s n a)
   told-answer op args s n (Ok m) e = tt
   told-answer op args s n (Err f) e = c.refused (refusals-are-told.only op args s.cells w.frames f e)
 
-  told-primitive : (op : ℕ) (args : List Value) (s : State) (n : ℕ) → Told (primitive_called w op args s n)
+  told-primitive : (op : ℕ) (args : List Value) (s : WorldState) (n : ℕ) → Told (primitive_called w op args s n)
   unfolding primitive_called
   told-primitive op args s n =
       told-charged s (cost op args s.cells) n (λ m. answer_made s m (delta op args s.cells w.frames)) (λ m. told-answer op args s m (delta op args s.cells w.frames) refl)
 
-  told-read : (l : Label) (scope : Place) (s : State) (n : ℕ) (o : Option (Option Value)) → found (suc (length s.cells)) w.globals s.cells l (Some scope) ≡ o → Told (variable_read w l s n o)
+  told-read : (l : Label) (scope : Place) (s : WorldState) (n : ℕ) (o : Option (Option Value)) → found (suc (length s.cells)) w.globals s.cells l (Some scope) ≡ o → Told (variable_read w l s n o)
   told-read l scope s n None e = tt
   told-read l scope s n (Some None) e = c.unset (is-unset w.globals s.cells l (suc (length s.cells)) scope e) (words-are l (rows_in l.0.library w.frames))
   told-read l scope s n (Some (Some v)) e = tt
 
-  told-variable : (l : Label) (scope : Place) (s : State) (n : ℕ) → Told (variable_value w l scope s n)
+  told-variable : (l : Label) (scope : Place) (s : WorldState) (n : ℕ) → Told (variable_value w l scope s n)
   unfolding variable_value
   told-variable l scope s n = told-read l scope s n (found (suc (length s.cells)) w.globals s.cells l (Some scope)) refl
 
-  told-quoted : (d : PlainDatum) (s : State) (n : ℕ) → Told (quoted_value d s n)
+  told-quoted : (d : PlainDatum) (s : WorldState) (n : ℕ) → Told (quoted_value d s n)
   unfolding quoted_value
   told-quoted d s n = told-charged s (datum_cost d) n (made s.names (stored d s.cells)) (λ m. tt)
 
   -- Calls.
 
-  module _ (s : State) (g : Call) (told : (vs : List Value) (n : ℕ) → Told (g vs n)) where
+  module _ (s : WorldState) (g : Call) (told : (vs : List Value) (n : ℕ) → Told (g vs n)) where
     told-elements : (x : Value) (front : List Value) (last : Value) (n : ℕ) (o : Option (List Value)) → list_elements s.cells last ≡ o → Told (with_elements (x ∷ front) s g n o)
     told-elements x front last n None e = c.bad_apply (c.on_no_list {x = x} front last e)
     told-elements x front last n (Some xs) e = told-charged s (length xs) n (g (x ∷ front ++ xs)) (told (x ∷ front ++ xs))
@@ -234,7 +234,7 @@ module _ (w : PlainSetting) where
     unfolding spread_once
     told-once args n = told-parts n (parted args)
 
-  module _ (s : State) (g : Call) (told : (vs : List Value) (n : ℕ) → Told (g vs n)) where
+  module _ (s : WorldState) (g : Call) (told : (vs : List Value) (n : ℕ) → Told (g vs n)) where
     told-to : (turns : ℕ) (vs : List Value) (n : ℕ) → Told (spread_to turns s g vs n)
     told-to zero vs n = tt
     told-to (suc turns) vs n = by_args (told-to turns) (apply_args vs)
@@ -247,21 +247,21 @@ module _ (w : PlainSetting) where
     unfolding spread
     told-spread vs n = told-to (suc (n + length vs)) vs n
 
-  module _ (E : Evaluator) (told : (e : PlainCore) (scope : Place) (s : State) (n : ℕ) → Told (E e scope s n)) where
-    told-case : (number : CodeNo) (code : PlainCode) → code_at w.codes number ≡ Some code → (parent : Place) (args : List Value) (s : State) (n : ℕ) (x : Option (Formals × PlainCore)) → first_case code.cases (length args) ≡ x
+  module _ (E : Evaluator) (told : (e : PlainCore) (scope : Place) (s : WorldState) (n : ℕ) → Told (E e scope s n)) where
+    told-case : (number : CodeNo) (code : PlainCode) → code_at w.codes number ≡ Some code → (parent : Place) (args : List Value) (s : WorldState) (n : ℕ) (x : Option (Formals × PlainCore)) → first_case code.cases (length args) ≡ x
         → Told (by_case w E parent args s n x)
     told-case number code at parent args s n None e = c.no_case_takes {count = length args} number at (none-takes code.cases (length args) e)
     told-case number code at parent args s n (Some x) e = told _ _ _ n
 
-    told-code : (number : CodeNo) (parent : Place) (args : List Value) (s : State) (n : ℕ) (x : Option PlainCode) → code_at w.codes number ≡ x → Told (by_code w E parent args s n x)
+    told-code : (number : CodeNo) (parent : Place) (args : List Value) (s : WorldState) (n : ℕ) (x : Option PlainCode) → code_at w.codes number ≡ x → Told (by_code w E parent args s n x)
     told-code number parent args s n None e = tt
     told-code number parent args s n (Some code) e = told-case number code e parent args s n (first_case code.cases (length args)) refl
 
-    told-procedure : (number : CodeNo) (parent : Place) (args : List Value) (s : State) (n : ℕ) → Told (procedure_called w E number parent args s n)
+    told-procedure : (number : CodeNo) (parent : Place) (args : List Value) (s : WorldState) (n : ℕ) → Told (procedure_called w E number parent args s n)
     unfolding procedure_called
     told-procedure number parent args s n = told-code number parent args s n (code_at w.codes number) refl
 
-    told-text_value : (args : List Value) (v : Value) (s : State) (n : ℕ) → Told (text_value_called w E args v s n)
+    told-text_value : (args : List Value) (v : Value) (s : WorldState) (n : ℕ) → Told (text_value_called w E args v s n)
     told-text_value args (value.Closure number parent) s n = told-procedure number parent args s n
     told-text_value args value.Unspecified s n = tt
     told-text_value args (value.Atom x) s n = tt
@@ -273,15 +273,15 @@ module _ (w : PlainSetting) where
     told-text_value args (value.Syn t) s n = tt
     told-text_value args (value.Transformer p) s n = tt
 
-    told-text : (args : List Value) (s : State) (n : ℕ) (x : Option PlainCore) → Told (by_text w E args s n x)
+    told-text : (args : List Value) (s : WorldState) (n : ℕ) (x : Option PlainCore) → Told (by_text w E args s n x)
     told-text args s n None = tt
     told-text args s n (Some body) = told-then _ _ (told body _ _ n) (told-text_value args)
 
-    told-op : (op : Op) (args : List Value) (s : State) (n : ℕ) → Told (op_called w E op args s n)
+    told-op : (op : Op) (args : List Value) (s : WorldState) (n : ℕ) → Told (op_called w E op args s n)
     unfolding op_called
     told-op op args s n = told-if (has_text op.0) _ _ (told-text args s n (text_body (code_at w.codes (text_number op.0)))) (told-primitive op.0 args s n)
 
-    told-value : (f : Value) (args : List Value) (s : State) (n : ℕ) → Told (value_called w E f args s n)
+    told-value : (f : Value) (args : List Value) (s : WorldState) (n : ℕ) → Told (value_called w E f args s n)
     told-value (value.Closure number parent) args s n = told-procedure number parent args s n
     told-value (value.Prim op) args s n = told-op op args s n
     told-value value.Unspecified args s n = c.no_procedure
@@ -293,47 +293,47 @@ module _ (w : PlainSetting) where
     told-value (value.Syn t) args s n = c.no_procedure
     told-value (value.Transformer p) args s n = c.no_procedure
 
-    told-first : (s : State) (vs : List Value) (n : ℕ) → Told (first_called w E s vs n)
+    told-first : (s : WorldState) (vs : List Value) (n : ℕ) → Told (first_called w E s vs n)
     unfolding first_called
     told-first s [] n = tt
     told-first s (f ∷ args) n = told-value f args s n
 
-    told-applied : (vs : List Value) (s : State) (n : ℕ) → Told (applied w E vs s n)
+    told-applied : (vs : List Value) (s : WorldState) (n : ℕ) → Told (applied w E vs s n)
     unfolding applied
     told-applied vs s n = told-spread s (first_called w E s) (told-first s) vs n
 
     -- Parts in order.
 
-    told-operands : (cs : PlainCores) (scope : Place) (vs : List Value) (s : State) (n : ℕ) → Told (operands w E cs scope vs s n)
+    told-operands : (cs : PlainCores) (scope : Place) (vs : List Value) (s : WorldState) (n : ℕ) → Told (operands w E cs scope vs s n)
     told-operands none scope vs s n = told-applied vs s n
     told-operands (more e cs) scope vs s n = told-then _ _ (told e scope s n) (λ v t m. told-operands cs scope (vs ++ v ∷ []) t m)
 
-    told-sequence : (cs : PlainCores) (scope : Place) (s : State) (n : ℕ) → Told (in_sequence w E cs scope s n)
+    told-sequence : (cs : PlainCores) (scope : Place) (s : WorldState) (n : ℕ) → Told (in_sequence w E cs scope s n)
     told-sequence none scope s n = tt
     told-sequence (more e none) scope s n = told e scope s n
     told-sequence (more e (more d cs)) scope s n = told-then _ _ (told e scope s n) (λ v t m. told-sequence (more d cs) scope t m)
 
-    told-in_turn : (is : PlainInits) (body : PlainCore) (scope : Place) (s : State) (n : ℕ) → Told (in_turn w E is body scope s n)
+    told-in_turn : (is : PlainInits) (body : PlainCore) (scope : Place) (s : WorldState) (n : ℕ) → Told (in_turn w E is body scope s n)
     told-in_turn no_init body scope s n = told body scope s n
     told-in_turn (init l e is) body scope s n = told-then _ _ (told e scope s n) (λ v t m. told-in_turn is body scope (store (assigned t.cells scope l v) t.names) m)
 
-    told-at_once : (is all : PlainInits) (body : PlainCore) (scope : Place) (vs : List Value) (s : State) (n : ℕ) → Told (at_once w E is all body scope vs s n)
+    told-at_once : (is all : PlainInits) (body : PlainCore) (scope : Place) (vs : List Value) (s : WorldState) (n : ℕ) → Told (at_once w E is all body scope vs s n)
     told-at_once no_init all body scope vs s n = told body scope _ n
     told-at_once (init l e is) all body scope vs s n = told-then _ _ (told e scope s n) (λ v t m. told-at_once is all body scope (vs ++ v ∷ []) t m)
 
-    told-letrec : (in_order : Bool) (is : PlainInits) (body : PlainCore) (scope : Place) (s : State) (n : ℕ) → Told (by_letrec w E in_order is body scope s n)
+    told-letrec : (in_order : Bool) (is : PlainInits) (body : PlainCore) (scope : Place) (s : WorldState) (n : ℕ) → Told (by_letrec w E in_order is body scope s n)
     told-letrec true is body scope s n = told-in_turn is body scope s n
     told-letrec false is body scope s n = told-at_once is is body scope [] s n
 
     -- `syntax-case`
 
-    abbrev Next : (Place → State → ℕ → Outcome) → Type 0
-    Next g = (scope : Place) (s : State) (n : ℕ) → Told (g scope s n)
+    abbrev Next : (Place → WorldState → ℕ → Outcome) → Type 0
+    Next g = (scope : Place) (s : WorldState) (n : ℕ) → Told (g scope s n)
 
-    told-asked : (g : Place → State → ℕ → Outcome) → Next g → (fender output : PlainCore) (scope : Place) (f : Found) (s : State) (n : ℕ) → Told (fender_asked w E g fender output scope f s n)
+    told-asked : (g : Place → WorldState → ℕ → Outcome) → Next g → (fender output : PlainCore) (scope : Place) (f : PatternBinds) (s : WorldState) (n : ℕ) → Told (fender_asked w E g fender output scope f s n)
     told-asked g next fender output scope f s n = told-then _ _ (told fender _ _ n) (λ v t m. told-if (truth_of v) _ _ (told output (next_place s) t m) (next scope t m))
 
-    told-match : (g : Place → State → ℕ → Outcome) → Next g → (i : Found → State → ℕ → Outcome) → ((f : Found) (s : State) (n : ℕ) → Told (i f s n)) → (scope : Place) (s : State) (n : ℕ) (o : Option Found)
+    told-match : (g : Place → WorldState → ℕ → Outcome) → Next g → (i : PatternBinds → WorldState → ℕ → Outcome) → ((f : PatternBinds) (s : WorldState) (n : ℕ) → Told (i f s n)) → (scope : Place) (s : WorldState) (n : ℕ) (o : Option PatternBinds)
         → Told (on_match w E g i scope s n o)
     told-match g next i take scope s n None = next scope s n
     told-match g next i take scope s n (Some f) = told-charged s f.taken n (i f s) (take f s)
@@ -347,7 +347,7 @@ module _ (w : PlainSetting) where
         told-charged s 1 n _
         (λ m. told-match (tried w E cs v) (told-tried cs v) (fender_asked w E (tried w E cs v) fender output scope) (told-asked (tried w E cs v) (told-tried cs v) fender output scope) scope s m (match_of w.frames s.cells p v))
 
-    told-expressed : (e : PlainCore) (scope : Place) (s : State) (n : ℕ) → Told (expressed w E e scope s n)
+    told-expressed : (e : PlainCore) (scope : Place) (s : WorldState) (n : ℕ) → Told (expressed w E e scope s n)
     told-expressed (quoted d) scope s n = told-quoted d s n
     told-expressed (variable l) scope s n = told-variable l scope s n
     told-expressed (primitive op) scope s n = tt
@@ -361,23 +361,23 @@ module _ (w : PlainSetting) where
     told-expressed (instance t sp) scope s n = told-instanced t scope s n
     told-expressed (matching e cs sp) scope s n = told-then _ _ (told e scope s n) (λ v t m. told-tried cs v scope t m)
 
-    told-unrolled : (e : PlainCore) (scope : Place) (s : State) (n : ℕ) → Told (unrolled w E e scope s n)
+    told-unrolled : (e : PlainCore) (scope : Place) (s : WorldState) (n : ℕ) → Told (unrolled w E e scope s n)
     told-unrolled e scope s zero = c.spent
     told-unrolled e scope s (suc n) = told-expressed e scope s n
 
-  told-evaluates : (depth : ℕ) (e : PlainCore) (scope : Place) (s : State) (n : ℕ) → Told (evaluates w depth e scope s n)
+  told-evaluates : (depth : ℕ) (e : PlainCore) (scope : Place) (s : WorldState) (n : ℕ) → Told (evaluates w depth e scope s n)
   unfolding evaluates
   told-evaluates zero e scope s n = c.spent
   told-evaluates (suc depth) e scope s n = told-unrolled (evaluates w depth) (told-evaluates depth) e scope s n
 
-  told-eval_of : (e : PlainCore) (scope : Place) (s : State) (n : ℕ) → Told (eval_of w e scope s n)
+  told-eval_of : (e : PlainCore) (scope : Place) (s : WorldState) (n : ℕ) → Told (eval_of w e scope s n)
   unfolding eval_of
   told-eval_of e scope s n = told-evaluates n e scope s n
 
-  told-call : (vs : List Value) (s : State) (n : ℕ) → Told (applied w (eval_of w) vs s n)
+  told-call : (vs : List Value) (s : WorldState) (n : ℕ) → Told (applied w (eval_of w) vs s n)
   told-call vs s n = told-applied (eval_of w) told-eval_of vs s n
 
-  told-lines : (ls : List Line) (scope : Place) (s : State) (n : ℕ) → Told (lines_from (eval_of w) ls scope s n)
+  told-lines : (ls : List Line) (scope : Place) (s : WorldState) (n : ℕ) → Told (lines_from (eval_of w) ls scope s n)
   told-lines [] scope s n = tt
   told-lines (line.Define l e ∷ ls) scope s n = told-then _ _ (told-eval_of e scope s n) (λ v t m. told-lines ls scope (store (assigned t.cells scope l v) t.names) m)
   told-lines (line.Expr e ∷ ls) scope s n = told-then _ _ (told-eval_of e scope s n) (λ v t m. told-lines ls scope t m)

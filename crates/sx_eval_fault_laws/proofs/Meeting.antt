@@ -33,11 +33,11 @@ use Rattle.sx_eval.specs.Meaning.{answer_made, primitive_called, variable_read, 
 use Rattle.sx_eval.specs.Procedures.{takes_so_many, first_case, has_text, text_number, text_body}
 use Rattle.sx_eval.specs.Setting.{PlainSetting}
 use Rattle.sx_eval.specs.Spread.{apply_args, parted, with_elements, on_parts, spread_once, spread_on, spread_to, spread}
-use Rattle.sx_eval.specs.State.{State, Outcome, faulted, then_do, charged, next_place}
+use Rattle.sx_eval.specs.State.{WorldState, Outcome, faulted, then_do, charged, next_place}
 use Rattle.sx_eval.specs.Variables.{Entries, entry_in, parent_in, upwards, here_or_up, found}
 use Rattle.sx_eval_fault_laws.specs.Causes.{AreWords, HasUnset, HasNone, IsUnset, IsProcedure, AreFor, NoneTakes, IsBadApply, with_binds, ArePassed, CausesAreFaults}
 use Rattle.sx_eval_fault_laws.specs.Causes as c
-use Rattle.sx_eval_fault_laws.specs.Refusals.{IsRefused}
+use Rattle.sx_eval_fault_laws.specs.Refusals.{IsRefusedCall}
 use Rattle.sx_eval_fault_laws.proofs.Caused.{label-is, label-self}
 use Rattle.sx_eval_fault_laws.proofs.Refused.{refusals-are-told}
 
@@ -93,15 +93,15 @@ first-none count _ (c.no_more) = refl
 first-none count _ (c.not_this {f} {c = body} {cs} h rest) = ap (λ b. if b then Some (f, body) else first_case cs count) (not-for f.rest (length f.required) count h) ∙ first-none count cs rest
 
 module _ (w : PlainSetting) where
-  abbrev E : PlainCore → Place → State → ℕ → Outcome
+  abbrev E : PlainCore → Place → WorldState → ℕ → Outcome
   E = eval_of w
 
   -- what isn't `apply` is called at once
-  called : (s : State) (f : Value) (args : List Value) (n : ℕ) → apply_args (f ∷ args) ≡ None → applied w E (f ∷ args) s n ≡ value_called w E f args s n
+  called : (s : WorldState) (f : Value) (args : List Value) (n : ℕ) → apply_args (f ∷ args) ≡ None → applied w E (f ∷ args) s n ≡ value_called w E f args s n
   unfolding applied spread first_called
   called s f args n e = ap (λ o. spread_on s (spread_to (n + length (f ∷ args)) s (first_called w E s)) (first_called w E s) (f ∷ args) n o) e
 
-  no-procedure : (v : Value) (args : List Value) (s : State) (n : ℕ) → (IsProcedure v → ⊥) → applied w E (v ∷ args) s n ≡ faulted not_procedure s n
+  no-procedure : (v : Value) (args : List Value) (s : WorldState) (n : ℕ) → (IsProcedure v → ⊥) → applied w E (v ∷ args) s n ≡ faulted not_procedure s n
   no-procedure value.Unspecified args s n h = called s value.Unspecified args n refl
   no-procedure (value.Atom x) args s n h = called s (value.Atom x) args n refl
   no-procedure (value.Symbol x) args s n h = called s (value.Symbol x) args n refl
@@ -113,21 +113,21 @@ module _ (w : PlainSetting) where
   no-procedure (value.Syn t) args s n h = called s (value.Syn t) args n refl
   no-procedure (value.Transformer p) args s n h = called s (value.Transformer p) args n refl
 
-  by-number : (number : CodeNo) (parent : Place) (code : PlainCode) (args : List Value) (s : State) (n : ℕ) → code_at w.codes number ≡ Some code → procedure_called w E number parent args s n ≡ by_case w E parent args s n (first_case code.cases (length args))
+  by-number : (number : CodeNo) (parent : Place) (code : PlainCode) (args : List Value) (s : WorldState) (n : ℕ) → code_at w.codes number ≡ Some code → procedure_called w E number parent args s n ≡ by_case w E parent args s n (first_case code.cases (length args))
   unfolding procedure_called
   by-number number parent code args s n e = ap (λ o. by_code w E parent args s n o) e
 
-  no-case : (number : CodeNo) (parent : Place) (code : PlainCode) (args : List Value) (s : State) (n : ℕ) → code_at w.codes number ≡ Some code → NoneTakes (length args) code.cases
+  no-case : (number : CodeNo) (parent : Place) (code : PlainCode) (args : List Value) (s : WorldState) (n : ℕ) → code_at w.codes number ≡ Some code → NoneTakes (length args) code.cases
       → applied w E (value.Closure number parent ∷ args) s n ≡ faulted (record { kind = kind.Arity; words = decimal (length args) ∷ [] }) s n
   no-case number parent code args s n e h =
       called s (value.Closure number parent) args n refl ∙ by-number number parent code args s n e ∙ ap (λ o. by_case w E parent args s n o) (first-none (length args) code.cases h)
 
-  spread-apply : (args : List Value) (s : State) (n : ℕ)
+  spread-apply : (args : List Value) (s : WorldState) (n : ℕ)
       → applied w E (value.Prim (record { 0 = names.APPLY }) ∷ args) s n ≡ on_parts s (spread_to (n + length (value.Prim (record { 0 = names.APPLY }) ∷ args)) s (first_called w E s)) n (parted args)
   unfolding applied spread spread_once
   spread-apply args s n = refl
 
-  bad-apply : (args : List Value) (s : State) (n : ℕ) (f : Bare) → IsBadApply s.cells args f → applied w E (value.Prim (record { 0 = names.APPLY }) ∷ args) s n ≡ faulted f s n
+  bad-apply : (args : List Value) (s : WorldState) (n : ℕ) (f : Bare) → IsBadApply s.cells args f → applied w E (value.Prim (record { 0 = names.APPLY }) ∷ args) s n ≡ faulted f s n
   bad-apply _ s n _ (c.without_arguments) = spread-apply [] s n
   bad-apply _ s n _ (c.with_one {x}) = spread-apply (x ∷ []) s n
   bad-apply _ s n _ (c.on_no_list {x} xs last e) =
@@ -142,55 +142,55 @@ module _ (w : PlainSetting) where
       by true e = absurd (h (grind (arith, nat_tests, e)))
       by false e = e
 
-  without-text : (op : Op) (args : List Value) (s : State) (n : ℕ) → has_text op.0 ≡ false → op_called w E op args s n ≡ primitive_called w op.0 args s n
+  without-text : (op : Op) (args : List Value) (s : WorldState) (n : ℕ) → has_text op.0 ≡ false → op_called w E op args s n ≡ primitive_called w op.0 args s n
   unfolding op_called
   without-text op args s n e = ap (λ b. if b then by_text w E args s n (text_body (code_at w.codes (text_number op.0))) else primitive_called w op.0 args s n) e
 
-  refused-by : (op : ℕ) (args : List Value) (s : State) (n : ℕ) (f : Bare) → cost op args s.cells ≤ n → IsRefused op args s.cells w.frames f → primitive_called w op args s n ≡ faulted f s (n - cost op args s.cells)
+  refused-by : (op : ℕ) (args : List Value) (s : WorldState) (n : ℕ) (f : Bare) → cost op args s.cells ≤ n → IsRefusedCall op args s.cells w.frames f → primitive_called w op args s n ≡ faulted f s (n - cost op args s.cells)
   unfolding primitive_called
   refused-by op args s n f le h =
       charged_paid s (λ m. answer_made s m (delta op args s.cells w.frames)) (cost op args s.cells) n le
       ∙ ap (λ r. answer_made s (n - cost op args s.cells) r) (refusals-are-told.refused op args s.cells w.frames f h)
 
-  refused-call : (op : Op) (args : List Value) (s : State) (n : ℕ) (f : Bare) → (op.0 ≡ names.APPLY → ⊥) → has_text op.0 ≡ false → cost op.0 args s.cells ≤ n → IsRefused op.0 args s.cells w.frames f
+  refused-call : (op : Op) (args : List Value) (s : WorldState) (n : ℕ) (f : Bare) → (op.0 ≡ names.APPLY → ⊥) → has_text op.0 ≡ false → cost op.0 args s.cells ≤ n → IsRefusedCall op.0 args s.cells w.frames f
       → applied w E (value.Prim op ∷ args) s n ≡ faulted f s (n - cost op.0 args s.cells)
   refused-call op args s n f other text le h =
       called s (value.Prim op) args n (ap (λ b. if b then Some args else None) (not-apply op.0 other)) ∙ without-text op args s n text ∙ refused-by op.0 args s n f le h
 
   -- Expressions.
 
-  read-unset : (l : Label) (scope : Place) (s : State) (n : ℕ) (words : List (List ℕ)) → IsUnset s.cells l (suc (length s.cells)) scope → AreWords l (rows_in l.0.library w.frames) words
+  read-unset : (l : Label) (scope : Place) (s : WorldState) (n : ℕ) (words : List (List ℕ)) → IsUnset s.cells l (suc (length s.cells)) scope → AreWords l (rows_in l.0.library w.frames) words
       → variable_value w l scope s n ≡ faulted (record { kind = kind.UnsetVariable; words = words }) s n
   unfolding variable_value
   read-unset l scope s n words u h =
       ap (λ o. variable_read w l s n o) (found-unset w.globals s.cells l (suc (length s.cells)) scope u)
       ∙ ap (λ ws. faulted (record { kind = kind.UnsetVariable; words = ws }) s n) (words-only l (rows_in l.0.library w.frames) words h)
 
-  template-fault : (t : PlainTemplate) (scope : Place) (s : State) (n : ℕ) (bs : Binds) (f : Bare) → gathered s.cells scope t [] ≡ Some bs → cost_of bs t ≡ Err f → instanced t scope s n ≡ faulted f s n
+  template-fault : (t : PlainTemplate) (scope : Place) (s : WorldState) (n : ℕ) (bs : Binds) (f : Bare) → gathered s.cells scope t [] ≡ Some bs → cost_of bs t ≡ Err f → instanced t scope s n ≡ faulted f s n
   unfolding instanced
   template-fault t scope s n bs f g e = ap (λ o. instance_with t s n o) g ∙ ap (λ r. instance_paid s n (instance_of bs t s.cells) r) e
 
   -- `syntax-case`
 
-  one-unit : (s : State) (n : ℕ) (go : ℕ → Outcome) → charged 1 s (suc n) go ≡ go n
+  one-unit : (s : WorldState) (n : ℕ) (go : ℕ → Outcome) → charged 1 s (suc n) go ≡ go n
   one-unit s n go = charged_paid s go 1 (suc n) (omega arith) ∙ ap go (omega arith)
 
   module _ (v : Value) where
-    tried-one : (p : PlainPattern) (output : PlainCore) (cs : PlainClauses) (scope : Place) (s : State) (n : ℕ)
+    tried-one : (p : PlainPattern) (output : PlainCore) (cs : PlainClauses) (scope : Place) (s : WorldState) (n : ℕ)
         → tried w E (clause p output cs) v scope s (suc n) ≡ on_match w E (tried w E cs v) (output_given w E output scope) scope s n (match_of w.frames s.cells p v)
     unfolding tried
     tried-one p output cs scope s n = one-unit s n (λ m. on_match w E (tried w E cs v) (output_given w E output scope) scope s m (match_of w.frames s.cells p v))
 
-    tried-fended : (p : PlainPattern) (fender output : PlainCore) (cs : PlainClauses) (scope : Place) (s : State) (n : ℕ)
+    tried-fended : (p : PlainPattern) (fender output : PlainCore) (cs : PlainClauses) (scope : Place) (s : WorldState) (n : ℕ)
         → tried w E (fended p fender output cs) v scope s (suc n) ≡ on_match w E (tried w E cs v) (fender_asked w E (tried w E cs v) fender output scope) scope s n (match_of w.frames s.cells p v)
     unfolding tried
     tried-fended p fender output cs scope s n = one-unit s n (λ m. on_match w E (tried w E cs v) (fender_asked w E (tried w E cs v) fender output scope) scope s m (match_of w.frames s.cells p v))
 
-    tried-none : (scope : Place) (s : State) (n : ℕ) → tried w E no_clause v scope s n ≡ faulted no_match s n
+    tried-none : (scope : Place) (s : WorldState) (n : ℕ) → tried w E no_clause v scope s n ≡ faulted no_match s n
     unfolding tried
     tried-none scope s n = refl
 
-    passed : (cs : PlainClauses) (scope : Place) (s : State) (n : ℕ) (t : State) (m : ℕ) → ArePassed w v cs scope s n t m → tried w E cs v scope s n ≡ faulted no_match t m
+    passed : (cs : PlainClauses) (scope : Place) (s : WorldState) (n : ℕ) (t : WorldState) (m : ℕ) → ArePassed w v cs scope s n t m → tried w E cs v scope s n ≡ faulted no_match t m
     passed _ _ _ _ _ _ (c.none_is_left {scope} {s} {n}) = tried-none scope s n
     passed _ _ _ _ _ _ (c.no_match {p} {output} {cs} {scope} {s} {t} {n} {m} e rest) =
         tried-one p output cs scope s n ∙ ap (λ o. on_match w E (tried w E cs v) (output_given w E output scope) scope s n o) e ∙ passed cs scope s n t m rest

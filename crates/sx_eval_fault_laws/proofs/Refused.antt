@@ -28,11 +28,11 @@ use Rattle.sx_prims.specs.Primitives.{primitive_of, takes, at_most}
 use Rattle.sx_prims.specs.Raised.{raised, word_of, is_who, raised_fault}
 use Rattle.sx_prims.specs.Strings.{string_of, part_made, unpacked_made, string_made, digits_made, strings_made}
 use Rattle.sx_prims.specs.Syntax.{identifier, identifier_made, temporaries_made}
-use Rattle.sx_prims.specs.declared.made.Made.{Made}
-use Rattle.sx_prims.specs.declared.made.Made.TheVariants as made
+use Rattle.sx_prims.specs.declared.made.PrimResult.{PrimResult}
+use Rattle.sx_prims.specs.declared.made.PrimResult.TheVariants as made
 use Rattle.sx_prims.specs.declared.primitive.Primitive.{Primitive}
 use Rattle.sx_prims.specs.declared.rows.TheConstants as rows
-use Rattle.sx_eval_fault_laws.specs.Refusals.{AreAtMost, TakesSoMany, IsWho, IsMessage, IsRaised, IsOfRow, IsRefused, RefusalsAreTold}
+use Rattle.sx_eval_fault_laws.specs.Refusals.{AreAtMost, TakesSoMany, IsWho, IsMessage, IsRaised, IsOfRow, IsRefusedCall, RefusalsAreTold}
 use Rattle.sx_eval_fault_laws.specs.Refusals as r
 
 -- Trees that pass a limit.
@@ -97,7 +97,7 @@ module _ (op row : ℕ) (args : List Value) (cells : List Cell) where
   Of (Ok m) = Unit {0}
   Of (Err f) = IsOfRow op row args cells f
 
-  of-made : (o : Option Made) → Of (or_refused op o)
+  of-made : (o : Option PrimResult) → Of (or_refused op o)
   of-made None = r.refuses
   of-made (Some m) = tt
 
@@ -233,17 +233,17 @@ takes-not p count h t = by p.most t.most (let k : nat_le p.least count ≡ true 
 -- Calls.
 
 module _ (op : ℕ) (args : List Value) (cells : List Cell) (frames : Scope) where
-  only-by : (o : Option Primitive) → primitive_of op ≡ o → (f : Bare) → answer_by o op args cells frames ≡ Err f → IsRefused op args cells frames f
-  only-by None e f h = subst (λ g. IsRefused op args cells frames g) (let k : no_primitive op ≡ f = cc in k) (r.no_primitive e)
+  only-by : (o : Option Primitive) → primitive_of op ≡ o → (f : Bare) → answer_by o op args cells frames ≡ Err f → IsRefusedCall op args cells frames f
+  only-by None e f h = subst (λ g. IsRefusedCall op args cells frames g) (let k : no_primitive op ≡ f = cc in k) (r.no_primitive e)
   only-by (Some p) e f h = by (takes p (length args)) refl h
     where
-      by-row : takes p (length args) ≡ true → (q : Answer) → row_answer p.row op args cells frames ≡ q → Of op p.row args cells q → q ≡ Err f → IsRefused op args cells frames f
+      by-row : takes p (length args) ≡ true → (q : Answer) → row_answer p.row op args cells frames ≡ q → Of op p.row args cells q → q ≡ Err f → IsRefusedCall op args cells frames f
       by-row t (Ok m) same of is = absurd (cc)
       by-row t (Err g) same of is = let g-is : g ≡ f = cc in r.wrong_arguments e (takes-so-many p (length args) t) (same ∙ is) (subst (λ x. IsOfRow op p.row args cells x) g-is of)
 
-      by : (b : Bool) → takes p (length args) ≡ b → (if b then row_answer p.row op args cells frames else Err (wrong_count (length args))) ≡ Err f → IsRefused op args cells frames f
+      by : (b : Bool) → takes p (length args) ≡ b → (if b then row_answer p.row op args cells frames else Err (wrong_count (length args))) ≡ Err f → IsRefusedCall op args cells frames f
       by true t k = by-row t (row_answer p.row op args cells frames) refl (of-row p.row op args cells frames) k
-      by false t k = subst (λ g. IsRefused op args cells frames g) (let g : wrong_count (length args) ≡ f = cc in g) (r.wrong_number e (takes-not p (length args) t))
+      by false t k = subst (λ g. IsRefusedCall op args cells frames g) (let g : wrong_count (length args) ≡ f = cc in g) (r.wrong_number e (takes-not p (length args) t))
 
   answered-by : (o : Option Primitive) → primitive_of op ≡ o → delta op args cells frames ≡ answer_by o op args cells frames
   unfolding delta
@@ -266,7 +266,7 @@ module _ (op : ℕ) (args : List Value) (cells : List Cell) (frames : Scope) whe
       by true e = absurd (t (takes-so-many p (length args) e))
       by false e = e
 
-  is-refused : (f : Bare) → IsRefused op args cells frames f → delta op args cells frames ≡ Err f
+  is-refused : (f : Bare) → IsRefusedCall op args cells frames f → delta op args cells frames ≡ Err f
   is-refused _ (r.no_primitive e) = answered-by None e
   is-refused _ (r.wrong_number {p} e t) = answered-by (Some p) e ∙ by-takes p false (does-not p t)
   is-refused _ (r.wrong_arguments {p} {f} e t h of) = answered-by (Some p) e ∙ by-takes p true (does-take p t) ∙ h

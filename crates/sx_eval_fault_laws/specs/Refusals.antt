@@ -50,12 +50,12 @@ pub data IsOfRow (op row : ℕ) (args : List Value) (cells : List Cell) : Bare �
   too_deep : row ≡ rows.TREES → IsOfRow op row args cells (record { kind = kind.TooDeep; words = [] })
 
 -- There is no such primitive during expansion; or it doesn't take so many arguments, and the fault tells their number; or it refuses these.
-pub data IsRefused (op : ℕ) (args : List Value) (cells : List Cell) (frames : Scope) : Bare → Type 0 where
-  no_primitive : primitive_of op ≡ None → IsRefused op args cells frames (record { kind = kind.NoPrimitive; words = op_text op ∷ [] })
-  wrong_number : {p : Primitive} → primitive_of op ≡ Some p → (TakesSoMany p (length args) → ⊥) → IsRefused op args cells frames (record { kind = kind.Arity; words = decimal (length args) ∷ [] })
-  wrong_arguments : {p : Primitive} {f : Bare} → primitive_of op ≡ Some p → TakesSoMany p (length args) → row_answer p.row op args cells frames ≡ Err f → IsOfRow op p.row args cells f → IsRefused op args cells frames f
+pub data IsRefusedCall (op : ℕ) (args : List Value) (cells : List Cell) (frames : Scope) : Bare → Type 0 where
+  no_primitive : primitive_of op ≡ None → IsRefusedCall op args cells frames (record { kind = kind.NoPrimitive; words = op_text op ∷ [] })
+  wrong_number : {p : Primitive} → primitive_of op ≡ Some p → (TakesSoMany p (length args) → ⊥) → IsRefusedCall op args cells frames (record { kind = kind.Arity; words = decimal (length args) ∷ [] })
+  wrong_arguments : {p : Primitive} {f : Bare} → primitive_of op ≡ Some p → TakesSoMany p (length args) → row_answer p.row op args cells frames ≡ Err f → IsOfRow op p.row args cells f → IsRefusedCall op args cells frames f
 
 -- A call is refused exactly so.
 pub record RefusalsAreTold : Type 0 where
-  pub refused : (op : ℕ) (args : List Value) (cells : List Cell) (frames : Scope) (f : Bare) → IsRefused op args cells frames f → delta op args cells frames ≡ Err f
-  pub only : (op : ℕ) (args : List Value) (cells : List Cell) (frames : Scope) (f : Bare) → delta op args cells frames ≡ Err f → IsRefused op args cells frames f
+  pub refused : (op : ℕ) (args : List Value) (cells : List Cell) (frames : Scope) (f : Bare) → IsRefusedCall op args cells frames f → delta op args cells frames ≡ Err f
+  pub only : (op : ℕ) (args : List Value) (cells : List Cell) (frames : Scope) (f : Bare) → delta op args cells frames ≡ Err f → IsRefusedCall op args cells frames f

@@ -19,7 +19,7 @@ use Rattle.sx_value.specs.ToSyntax.{fuel_spent}
 use Rattle.sx_value.specs.declared.value.Value.{Value}
 use Rattle.sx_value.specs.declared.value.Value.TheVariants as value
 use Rattle.sx_value.specs.declared.cell.Cell.{Cell}
-use Rattle.sx_pattern.specs.declared.columns.Found.{Found}
+use Rattle.sx_pattern.specs.declared.columns.PatternBinds.{PatternBinds}
 use Rattle.sx_prims.specs.Answers.{Answer}
 use Rattle.sx_prims.specs.Chains.{list_elements}
 use Rattle.sx_prims.specs.Cost.{cost}
@@ -32,7 +32,7 @@ use Rattle.sx_eval.specs.Procedures.{first_case, has_text, text_number, text_bod
 use Rattle.sx_eval.specs.Quoted.{datum_cost}
 use Rattle.sx_eval.specs.Setting.{PlainSetting}
 use Rattle.sx_eval.specs.Spread.{Call, apply_args, parted, before_last, with_elements, with_front, on_parts, spread_once, spread_on, spread_to, spread}
-use Rattle.sx_eval.specs.State.{State, Outcome, done, faulted, unfit, Go, then_do, charged, made, store, next_place}
+use Rattle.sx_eval.specs.State.{WorldState, Outcome, done, faulted, unfit, Go, then_do, charged, made, store, next_place}
 use Rattle.sx_eval.specs.Variables.{found, assigned, all_assigned}
 use Rattle.sx_eval.specs.Meaning.{Evaluator, answer_made, primitive_called, variable_read, variable_value, quoted_value, by_case, by_code, procedure_called, text_value_called, by_text, op_called, value_called, first_called, applied, operands, in_sequence, one_arm, two_arms, in_turn, at_once, by_letrec, fender_passed, output_given, fender_asked, on_match, tried, expressed, evaluates, eval_of}
 use Rattle.sx_eval.proofs.Fuel.{Within, Same, Alike, AlikeCalls, Same-of, Same-then, Same-spread_to, Same-text_value, Same-first, Same-operands, Same-in_sequence, Same-one_arm, Same-two_arms, Same-in_turn, Same-at_once, Same-fender_passed, Same-on_match, Same-tried, Same-expressed, Alike-evaluates, Alike-eval_of, eval_of_is}
@@ -66,7 +66,7 @@ short_below k unfit l = tt
 
 -- no value leaves more fuel than it comes with
 abbrev pub Falls : Go → Type 0
-Falls h = (v : Value) (s : State) (m : ℕ) → Within m (h v s m)
+Falls h = (v : Value) (s : WorldState) (m : ℕ) → Within m (h v s m)
 
 below_then : (k : ℕ) (p : Outcome) (h : Go) → Below k p → Falls h → Below k (then_do p h)
 below_then k (done v s m) h l falls = below_within k m (h v s m) (falls v s m) l
@@ -97,7 +97,7 @@ pub record Carried (b : ℕ) (o : Outcome) (run : ByFuel) : Type 0 where
   pub within : Within b o
 
 abbrev pub AlikeMore : ℕ → Evaluator → Type 0
-AlikeMore b E = (c : PlainCore) (scope : Place) (s : State) (n : ℕ) → n ≤ b → Carried b (E c scope s n) (λ k. E c scope s (n + k))
+AlikeMore b E = (c : PlainCore) (scope : Place) (s : WorldState) (n : ℕ) → n ≤ b → Carried b (E c scope s n) (λ k. E c scope s (n + k))
 
 carried-cong : (b : ℕ) (o : Outcome) (p q : ByFuel) → ((k : ℕ) → p k ≡ q k) → Carried b o p → Carried b o q
 carried-cong b o p q e c = subst (λ r. Carried b o r) (λ i k. e k i) c
@@ -170,15 +170,15 @@ front_shorter (x ∷ xs) p e = front_length xs x ∙ ap (λ (q : List Value × V
 
 module _ (b : ℕ) where
   abbrev GoesMore : Go → Type 0
-  GoesMore g = (v : Value) (s : State) (n : ℕ) → n ≤ b → Carried b (g v s n) (λ k. g v s (n + k))
+  GoesMore g = (v : Value) (s : WorldState) (n : ℕ) → n ≤ b → Carried b (g v s n) (λ k. g v s (n + k))
 
   abbrev CallsMore : Call → Type 0
   CallsMore g = (vs : List Value) (n : ℕ) → n ≤ b → Carried b (g vs n) (λ k. g vs (n + k))
 
-  here-done : (v : Value) (s : State) (n : ℕ) → n ≤ b → Carried b (done v s n) (λ k. done v s (n + k))
+  here-done : (v : Value) (s : WorldState) (n : ℕ) → n ≤ b → Carried b (done v s n) (λ k. done v s (n + k))
   here-done v s n le = record { carries = λ k. refl; within = le }
 
-  here-fault : (f : Bare) → IsOther f.kind → (s : State) (n : ℕ) → n ≤ b → Carried b (faulted f s n) (λ k. faulted f s (n + k))
+  here-fault : (f : Bare) → IsOther f.kind → (s : WorldState) (n : ℕ) → n ≤ b → Carried b (faulted f s n) (λ k. faulted f s (n + k))
   here-fault f other s n le = record { carries = inr (other, λ k. refl); within = le }
 
   here-unfit : Carried b unfit (λ k. unfit)
@@ -203,7 +203,7 @@ module _ (b : ℕ) where
   carried-if false o p q r c d = d
 
   -- a cost that isn't paid without more fuel
-  short-charged : (cost : ℕ) (s : State) (n k : ℕ) (h : ℕ → Outcome) → n < cost → ((m : ℕ) → Within m (h m)) → Short k (charged cost s (n + k) h)
+  short-charged : (cost : ℕ) (s : WorldState) (n k : ℕ) (h : ℕ → Outcome) → n < cost → ((m : ℕ) → Within m (h m)) → Short k (charged cost s (n + k) h)
   short-charged cost s n k h w falls = elim (within_or_past cost (n + k)) [
     | inl v ↦ subst (λ p. Short k p) (sym (charged_paid s h cost (n + k) v))
         (short_below k (h (n + k - cost)) (below_within k (n + k - cost) (h (n + k - cost)) (falls (n + k - cost)) (omega (arith, w, v))))
@@ -211,13 +211,13 @@ module _ (b : ℕ) where
   ]
 
   -- with just what is wanting it is paid
-  below-charged : (cost : ℕ) (s : State) (n : ℕ) (h : ℕ → Outcome) → n < cost → ((m : ℕ) → Within m (h m)) → Below (cost - n) (charged cost s (n + (cost - n)) h)
+  below-charged : (cost : ℕ) (s : WorldState) (n : ℕ) (h : ℕ → Outcome) → n < cost → ((m : ℕ) → Within m (h m)) → Below (cost - n) (charged cost s (n + (cost - n)) h)
   below-charged cost s n h w falls =
       subst (λ p. Below (cost - n) p) (sym (charged_paid s h cost (n + (cost - n)) (omega (arith, w))))
       (below_within (cost - n) (n + (cost - n) - cost) (h (n + (cost - n) - cost)) (falls (n + (cost - n) - cost)) (omega (arith, w)))
 
   -- a cost, and what follows where it is paid
-  carried-charged : (cost : ℕ) (s : State) (n : ℕ) (g : ℕ → Outcome) (h : ℕ → ℕ → Outcome) → n ≤ b → (cost ≤ n → Carried b (g (n - cost)) (λ k. h k (n - cost + k)))
+  carried-charged : (cost : ℕ) (s : WorldState) (n : ℕ) (g : ℕ → Outcome) (h : ℕ → ℕ → Outcome) → n ≤ b → (cost ≤ n → Carried b (g (n - cost)) (λ k. h k (n - cost + k)))
       → ((k m : ℕ) → Within m (h k m)) → Carried b (charged cost s n g) (λ k. charged cost s (n + k) (h k))
   carried-charged cost s n g h le go falls = elim (within_or_past cost n) [
     | inl w ↦
@@ -235,59 +235,59 @@ module _ (b : ℕ) where
 
   -- What evaluates nothing.
 
-  carried-answer : (s : State) (n : ℕ) (a : Answer) → Others a → n ≤ b → Carried b (answer_made s n a) (λ k. answer_made s (n + k) a)
+  carried-answer : (s : WorldState) (n : ℕ) (a : Answer) → Others a → n ≤ b → Carried b (answer_made s n a) (λ k. answer_made s (n + k) a)
   carried-answer s n (Ok m) other le = record { carries = λ k. refl; within = le }
   carried-answer s n (Err f) other le = here-fault f other s n le
 
-  answer-falls : (s : State) (m : ℕ) (a : Answer) → Within m (answer_made s m a)
+  answer-falls : (s : WorldState) (m : ℕ) (a : Answer) → Within m (answer_made s m a)
   answer-falls s m (Ok x) = omega arith
   answer-falls s m (Err f) = omega arith
 
-  carried-primitive : (w : PlainSetting) (op : ℕ) (args : List Value) (s : State) (n : ℕ) → n ≤ b → Carried b (primitive_called w op args s n) (λ k. primitive_called w op args s (n + k))
+  carried-primitive : (w : PlainSetting) (op : ℕ) (args : List Value) (s : WorldState) (n : ℕ) → n ≤ b → Carried b (primitive_called w op args s n) (λ k. primitive_called w op args s (n + k))
   unfolding primitive_called
   carried-primitive w op args s n le =
       carried-charged (cost op args s.cells) s n (λ m. answer_made s m (delta op args s.cells w.frames)) (λ k m. answer_made s m (delta op args s.cells w.frames)) le
       (λ h. carried-answer s (n - cost op args s.cells) (delta op args s.cells w.frames) (others-delta op args s.cells w.frames) (omega (arith, le)))
       (λ k m. answer-falls s m (delta op args s.cells w.frames))
 
-  carried-read : (w : PlainSetting) (l : Label) (s : State) (n : ℕ) (o : Option (Option Value)) → n ≤ b → Carried b (variable_read w l s n o) (λ k. variable_read w l s (n + k) o)
+  carried-read : (w : PlainSetting) (l : Label) (s : WorldState) (n : ℕ) (o : Option (Option Value)) → n ≤ b → Carried b (variable_read w l s n o) (λ k. variable_read w l s (n + k) o)
   carried-read w l s n None le = here-unfit
   carried-read w l s n (Some None) le = here-fault _ tt s n le
   carried-read w l s n (Some (Some v)) le = here-done v s n le
 
-  carried-variable : (w : PlainSetting) (l : Label) (scope : Place) (s : State) (n : ℕ) → n ≤ b → Carried b (variable_value w l scope s n) (λ k. variable_value w l scope s (n + k))
+  carried-variable : (w : PlainSetting) (l : Label) (scope : Place) (s : WorldState) (n : ℕ) → n ≤ b → Carried b (variable_value w l scope s n) (λ k. variable_value w l scope s (n + k))
   unfolding variable_value
   carried-variable w l scope s n le = carried-read w l s n (found (suc (length s.cells)) w.globals s.cells l (Some scope)) le
 
-  carried-quoted : (d : PlainDatum) (s : State) (n : ℕ) → n ≤ b → Carried b (quoted_value d s n) (λ k. quoted_value d s (n + k))
+  carried-quoted : (d : PlainDatum) (s : WorldState) (n : ℕ) → n ≤ b → Carried b (quoted_value d s n) (λ k. quoted_value d s (n + k))
   unfolding quoted_value
   carried-quoted d s n le =
       carried-charged (datum_cost d) s n (made s.names (stored d s.cells)) (λ k. made s.names (stored d s.cells)) le (λ h. record { carries = λ k. refl; within = omega (arith, le) }) (λ k m. omega arith)
 
-  carried-made : (s : State) (r : Result (Value × List Cell) Bare) → Others r → (n : ℕ) → n ≤ b → Carried b (instance_made s r n) (λ k. instance_made s r (n + k))
+  carried-made : (s : WorldState) (r : Result (Value × List Cell) Bare) → Others r → (n : ℕ) → n ≤ b → Carried b (instance_made s r n) (λ k. instance_made s r (n + k))
   carried-made s (Ok p) other n le = record { carries = λ k. refl; within = le }
   carried-made s (Err f) other n le = here-fault f other s n le
 
-  made-falls : (s : State) (r : Result (Value × List Cell) Bare) (m : ℕ) → Within m (instance_made s r m)
+  made-falls : (s : WorldState) (r : Result (Value × List Cell) Bare) (m : ℕ) → Within m (instance_made s r m)
   made-falls s (Ok p) m = omega arith
   made-falls s (Err f) m = omega arith
 
-  carried-paid : (s : State) (n : ℕ) (r : Result (Value × List Cell) Bare) (c : Result ℕ Bare) → Others r → Others c → n ≤ b → Carried b (instance_paid s n r c) (λ k. instance_paid s (n + k) r c)
+  carried-paid : (s : WorldState) (n : ℕ) (r : Result (Value × List Cell) Bare) (c : Result ℕ Bare) → Others r → Others c → n ≤ b → Carried b (instance_paid s n r c) (λ k. instance_paid s (n + k) r c)
   carried-paid s n r (Ok cost) other also le =
       carried-charged cost s n (instance_made s r) (λ k. instance_made s r) le (λ h. carried-made s r other (n - cost) (omega (arith, le))) (λ k m. made-falls s r m)
   carried-paid s n r (Err f) other also le = here-fault f also s n le
 
-  carried-instance_with : (t : PlainTemplate) (s : State) (n : ℕ) (o : Option Binds) → n ≤ b → Carried b (instance_with t s n o) (λ k. instance_with t s (n + k) o)
+  carried-instance_with : (t : PlainTemplate) (s : WorldState) (n : ℕ) (o : Option Binds) → n ≤ b → Carried b (instance_with t s n o) (λ k. instance_with t s (n + k) o)
   carried-instance_with t s n None le = here-unfit
   carried-instance_with t s n (Some bs) le = carried-paid s n (instance_of bs t s.cells) (cost_of bs t) (others-instance unbound bs t [] s.cells) (others-measure unbound bs t []) le
 
-  carried-instanced : (t : PlainTemplate) (scope : Place) (s : State) (n : ℕ) → n ≤ b → Carried b (instanced t scope s n) (λ k. instanced t scope s (n + k))
+  carried-instanced : (t : PlainTemplate) (scope : Place) (s : WorldState) (n : ℕ) → n ≤ b → Carried b (instanced t scope s n) (λ k. instanced t scope s (n + k))
   unfolding instanced
   carried-instanced t scope s n le = carried-instance_with t s n (gathered s.cells scope t []) le
 
   -- `apply`: each time the fuel and the number of values together fall, so the turns are enough on both sides.
 
-  module _ (s : State) (g : Call) (calls : CallsMore g) (falls : (m : ℕ) → AlikeCalls m g g) where
+  module _ (s : WorldState) (g : Call) (calls : CallsMore g) (falls : (m : ℕ) → AlikeCalls m g g) where
     -- so many turns are enough, with each amount of fuel
     abbrev Enough : ℕ → (ℕ → ℕ) → Type 0
     Enough t u = (vs : List Value) (n : ℕ) → n ≤ b → n + length vs < t → ((k : ℕ) → n + k + length vs < u k) → Carried b (spread_to t s g vs n) (λ k. spread_to (u k) s g vs (n + k))
@@ -335,15 +335,15 @@ module _ (b : ℕ) where
     carried-spread vs n le = enough (suc (n + length vs)) (λ k. suc (n + k + length vs)) vs n le (omega arith) (λ k. omega arith)
 
   module _ (w : PlainSetting) (E : Evaluator) (alike : AlikeMore b E) (self : (m : ℕ) → Alike m E E) where
-    carried-case : (parent : Place) (args : List Value) (s : State) (n : ℕ) (x : Option (Formals × PlainCore)) → n ≤ b → Carried b (by_case w E parent args s n x) (λ k. by_case w E parent args s (n + k) x)
+    carried-case : (parent : Place) (args : List Value) (s : WorldState) (n : ℕ) (x : Option (Formals × PlainCore)) → n ≤ b → Carried b (by_case w E parent args s n x) (λ k. by_case w E parent args s (n + k) x)
     carried-case parent args s n None le = here-fault _ tt s n le
     carried-case parent args s n (Some x) le = alike _ _ _ n le
 
-    carried-code : (parent : Place) (args : List Value) (s : State) (n : ℕ) (x : Option PlainCode) → n ≤ b → Carried b (by_code w E parent args s n x) (λ k. by_code w E parent args s (n + k) x)
+    carried-code : (parent : Place) (args : List Value) (s : WorldState) (n : ℕ) (x : Option PlainCode) → n ≤ b → Carried b (by_code w E parent args s n x) (λ k. by_code w E parent args s (n + k) x)
     carried-code parent args s n None le = here-unfit
     carried-code parent args s n (Some code) le = carried-case parent args s n (first_case code.cases (length args)) le
 
-    carried-procedure : (number : CodeNo) (parent : Place) (args : List Value) (s : State) (n : ℕ) → n ≤ b → Carried b (procedure_called w E number parent args s n) (λ k. procedure_called w E number parent args s (n + k))
+    carried-procedure : (number : CodeNo) (parent : Place) (args : List Value) (s : WorldState) (n : ℕ) → n ≤ b → Carried b (procedure_called w E number parent args s n) (λ k. procedure_called w E number parent args s (n + k))
     unfolding procedure_called
     carried-procedure number parent args s n le = carried-code parent args s n (code_at w.codes number) le
 
@@ -359,16 +359,16 @@ module _ (b : ℕ) where
     carried-text_value args (value.Syn t) s n le = here-unfit
     carried-text_value args (value.Transformer p) s n le = here-unfit
 
-    carried-text : (args : List Value) (s : State) (n : ℕ) (x : Option PlainCore) → n ≤ b → Carried b (by_text w E args s n x) (λ k. by_text w E args s (n + k) x)
+    carried-text : (args : List Value) (s : WorldState) (n : ℕ) (x : Option PlainCore) → n ≤ b → Carried b (by_text w E args s n x) (λ k. by_text w E args s (n + k) x)
     carried-text args s n None le = here-unfit
     carried-text args s n (Some body) le = carried-then _ _ _ (alike body _ _ n le) (carried-text_value args) (λ v t m. (Same-text_value m w E E (self m) args v t m (omega arith)).within)
 
-    carried-op : (op : Op) (args : List Value) (s : State) (n : ℕ) → n ≤ b → Carried b (op_called w E op args s n) (λ k. op_called w E op args s (n + k))
+    carried-op : (op : Op) (args : List Value) (s : WorldState) (n : ℕ) → n ≤ b → Carried b (op_called w E op args s n) (λ k. op_called w E op args s (n + k))
     unfolding op_called
     carried-op op args s n le =
         carried-if (has_text op.0) _ _ _ _ (carried-text args s n (text_body (code_at w.codes (text_number op.0))) le) (carried-primitive w op.0 args s n le)
 
-    carried-value : (f : Value) (args : List Value) (s : State) (n : ℕ) → n ≤ b → Carried b (value_called w E f args s n) (λ k. value_called w E f args s (n + k))
+    carried-value : (f : Value) (args : List Value) (s : WorldState) (n : ℕ) → n ≤ b → Carried b (value_called w E f args s n) (λ k. value_called w E f args s (n + k))
     carried-value (value.Closure number parent) args s n le = carried-procedure number parent args s n le
     carried-value (value.Prim op) args s n le = carried-op op args s n le
     carried-value value.Unspecified args s n le = here-fault _ tt s n le
@@ -380,21 +380,21 @@ module _ (b : ℕ) where
     carried-value (value.Syn t) args s n le = here-fault _ tt s n le
     carried-value (value.Transformer p) args s n le = here-fault _ tt s n le
 
-    carried-first : (s : State) → CallsMore (first_called w E s)
+    carried-first : (s : WorldState) → CallsMore (first_called w E s)
     unfolding first_called
     carried-first s [] n le = here-unfit
     carried-first s (f ∷ args) n le = carried-value f args s n le
 
-    pub carried-applied : (vs : List Value) (s : State) (n : ℕ) → n ≤ b → Carried b (applied w E vs s n) (λ k. applied w E vs s (n + k))
+    pub carried-applied : (vs : List Value) (s : WorldState) (n : ℕ) → n ≤ b → Carried b (applied w E vs s n) (λ k. applied w E vs s (n + k))
     unfolding applied
     carried-applied vs s n le = carried-spread s (first_called w E s) (carried-first s) (λ m. Same-first m w E E (self m) s) vs n le
 
-    carried-operands : (cs : PlainCores) (scope : Place) (vs : List Value) (s : State) (n : ℕ) → n ≤ b → Carried b (operands w E cs scope vs s n) (λ k. operands w E cs scope vs s (n + k))
+    carried-operands : (cs : PlainCores) (scope : Place) (vs : List Value) (s : WorldState) (n : ℕ) → n ≤ b → Carried b (operands w E cs scope vs s n) (λ k. operands w E cs scope vs s (n + k))
     carried-operands none scope vs s n le = carried-applied vs s n le
     carried-operands (more c cs) scope vs s n le = carried-then _ _ _ (alike c scope s n le) (λ v s n le. carried-operands cs scope (vs ++ v ∷ []) s n le)
         (λ v t m. (Same-operands m w E E (self m) cs scope (vs ++ v ∷ []) t m (omega arith)).within)
 
-    carried-sequence : (cs : PlainCores) (scope : Place) (s : State) (n : ℕ) → n ≤ b → Carried b (in_sequence w E cs scope s n) (λ k. in_sequence w E cs scope s (n + k))
+    carried-sequence : (cs : PlainCores) (scope : Place) (s : WorldState) (n : ℕ) → n ≤ b → Carried b (in_sequence w E cs scope s n) (λ k. in_sequence w E cs scope s (n + k))
     carried-sequence none scope s n le = here-unfit
     carried-sequence (more c none) scope s n le = alike c scope s n le
     carried-sequence (more c (more d cs)) scope s n le = carried-then _ _ _ (alike c scope s n le) (λ v s n le. carried-sequence (more d cs) scope s n le)
@@ -406,59 +406,59 @@ module _ (b : ℕ) where
     carried-two_arms : (c d : PlainCore) (scope : Place) → GoesMore (two_arms w E c d scope)
     carried-two_arms c d scope v s n le = carried-if (truth_of v) _ _ _ _ (alike c scope s n le) (alike d scope s n le)
 
-    carried-in_turn : (is : PlainInits) (body : PlainCore) (scope : Place) (s : State) (n : ℕ) → n ≤ b → Carried b (in_turn w E is body scope s n) (λ k. in_turn w E is body scope s (n + k))
+    carried-in_turn : (is : PlainInits) (body : PlainCore) (scope : Place) (s : WorldState) (n : ℕ) → n ≤ b → Carried b (in_turn w E is body scope s n) (λ k. in_turn w E is body scope s (n + k))
     carried-in_turn no_init body scope s n le = alike body scope s n le
     carried-in_turn (init l c is) body scope s n le =
         carried-then _ _ _ (alike c scope s n le) (λ v s n le. carried-in_turn is body scope (store (assigned s.cells scope l v) s.names) n le)
         (λ v t m. (Same-in_turn m w E E (self m) is body scope (store (assigned t.cells scope l v) t.names) m (omega arith)).within)
 
-    carried-at_once : (is all : PlainInits) (body : PlainCore) (scope : Place) (vs : List Value) (s : State) (n : ℕ) → n ≤ b → Carried b (at_once w E is all body scope vs s n) (λ k. at_once w E is all body scope vs s (n + k))
+    carried-at_once : (is all : PlainInits) (body : PlainCore) (scope : Place) (vs : List Value) (s : WorldState) (n : ℕ) → n ≤ b → Carried b (at_once w E is all body scope vs s n) (λ k. at_once w E is all body scope vs s (n + k))
     carried-at_once no_init all body scope vs s n le = alike body scope (store (all_assigned s.cells scope all vs) s.names) n le
     carried-at_once (init l c is) all body scope vs s n le =
         carried-then _ _ _ (alike c scope s n le) (λ v s n le. carried-at_once is all body scope (vs ++ v ∷ []) s n le)
         (λ v t m. (Same-at_once m w E E (self m) is all body scope (vs ++ v ∷ []) t m (omega arith)).within)
 
-    carried-letrec : (in_order : Bool) (is : PlainInits) (body : PlainCore) (scope : Place) (s : State) (n : ℕ) → n ≤ b → Carried b (by_letrec w E in_order is body scope s n) (λ k. by_letrec w E in_order is body scope s (n + k))
+    carried-letrec : (in_order : Bool) (is : PlainInits) (body : PlainCore) (scope : Place) (s : WorldState) (n : ℕ) → n ≤ b → Carried b (by_letrec w E in_order is body scope s n) (λ k. by_letrec w E in_order is body scope s (n + k))
     carried-letrec true is body scope s n le = carried-in_turn is body scope s n le
     carried-letrec false is body scope s n le = carried-at_once is is body scope [] s n le
 
-    abbrev NextsMore : (Place → State → ℕ → Outcome) → Type 0
-    NextsMore g = (scope : Place) (s : State) (n : ℕ) → n ≤ b → Carried b (g scope s n) (λ k. g scope s (n + k))
+    abbrev NextsMore : (Place → WorldState → ℕ → Outcome) → Type 0
+    NextsMore g = (scope : Place) (s : WorldState) (n : ℕ) → n ≤ b → Carried b (g scope s n) (λ k. g scope s (n + k))
 
-    carried-passed : (g : Place → State → ℕ → Outcome) → NextsMore g → (output : PlainCore) (scope inner : Place) → GoesMore (fender_passed w E g output scope inner)
+    carried-passed : (g : Place → WorldState → ℕ → Outcome) → NextsMore g → (output : PlainCore) (scope inner : Place) → GoesMore (fender_passed w E g output scope inner)
     carried-passed g m output scope inner v s n le = carried-if (truth_of v) _ _ _ _ (alike output inner s n le) (m scope s n le)
 
-    carried-match : (g : Place → State → ℕ → Outcome) → NextsMore g → (i : Found → State → ℕ → Outcome) → ((f : Found) (s : State) (n : ℕ) → n ≤ b → Carried b (i f s n) (λ k. i f s (n + k)))
-        → ((f : Found) (s : State) (m : ℕ) → Within m (i f s m)) → (scope : Place) (s : State) (n : ℕ) (o : Option Found) → n ≤ b → Carried b (on_match w E g i scope s n o) (λ k. on_match w E g i scope s (n + k) o)
+    carried-match : (g : Place → WorldState → ℕ → Outcome) → NextsMore g → (i : PatternBinds → WorldState → ℕ → Outcome) → ((f : PatternBinds) (s : WorldState) (n : ℕ) → n ≤ b → Carried b (i f s n) (λ k. i f s (n + k)))
+        → ((f : PatternBinds) (s : WorldState) (m : ℕ) → Within m (i f s m)) → (scope : Place) (s : WorldState) (n : ℕ) (o : Option PatternBinds) → n ≤ b → Carried b (on_match w E g i scope s n o) (λ k. on_match w E g i scope s (n + k) o)
     carried-match g m i l falls scope s n None le = m scope s n le
     carried-match g m i l falls scope s n (Some f) le = carried-charged f.taken s n (i f s) (λ k. i f s) le (λ h. l f s (n - f.taken) (omega (arith, le))) (λ k. falls f s)
 
-    output-alike : (m : ℕ) (output : PlainCore) (scope : Place) (f : Found) (s : State) (n : ℕ) → n ≤ m → Same m (output_given w E output scope f s n) (output_given w E output scope f s n)
+    output-alike : (m : ℕ) (output : PlainCore) (scope : Place) (f : PatternBinds) (s : WorldState) (n : ℕ) → n ≤ m → Same m (output_given w E output scope f s n) (output_given w E output scope f s n)
     output-alike m output scope f s n le = self m output _ _ n le
 
-    asked-alike : (m : ℕ) (cs : PlainClauses) (v : Value) (fender output : PlainCore) (scope : Place) (f : Found) (s : State) (n : ℕ) → n ≤ m
+    asked-alike : (m : ℕ) (cs : PlainClauses) (v : Value) (fender output : PlainCore) (scope : Place) (f : PatternBinds) (s : WorldState) (n : ℕ) → n ≤ m
         → Same m (fender_asked w E (tried w E cs v) fender output scope f s n) (fender_asked w E (tried w E cs v) fender output scope f s n)
     asked-alike m cs v fender output scope f s n le =
         Same-then m _ _ _ _ (self m fender _ _ n le) (Same-fender_passed m w E E (self m) (tried w E cs v) (tried w E cs v) (Same-tried m w E E (self m) cs v) output scope (next_place s))
 
     -- what comes of a clause that matches or doesn't
-    abbrev on_output : PlainPattern → PlainCore → PlainClauses → Value → Place → State → ℕ → Outcome
+    abbrev on_output : PlainPattern → PlainCore → PlainClauses → Value → Place → WorldState → ℕ → Outcome
     on_output p output cs v scope s m = on_match w E (tried w E cs v) (output_given w E output scope) scope s m (match_of w.frames s.cells p v)
 
-    abbrev on_fender : PlainPattern → PlainCore → PlainCore → PlainClauses → Value → Place → State → ℕ → Outcome
+    abbrev on_fender : PlainPattern → PlainCore → PlainCore → PlainClauses → Value → Place → WorldState → ℕ → Outcome
     on_fender p fender output cs v scope s m = on_match w E (tried w E cs v) (fender_asked w E (tried w E cs v) fender output scope) scope s m (match_of w.frames s.cells p v)
 
-    output-falls : (p : PlainPattern) (output : PlainCore) (cs : PlainClauses) (v : Value) (scope : Place) (s : State) (m : ℕ) → Within m (on_output p output cs v scope s m)
+    output-falls : (p : PlainPattern) (output : PlainCore) (cs : PlainClauses) (v : Value) (scope : Place) (s : WorldState) (m : ℕ) → Within m (on_output p output cs v scope s m)
     output-falls p output cs v scope s m =
         (Same-on_match m w E E (self m) (tried w E cs v) (tried w E cs v) (Same-tried m w E E (self m) cs v) (output_given w E output scope) (output_given w E output scope)
         (output-alike m output scope) scope s m (match_of w.frames s.cells p v) (omega arith)).within
 
-    fender-falls : (p : PlainPattern) (fender output : PlainCore) (cs : PlainClauses) (v : Value) (scope : Place) (s : State) (m : ℕ) → Within m (on_fender p fender output cs v scope s m)
+    fender-falls : (p : PlainPattern) (fender output : PlainCore) (cs : PlainClauses) (v : Value) (scope : Place) (s : WorldState) (m : ℕ) → Within m (on_fender p fender output cs v scope s m)
     fender-falls p fender output cs v scope s m =
         (Same-on_match m w E E (self m) (tried w E cs v) (tried w E cs v) (Same-tried m w E E (self m) cs v) (fender_asked w E (tried w E cs v) fender output scope)
         (fender_asked w E (tried w E cs v) fender output scope) (asked-alike m cs v fender output scope) scope s m (match_of w.frames s.cells p v) (omega arith)).within
 
-    carried-asked : (cs : PlainClauses) (v : Value) → NextsMore (tried w E cs v) → (fender output : PlainCore) (scope : Place) (f : Found) (s : State) (n : ℕ) → n ≤ b
+    carried-asked : (cs : PlainClauses) (v : Value) → NextsMore (tried w E cs v) → (fender output : PlainCore) (scope : Place) (f : PatternBinds) (s : WorldState) (n : ℕ) → n ≤ b
         → Carried b (fender_asked w E (tried w E cs v) fender output scope f s n) (λ k. fender_asked w E (tried w E cs v) fender output scope f s (n + k))
     carried-asked cs v nexts fender output scope f s n le =
         carried-then _ _ _ (alike fender _ _ n le) (carried-passed (tried w E cs v) nexts output scope (next_place s))
@@ -478,7 +478,7 @@ module _ (b : ℕ) where
         (λ f s m. (asked-alike m cs v fender output scope f s m (omega arith)).within) scope s (n - 1) (match_of w.frames s.cells p v) (omega (arith, le)))
         (λ k. fender-falls p fender output cs v scope s)
 
-    carried-expressed : (c : PlainCore) (scope : Place) (s : State) (n : ℕ) → n ≤ b → Carried b (expressed w E c scope s n) (λ k. expressed w E c scope s (n + k))
+    carried-expressed : (c : PlainCore) (scope : Place) (s : WorldState) (n : ℕ) → n ≤ b → Carried b (expressed w E c scope s n) (λ k. expressed w E c scope s (n + k))
     carried-expressed (quoted d) scope s n le = carried-quoted d s n le
     carried-expressed (variable l) scope s n le = carried-variable w l scope s n le
     carried-expressed (primitive op) scope s n le = here-done (value.Prim op) s n le
@@ -504,16 +504,16 @@ within_more b (faulted f s n) h = omega (arith, h)
 within_more b unfit h = tt
 
 module _ (w : PlainSetting) where
-  unrolled-falls : (c : PlainCore) (scope : Place) (s : State) (n : ℕ) → Within n (expressed w (eval_of w) c scope s n)
+  unrolled-falls : (c : PlainCore) (scope : Place) (s : WorldState) (n : ℕ) → Within n (expressed w (eval_of w) c scope s n)
   unrolled-falls c scope s n = (Same-expressed n w (eval_of w) (eval_of w) (self_alike w n) c scope s n (omega arith)).within
 
-  short_at_once : (c : PlainCore) (scope : Place) (s : State) (k : ℕ) → Short k (eval_of w c scope s k)
+  short_at_once : (c : PlainCore) (scope : Place) (s : WorldState) (k : ℕ) → Short k (eval_of w c scope s k)
   short_at_once c scope s zero = subst (λ o. Short zero o) (sym (eval_of_is w c scope s zero)) (inl refl)
   short_at_once c scope s (suc j) =
       subst (λ o. Short (suc j) o) (sym (eval_of_is w c scope s (suc j)))
       (short_below (suc j) (expressed w (eval_of w) c scope s j) (below_within (suc j) j (expressed w (eval_of w) c scope s j) (unrolled-falls c scope s j) (omega arith)))
 
-  below_at_once : (c : PlainCore) (scope : Place) (s : State) → Below 1 (eval_of w c scope s 1)
+  below_at_once : (c : PlainCore) (scope : Place) (s : WorldState) → Below 1 (eval_of w c scope s 1)
   below_at_once c scope s =
       subst (λ o. Below 1 o) (sym (eval_of_is w c scope s 1)) (below_within 1 zero (expressed w (eval_of w) c scope s zero) (unrolled-falls c scope s zero) (omega arith))
 
@@ -521,7 +521,7 @@ module _ (w : PlainSetting) where
   from_nothing k = omega arith
 
   -- no fuel isn't enough for anything
-  spent_at_once : (b : ℕ) (c : PlainCore) (scope : Place) (s : State) → Carried b (eval_of w c scope s zero) (λ k. eval_of w c scope s (zero + k))
+  spent_at_once : (b : ℕ) (c : PlainCore) (scope : Place) (s : WorldState) → Carried b (eval_of w c scope s zero) (λ k. eval_of w c scope s (zero + k))
   spent_at_once b c scope s =
       carried-cong b (eval_of w c scope s zero) (eval_of w c scope s) (λ k. eval_of w c scope s (zero + k)) (λ k. ap (eval_of w c scope s) (from_nothing k))
       (subst (λ o. Carried b o (eval_of w c scope s)) (sym (eval_of_is w c scope s zero)) (record {
@@ -542,10 +542,10 @@ module _ (w : PlainSetting) where
       (λ k. sym (eval_of_is w c scope s (suc (n + k))) ∙ ap (eval_of w c scope s) (next_unit n k))
       (record { carries = inner.carries; within = within_more b (expressed w (eval_of w) c scope s n) inner.within }))
 
-  alike_calls : (vs : List Value) (s : State) (n : ℕ) → Carried n (applied w (eval_of w) vs s n) (λ k. applied w (eval_of w) vs s (n + k))
+  alike_calls : (vs : List Value) (s : WorldState) (n : ℕ) → Carried n (applied w (eval_of w) vs s n) (λ k. applied w (eval_of w) vs s (n + k))
   alike_calls vs s n = carried-applied n w (eval_of w) (alike_more n) (self_alike w) vs s n (omega arith)
 
-  alike_lines : (ls : List Line) (b : ℕ) (scope : Place) (s : State) (n : ℕ) → n ≤ b → Carried b (lines_from (eval_of w) ls scope s n) (λ k. lines_from (eval_of w) ls scope s (n + k))
+  alike_lines : (ls : List Line) (b : ℕ) (scope : Place) (s : WorldState) (n : ℕ) → n ≤ b → Carried b (lines_from (eval_of w) ls scope s n) (λ k. lines_from (eval_of w) ls scope s (n + k))
   alike_lines [] b scope s n le = here-done b value.Unspecified s n le
   alike_lines (line.Define l c ∷ ls) b scope s n le =
       carried-then b _ _ _ (alike_more b c scope s n le) (λ v s n le. alike_lines ls b scope (store (assigned s.cells scope l v) s.names) n le)
@@ -607,6 +607,6 @@ pub fuel_falls : (run : ByFuel) → AllCarried run → FuelFalls run
 fuel_falls run h n = at_most n (run n) (h n).within
 
 -- every depth that is no less than the fuel gives the meaning
-pub any_depth : (w : PlainSetting) (depth : ℕ) (c : PlainCore) (scope : Place) (s : State) (n : ℕ) → n ≤ depth → evaluates w depth c scope s n ≡ eval_of w c scope s n
+pub any_depth : (w : PlainSetting) (depth : ℕ) (c : PlainCore) (scope : Place) (s : WorldState) (n : ℕ) → n ≤ depth → evaluates w depth c scope s n ≡ eval_of w c scope s n
 unfolding eval_of
 any_depth w depth c scope s n le = (Alike-evaluates w depth n n le (omega arith) c scope s n (omega arith)).equal

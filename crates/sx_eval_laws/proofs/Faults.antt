@@ -33,8 +33,8 @@ use Rattle.sx_prims.specs.Primitives.{primitive_of, takes}
 use Rattle.sx_prims.specs.Raised.{raised, word_of, is_who, raised_fault}
 use Rattle.sx_prims.specs.Strings.{string_of, part_made, unpacked_made, string_made, digits_made, strings_made}
 use Rattle.sx_prims.specs.Syntax.{identifier, identifier_made, temporaries_made}
-use Rattle.sx_prims.specs.declared.made.Made.{Made}
-use Rattle.sx_prims.specs.declared.made.Made.TheVariants as made
+use Rattle.sx_prims.specs.declared.made.PrimResult.{PrimResult}
+use Rattle.sx_prims.specs.declared.made.PrimResult.TheVariants as made
 use Rattle.sx_prims.specs.declared.primitive.Primitive.{Primitive}
 use Rattle.sx_prims.specs.declared.rows.TheConstants as rows
 use Rattle.sx_template.specs.Binds.{Binds, Absent}
@@ -66,7 +66,7 @@ others-then (Err f) go h k = h
 
 -- Primitives.
 
-others-made : (op : ℕ) (o : Option Made) → Others (or_refused op o)
+others-made : (op : ℕ) (o : Option PrimResult) → Others (or_refused op o)
 others-made op None = tt
 others-made op (Some m) = tt
 

@@ -24,15 +24,15 @@ use Rattle.sx_value.specs.declared.value.Value.TheVariants as value
 use Rattle.sx_value.specs.declared.cell.Cell.{Cell}
 use Rattle.sx_value.specs.declared.cell.Cell.TheVariants as cell
 use Rattle.sx_value.proofs.Stored.{keeps_refl, keeps_then, keeps_added, stored_keeps, pairs_keep}
-use Rattle.sx_pattern.specs.declared.columns.Found.{Found}
+use Rattle.sx_pattern.specs.declared.columns.PatternBinds.{PatternBinds}
 use Rattle.sx_prims.specs.Copied.{datum_in}
 use Rattle.sx_prims.specs.Answers.{Answer}
 use Rattle.sx_prims.specs.Chains.{list_elements}
 use Rattle.sx_prims.specs.Cost.{cost}
 use Rattle.sx_prims.specs.Delta.{delta}
 use Rattle.sx_prims.specs.Perform.{performed, temporaries}
-use Rattle.sx_prims.specs.declared.made.Made.{Made}
-use Rattle.sx_prims.specs.declared.made.Made.TheVariants as made_by
+use Rattle.sx_prims.specs.declared.made.PrimResult.{PrimResult}
+use Rattle.sx_prims.specs.declared.made.PrimResult.TheVariants as made_by
 use Rattle.sx_template.specs.Binds.{Absent, unbound}
 use Rattle.sx_template.specs.Instance as instances
 use Rattle.sx_template.specs.Lengths.{agree, or_none}
@@ -45,43 +45,43 @@ use Rattle.sx_eval.specs.Procedures.{first_case, bindings, has_text, text_number
 use Rattle.sx_eval.specs.Quoted.{datum_cost}
 use Rattle.sx_eval.specs.Setting.{PlainSetting}
 use Rattle.sx_eval.specs.Spread.{Call, apply_args, parted, with_elements, with_front, on_parts, spread_once, spread_on, spread_to, spread}
-use Rattle.sx_eval.specs.State.{State, Outcome, done, faulted, unfit, Go, then_do, charged, made, store, next_place, with_cell}
+use Rattle.sx_eval.specs.State.{WorldState, Outcome, done, faulted, unfit, Go, then_do, charged, made, store, next_place, with_cell}
 use Rattle.sx_eval.specs.Variables.{found, unset, cell_with, assigned_in, assigned, all_assigned}
 use Rattle.sx_eval.specs.Meaning.{Evaluator, answer_made, primitive_called, variable_read, variable_value, quoted_value, by_case, by_code, procedure_called, text_value_called, by_text, op_called, value_called, first_called, applied, operands, in_sequence, one_arm, two_arms, in_turn, at_once, by_letrec, fender_passed, output_given, fender_asked, on_match, tried, expressed, unrolled, evaluates, eval_of}
-use Rattle.sx_eval_laws.specs.Kept.{Later, EndsLater, LibrariesEndLater}
+use Rattle.sx_eval_laws.specs.Kept.{LaterWorld, EndsLater, LibrariesEndLater}
 
 abbrev pub KeepsAlways : Evaluator → Type 0
-KeepsAlways E = (c : PlainCore) (scope : Place) (s : State) (n : ℕ) → EndsLater s (E c scope s n)
+KeepsAlways E = (c : PlainCore) (scope : Place) (s : WorldState) (n : ℕ) → EndsLater s (E c scope s n)
 
 -- what comes of a value ends later than a state, where the state then is later
-abbrev pub GoKeeps : State → Go → Type 0
-GoKeeps s g = (v : Value) (t : State) (n : ℕ) → Later s t → EndsLater s (g v t n)
+abbrev pub GoKeeps : WorldState → Go → Type 0
+GoKeeps s g = (v : Value) (t : WorldState) (n : ℕ) → LaterWorld s t → EndsLater s (g v t n)
 
-later_refl : (s : State) → Later s s
+later_refl : (s : WorldState) → LaterWorld s s
 later_refl s = record { cells = keeps_refl s.cells; library = refl; names = omega arith }
 
-later_then : (r s t : State) → Later r s → Later s t → Later r t
+later_then : (r s t : WorldState) → LaterWorld r s → LaterWorld s t → LaterWorld r t
 later_then r s t h k = record { cells = keeps_then r.cells s.cells t.cells h.cells k.cells; library = k.library ∙ h.library; names = omega (arith, h.names, k.names) }
 
 -- more cells alone
-later_cells : (s : State) (cells : List Cell) → Keeps s.cells cells → Later s (store cells s.names)
+later_cells : (s : WorldState) (cells : List Cell) → Keeps s.cells cells → LaterWorld s (store cells s.names)
 later_cells s cells k = record { cells = k; library = refl; names = omega arith }
 
-ends-later : (r s : State) (o : Outcome) → Later r s → EndsLater s o → EndsLater r o
+ends-later : (r s : WorldState) (o : Outcome) → LaterWorld r s → EndsLater s o → EndsLater r o
 ends-later r s (done v t n) k h = later_then r s t k h
 ends-later r s (faulted f t n) k h = later_then r s t k h
 ends-later r s unfit k h = tt
 
-keeps-thens : (s : State) (o : Outcome) (g : Go) → EndsLater s o → GoKeeps s g → EndsLater s (then_do o g)
+keeps-thens : (s : WorldState) (o : Outcome) (g : Go) → EndsLater s o → GoKeeps s g → EndsLater s (then_do o g)
 keeps-thens s (done v t n) g k h = h v t n k
 keeps-thens s (faulted f t n) g k h = k
 keeps-thens s unfit g k h = tt
 
-keeps-if : (s : State) (t : Bool) (o p : Outcome) → EndsLater s o → EndsLater s p → EndsLater s (if t then o else p)
+keeps-if : (s : WorldState) (t : Bool) (o p : Outcome) → EndsLater s o → EndsLater s p → EndsLater s (if t then o else p)
 keeps-if s true o p k h = k
 keeps-if s false o p k h = h
 
-keeps-charged : (s t : State) (cost n : ℕ) (g : ℕ → Outcome) → Later s t → ((m : ℕ) → EndsLater s (g m)) → EndsLater s (charged cost t n g)
+keeps-charged : (s t : WorldState) (cost n : ℕ) (g : ℕ → Outcome) → LaterWorld s t → ((m : ℕ) → EndsLater s (g m)) → EndsLater s (charged cost t n g)
 keeps-charged s t cost n g k h = keeps-if s (nat_lt n cost) (faulted fuel_spent t n) (g (n - cost)) k (h (n - cost))
 
 -- a cell more
@@ -90,7 +90,7 @@ keeps-one cells c = keeps_added cells cells c (keeps_refl cells)
 
 -- What is made.
 
-performed_keeps : (m : Made) (name : Named) (cells : List Cell) → Keeps cells (performed m name cells).1
+performed_keeps : (m : PrimResult) (name : Named) (cells : List Cell) → Keeps cells (performed m name cells).1
 performed_keeps (made_by.Value x) name cells = keeps_refl cells
 performed_keeps (made_by.List xs x) name cells = pairs_keep xs (x, cells)
 performed_keeps (made_by.Vector xs) name cells = keeps-one cells (cell.Vector xs)
@@ -158,41 +158,41 @@ mutual
       added-then cells (instances.item (instances.instance absent bs t) (instances.counts absent bs t) ellipses turns vs cells) (instances.parts absent bs is turns)
       (item_adds (instances.instance absent bs t) (instances.counts absent bs t) (instance_adds absent bs t) ellipses turns vs cells) (parts_adds absent bs is turns)
 
-keeps-instance : (s : State) (r : Result (Value × List Cell) Bare) → OkKeeps s.cells r → (n : ℕ) → EndsLater s (instance_made s r n)
+keeps-instance : (s : WorldState) (r : Result (Value × List Cell) Bare) → OkKeeps s.cells r → (n : ℕ) → EndsLater s (instance_made s r n)
 keeps-instance s (Ok p) k n = later_cells s p.1 k
 keeps-instance s (Err f) k n = later_refl s
 
-keeps-paid : (s : State) (n : ℕ) (r : Result (Value × List Cell) Bare) (c : Result ℕ Bare) → OkKeeps s.cells r → EndsLater s (instance_paid s n r c)
+keeps-paid : (s : WorldState) (n : ℕ) (r : Result (Value × List Cell) Bare) (c : Result ℕ Bare) → OkKeeps s.cells r → EndsLater s (instance_paid s n r c)
 keeps-paid s n r (Ok cost) k = keeps-charged s s cost n (instance_made s r) (later_refl s) (keeps-instance s r k)
 keeps-paid s n r (Err f) k = later_refl s
 
-keeps-instance_with : (t : PlainTemplate) (s : State) (n : ℕ) (o : Option Binds) → EndsLater s (instance_with t s n o)
+keeps-instance_with : (t : PlainTemplate) (s : WorldState) (n : ℕ) (o : Option Binds) → EndsLater s (instance_with t s n o)
 keeps-instance_with t s n None = tt
 keeps-instance_with t s n (Some bs) = keeps-paid s n (instance_of bs t s.cells) (cost_of bs t) (instance_adds unbound bs t [] s.cells)
 
-keeps-instanced : (t : PlainTemplate) (scope : Place) (s : State) (n : ℕ) → EndsLater s (instanced t scope s n)
+keeps-instanced : (t : PlainTemplate) (scope : Place) (s : WorldState) (n : ℕ) → EndsLater s (instanced t scope s n)
 unfolding instanced
 keeps-instanced t scope s n = keeps-instance_with t s n (gathered s.cells scope t [])
 
-keeps-answer : (s : State) (n : ℕ) (a : Answer) → EndsLater s (answer_made s n a)
+keeps-answer : (s : WorldState) (n : ℕ) (a : Answer) → EndsLater s (answer_made s n a)
 keeps-answer s n (Ok m) = record { cells = performed_keeps m s.names s.cells; library = refl; names = omega arith }
 keeps-answer s n (Err f) = later_refl s
 
-keeps-primitive : (w : PlainSetting) (op : ℕ) (args : List Value) (s : State) (n : ℕ) → EndsLater s (primitive_called w op args s n)
+keeps-primitive : (w : PlainSetting) (op : ℕ) (args : List Value) (s : WorldState) (n : ℕ) → EndsLater s (primitive_called w op args s n)
 unfolding primitive_called
 keeps-primitive w op args s n =
     keeps-charged s s (cost op args s.cells) n (λ m. answer_made s m (delta op args s.cells w.frames)) (later_refl s) (λ m. keeps-answer s m (delta op args s.cells w.frames))
 
-keeps-read : (w : PlainSetting) (l : Label) (s : State) (n : ℕ) (o : Option (Option Value)) → EndsLater s (variable_read w l s n o)
+keeps-read : (w : PlainSetting) (l : Label) (s : WorldState) (n : ℕ) (o : Option (Option Value)) → EndsLater s (variable_read w l s n o)
 keeps-read w l s n None = tt
 keeps-read w l s n (Some None) = later_refl s
 keeps-read w l s n (Some (Some v)) = later_refl s
 
-keeps-variable : (w : PlainSetting) (l : Label) (scope : Place) (s : State) (n : ℕ) → EndsLater s (variable_value w l scope s n)
+keeps-variable : (w : PlainSetting) (l : Label) (scope : Place) (s : WorldState) (n : ℕ) → EndsLater s (variable_value w l scope s n)
 unfolding variable_value
 keeps-variable w l scope s n = keeps-read w l s n (found (suc (length s.cells)) w.globals s.cells l (Some scope))
 
-keeps-quoted : (d : PlainDatum) (s : State) (n : ℕ) → EndsLater s (quoted_value d s n)
+keeps-quoted : (d : PlainDatum) (s : WorldState) (n : ℕ) → EndsLater s (quoted_value d s n)
 unfolding quoted_value
 keeps-quoted d s n = keeps-charged s s (datum_cost d) n (made s.names (stored d s.cells)) (later_refl s) (λ m. later_cells s (stored d s.cells).1 (stored_keeps d s.cells))
 
@@ -216,10 +216,10 @@ all_assigned_keeps x cells place no_init vs h k = k
 all_assigned_keeps x cells place (init l c is) [] h k = k
 all_assigned_keeps x cells place (init l c is) (v ∷ vs) h k = all_assigned_keeps x (assigned cells place l v) place is vs h (assigned_keeps x cells place l v h k)
 
-later_with : (s : State) (c : Cell) → Later s (with_cell c s)
+later_with : (s : WorldState) (c : Cell) → LaterWorld s (with_cell c s)
 later_with s c = later_cells s (s.cells ++ c ∷ []) (keeps-one s.cells c)
 
-later_assigned : (r t : State) (place : Place) (l : Label) (v : Value) → length r.cells ≤ place.0 → Later r t → Later r (store (assigned t.cells place l v) t.names)
+later_assigned : (r t : WorldState) (place : Place) (l : Label) (v : Value) → length r.cells ≤ place.0 → LaterWorld r t → LaterWorld r (store (assigned t.cells place l v) t.names)
 later_assigned r t place l v h k = record { cells = assigned_keeps r.cells t.cells place l v h k.cells; library = k.library; names = k.names }
 
 bindings_keep : (o : Option Label) (ls : List Label) (vs : List Value) (cells : List Cell) → Keeps cells (bindings o ls vs cells).1
@@ -228,7 +228,7 @@ bindings_keep (Some l) ls vs cells = pairs_keep (drop (length ls) vs) (value.Ato
 
 -- Calls.
 
-module _ (s : State) (g : Call) (keeps : (vs : List Value) (n : ℕ) → EndsLater s (g vs n)) where
+module _ (s : WorldState) (g : Call) (keeps : (vs : List Value) (n : ℕ) → EndsLater s (g vs n)) where
   keeps-elements : (front : List Value) (n : ℕ) (o : Option (List Value)) → EndsLater s (with_elements front s g n o)
   keeps-elements front n None = later_refl s
   keeps-elements front n (Some xs) = keeps-charged s s (length xs) n (g (front ++ xs)) (later_refl s) (keeps (front ++ xs))
@@ -245,7 +245,7 @@ module _ (s : State) (g : Call) (keeps : (vs : List Value) (n : ℕ) → EndsLat
   unfolding spread_once
   keeps-once args n = keeps-parts n (parted args)
 
-module _ (s : State) (g : Call) (keeps : (vs : List Value) (n : ℕ) → EndsLater s (g vs n)) where
+module _ (s : WorldState) (g : Call) (keeps : (vs : List Value) (n : ℕ) → EndsLater s (g vs n)) where
   keeps-to : (turns : ℕ) (vs : List Value) (n : ℕ) → EndsLater s (spread_to turns s g vs n)
   keeps-to zero vs n = tt
   keeps-to (suc turns) vs n = by_args (keeps-to turns) (apply_args vs)
@@ -259,22 +259,22 @@ module _ (s : State) (g : Call) (keeps : (vs : List Value) (n : ℕ) → EndsLat
   keeps-spread vs n = keeps-to (suc (n + length vs)) vs n
 
 module _ (w : PlainSetting) (E : Evaluator) (keeps : KeepsAlways E) where
-  keeps-case : (parent : Place) (args : List Value) (s : State) (n : ℕ) (x : Option (Formals × PlainCore)) → EndsLater s (by_case w E parent args s n x)
+  keeps-case : (parent : Place) (args : List Value) (s : WorldState) (n : ℕ) (x : Option (Formals × PlainCore)) → EndsLater s (by_case w E parent args s n x)
   keeps-case parent args s n None = later_refl s
   keeps-case parent args s n (Some x) =
       let p = bindings x.0.rest x.0.required args s.cells in
       ends-later s (store (p.1 ++ cell.Scope p.0 (Some parent) ∷ []) s.names) _
       (later_cells s _ (keeps_added s.cells p.1 (cell.Scope p.0 (Some parent)) (bindings_keep x.0.rest x.0.required args s.cells))) (keeps _ _ _ n)
 
-  keeps-code : (parent : Place) (args : List Value) (s : State) (n : ℕ) (x : Option PlainCode) → EndsLater s (by_code w E parent args s n x)
+  keeps-code : (parent : Place) (args : List Value) (s : WorldState) (n : ℕ) (x : Option PlainCode) → EndsLater s (by_code w E parent args s n x)
   keeps-code parent args s n None = tt
   keeps-code parent args s n (Some code) = keeps-case parent args s n (first_case code.cases (length args))
 
-  keeps-procedure : (number : CodeNo) (parent : Place) (args : List Value) (s : State) (n : ℕ) → EndsLater s (procedure_called w E number parent args s n)
+  keeps-procedure : (number : CodeNo) (parent : Place) (args : List Value) (s : WorldState) (n : ℕ) → EndsLater s (procedure_called w E number parent args s n)
   unfolding procedure_called
   keeps-procedure number parent args s n = keeps-code parent args s n (code_at w.codes number)
 
-  keeps-text_value : (args : List Value) (v : Value) (s : State) (n : ℕ) → EndsLater s (text_value_called w E args v s n)
+  keeps-text_value : (args : List Value) (v : Value) (s : WorldState) (n : ℕ) → EndsLater s (text_value_called w E args v s n)
   keeps-text_value args (value.Closure number parent) s n = keeps-procedure number parent args s n
   keeps-text_value args value.Unspecified s n = tt
   keeps-text_value args (value.Atom x) s n = tt
@@ -287,21 +287,21 @@ module _ (w : PlainSetting) (E : Evaluator) (keeps : KeepsAlways E) where
   keeps-text_value args (value.Transformer p) s n = tt
 
   -- what follows keeps what was there before the part
-  go-keeps : (s : State) (g : Go) → ((v : Value) (t : State) (n : ℕ) → EndsLater t (g v t n)) → GoKeeps s g
+  go-keeps : (s : WorldState) (g : Go) → ((v : Value) (t : WorldState) (n : ℕ) → EndsLater t (g v t n)) → GoKeeps s g
   go-keeps s g h v t n k = ends-later s t (g v t n) k (h v t n)
 
-  keeps-text : (args : List Value) (s : State) (n : ℕ) (x : Option PlainCore) → EndsLater s (by_text w E args s n x)
+  keeps-text : (args : List Value) (s : WorldState) (n : ℕ) (x : Option PlainCore) → EndsLater s (by_text w E args s n x)
   keeps-text args s n None = tt
   keeps-text args s n (Some body) =
       keeps-thens s _ _ (ends-later s (with_cell (cell.Scope [] None) s) _ (later_with s (cell.Scope [] None)) (keeps body _ _ n))
       (go-keeps s (text_value_called w E args) (keeps-text_value args))
 
-  keeps-op : (op : Op) (args : List Value) (s : State) (n : ℕ) → EndsLater s (op_called w E op args s n)
+  keeps-op : (op : Op) (args : List Value) (s : WorldState) (n : ℕ) → EndsLater s (op_called w E op args s n)
   unfolding op_called
   keeps-op op args s n =
       keeps-if s (has_text op.0) _ _ (keeps-text args s n (text_body (code_at w.codes (text_number op.0)))) (keeps-primitive w op.0 args s n)
 
-  keeps-value : (f : Value) (args : List Value) (s : State) (n : ℕ) → EndsLater s (value_called w E f args s n)
+  keeps-value : (f : Value) (args : List Value) (s : WorldState) (n : ℕ) → EndsLater s (value_called w E f args s n)
   keeps-value (value.Closure number parent) args s n = keeps-procedure number parent args s n
   keeps-value (value.Prim op) args s n = keeps-op op args s n
   keeps-value value.Unspecified args s n = later_refl s
@@ -313,39 +313,39 @@ module _ (w : PlainSetting) (E : Evaluator) (keeps : KeepsAlways E) where
   keeps-value (value.Syn t) args s n = later_refl s
   keeps-value (value.Transformer p) args s n = later_refl s
 
-  keeps-first : (s : State) (vs : List Value) (n : ℕ) → EndsLater s (first_called w E s vs n)
+  keeps-first : (s : WorldState) (vs : List Value) (n : ℕ) → EndsLater s (first_called w E s vs n)
   unfolding first_called
   keeps-first s [] n = tt
   keeps-first s (f ∷ args) n = keeps-value f args s n
 
-  pub keeps-applied : (vs : List Value) (s : State) (n : ℕ) → EndsLater s (applied w E vs s n)
+  pub keeps-applied : (vs : List Value) (s : WorldState) (n : ℕ) → EndsLater s (applied w E vs s n)
   unfolding applied
   keeps-applied vs s n = keeps-spread s (first_called w E s) (keeps-first s) vs n
 
-  keeps-operands : (cs : PlainCores) (scope : Place) (vs : List Value) (s : State) (n : ℕ) → EndsLater s (operands w E cs scope vs s n)
+  keeps-operands : (cs : PlainCores) (scope : Place) (vs : List Value) (s : WorldState) (n : ℕ) → EndsLater s (operands w E cs scope vs s n)
   keeps-operands none scope vs s n = keeps-applied vs s n
   keeps-operands (more c cs) scope vs s n =
       keeps-thens s _ _ (keeps c scope s n) (go-keeps s _ (λ v s n. keeps-operands cs scope (vs ++ v ∷ []) s n))
 
-  keeps-sequence : (cs : PlainCores) (scope : Place) (s : State) (n : ℕ) → EndsLater s (in_sequence w E cs scope s n)
+  keeps-sequence : (cs : PlainCores) (scope : Place) (s : WorldState) (n : ℕ) → EndsLater s (in_sequence w E cs scope s n)
   keeps-sequence none scope s n = tt
   keeps-sequence (more c none) scope s n = keeps c scope s n
   keeps-sequence (more c (more d cs)) scope s n = keeps-thens s _ _ (keeps c scope s n) (go-keeps s _ (λ v s n. keeps-sequence (more d cs) scope s n))
 
-  keeps-one_arm : (c : PlainCore) (scope : Place) (v : Value) (s : State) (n : ℕ) → EndsLater s (one_arm w E c scope v s n)
+  keeps-one_arm : (c : PlainCore) (scope : Place) (v : Value) (s : WorldState) (n : ℕ) → EndsLater s (one_arm w E c scope v s n)
   keeps-one_arm c scope v s n = keeps-if s (truth_of v) _ _ (keeps c scope s n) (later_refl s)
 
-  keeps-two_arms : (c d : PlainCore) (scope : Place) (v : Value) (s : State) (n : ℕ) → EndsLater s (two_arms w E c d scope v s n)
+  keeps-two_arms : (c d : PlainCore) (scope : Place) (v : Value) (s : WorldState) (n : ℕ) → EndsLater s (two_arms w E c d scope v s n)
   keeps-two_arms c d scope v s n = keeps-if s (truth_of v) _ _ (keeps c scope s n) (keeps d scope s n)
 
   -- a `letrec` whose cell was added after a state
-  keeps-in_turn : (r : State) (is : PlainInits) (body : PlainCore) (scope : Place) (s : State) (n : ℕ) → length r.cells ≤ scope.0 → Later r s → EndsLater r (in_turn w E is body scope s n)
+  keeps-in_turn : (r : WorldState) (is : PlainInits) (body : PlainCore) (scope : Place) (s : WorldState) (n : ℕ) → length r.cells ≤ scope.0 → LaterWorld r s → EndsLater r (in_turn w E is body scope s n)
   keeps-in_turn r no_init body scope s n h k = ends-later r s _ k (keeps body scope s n)
   keeps-in_turn r (init l c is) body scope s n h k =
       keeps-thens r _ _ (ends-later r s _ k (keeps c scope s n))
       (λ v t n k. keeps-in_turn r is body scope (store (assigned t.cells scope l v) t.names) n h (later_assigned r t scope l v h k))
 
-  keeps-at_once : (r : State) (is all : PlainInits) (body : PlainCore) (scope : Place) (vs : List Value) (s : State) (n : ℕ) → length r.cells ≤ scope.0 → Later r s
+  keeps-at_once : (r : WorldState) (is all : PlainInits) (body : PlainCore) (scope : Place) (vs : List Value) (s : WorldState) (n : ℕ) → length r.cells ≤ scope.0 → LaterWorld r s
       → EndsLater r (at_once w E is all body scope vs s n)
   keeps-at_once r no_init all body scope vs s n h k =
       ends-later r (store (all_assigned s.cells scope all vs) s.names) _
@@ -353,30 +353,30 @@ module _ (w : PlainSetting) (E : Evaluator) (keeps : KeepsAlways E) where
   keeps-at_once r (init l c is) all body scope vs s n h k =
       keeps-thens r _ _ (ends-later r s _ k (keeps c scope s n)) (λ v t n k. keeps-at_once r is all body scope (vs ++ v ∷ []) t n h k)
 
-  keeps-letrec : (in_order : Bool) (is : PlainInits) (body : PlainCore) (scope : Place) (s : State) (n : ℕ)
+  keeps-letrec : (in_order : Bool) (is : PlainInits) (body : PlainCore) (scope : Place) (s : WorldState) (n : ℕ)
       → EndsLater s (by_letrec w E in_order is body (next_place s) (with_cell (cell.Scope (unset is) (Some scope)) s) n)
   keeps-letrec true is body scope s n = keeps-in_turn s is body (next_place s) _ n (omega arith) (later_with s (cell.Scope (unset is) (Some scope)))
   keeps-letrec false is body scope s n = keeps-at_once s is is body (next_place s) [] _ n (omega arith) (later_with s (cell.Scope (unset is) (Some scope)))
 
   -- `syntax-case`
 
-  abbrev NextKeeps : (Place → State → ℕ → Outcome) → Type 0
-  NextKeeps g = (scope : Place) (s : State) (n : ℕ) → EndsLater s (g scope s n)
+  abbrev NextKeeps : (Place → WorldState → ℕ → Outcome) → Type 0
+  NextKeeps g = (scope : Place) (s : WorldState) (n : ℕ) → EndsLater s (g scope s n)
 
-  keeps-output : (output : PlainCore) (scope : Place) (f : Found) (s : State) (n : ℕ) → EndsLater s (output_given w E output scope f s n)
+  keeps-output : (output : PlainCore) (scope : Place) (f : PatternBinds) (s : WorldState) (n : ℕ) → EndsLater s (output_given w E output scope f s n)
   keeps-output output scope f s n =
       ends-later s (with_cell (cell.Binds f.binds (Some scope)) s) _ (later_with s (cell.Binds f.binds (Some scope))) (keeps output _ _ n)
 
-  keeps-passed : (g : Place → State → ℕ → Outcome) → NextKeeps g → (output : PlainCore) (scope inner : Place) (v : Value) (s : State) (n : ℕ) → EndsLater s (fender_passed w E g output scope inner v s n)
+  keeps-passed : (g : Place → WorldState → ℕ → Outcome) → NextKeeps g → (output : PlainCore) (scope inner : Place) (v : Value) (s : WorldState) (n : ℕ) → EndsLater s (fender_passed w E g output scope inner v s n)
   keeps-passed g next output scope inner v s n = keeps-if s (truth_of v) _ _ (keeps output inner s n) (next scope s n)
 
-  keeps-asked : (g : Place → State → ℕ → Outcome) → NextKeeps g → (fender output : PlainCore) (scope : Place) (f : Found) (s : State) (n : ℕ) → EndsLater s (fender_asked w E g fender output scope f s n)
+  keeps-asked : (g : Place → WorldState → ℕ → Outcome) → NextKeeps g → (fender output : PlainCore) (scope : Place) (f : PatternBinds) (s : WorldState) (n : ℕ) → EndsLater s (fender_asked w E g fender output scope f s n)
   keeps-asked g next fender output scope f s n =
       keeps-thens s _ _ (ends-later s (with_cell (cell.Binds f.binds (Some scope)) s) _ (later_with s (cell.Binds f.binds (Some scope))) (keeps fender _ _ n))
       (go-keeps s _ (keeps-passed g next output scope (next_place s)))
 
-  keeps-match : (g : Place → State → ℕ → Outcome) → NextKeeps g → (i : Found → State → ℕ → Outcome) → ((f : Found) (s : State) (n : ℕ) → EndsLater s (i f s n))
-      → (scope : Place) (s : State) (n : ℕ) (o : Option Found) → EndsLater s (on_match w E g i scope s n o)
+  keeps-match : (g : Place → WorldState → ℕ → Outcome) → NextKeeps g → (i : PatternBinds → WorldState → ℕ → Outcome) → ((f : PatternBinds) (s : WorldState) (n : ℕ) → EndsLater s (i f s n))
+      → (scope : Place) (s : WorldState) (n : ℕ) (o : Option PatternBinds) → EndsLater s (on_match w E g i scope s n o)
   keeps-match g next i take scope s n None = next scope s n
   keeps-match g next i take scope s n (Some f) = keeps-charged s s f.taken n (i f s) (later_refl s) (take f s)
 
@@ -391,7 +391,7 @@ module _ (w : PlainSetting) (E : Evaluator) (keeps : KeepsAlways E) where
       (λ m. keeps-match (tried w E cs v) (keeps-tried cs v) (fender_asked w E (tried w E cs v) fender output scope) (keeps-asked (tried w E cs v) (keeps-tried cs v) fender output scope)
       scope s m (match_of w.frames s.cells p v))
 
-  keeps-expressed : (c : PlainCore) (scope : Place) (s : State) (n : ℕ) → EndsLater s (expressed w E c scope s n)
+  keeps-expressed : (c : PlainCore) (scope : Place) (s : WorldState) (n : ℕ) → EndsLater s (expressed w E c scope s n)
   keeps-expressed (quoted d) scope s n = keeps-quoted d s n
   keeps-expressed (variable l) scope s n = keeps-variable w l scope s n
   keeps-expressed (primitive op) scope s n = later_refl s
@@ -419,11 +419,11 @@ module _ (w : PlainSetting) where
   unfolding eval_of
   keeps-eval_of c scope s n = keeps-evaluates n c scope s n
 
-  pub keeps-call : (vs : List Value) (s : State) (n : ℕ) → EndsLater s (applied w (eval_of w) vs s n)
+  pub keeps-call : (vs : List Value) (s : WorldState) (n : ℕ) → EndsLater s (applied w (eval_of w) vs s n)
   keeps-call vs s n = keeps-applied w (eval_of w) keeps-eval_of vs s n
 
   -- the lines of a library whose cell of variables was added after a state
-  keeps-lines : (r : State) (ls : List Line) (scope : Place) (s : State) (n : ℕ) → length r.cells ≤ scope.0 → Later r s → EndsLater r (lines_from (eval_of w) ls scope s n)
+  keeps-lines : (r : WorldState) (ls : List Line) (scope : Place) (s : WorldState) (n : ℕ) → length r.cells ≤ scope.0 → LaterWorld r s → EndsLater r (lines_from (eval_of w) ls scope s n)
   keeps-lines r [] scope s n h k = k
   keeps-lines r (line.Define l c ∷ ls) scope s n h k =
       keeps-thens r _ _ (ends-later r s _ k (keeps-eval_of c scope s n))
@@ -431,12 +431,12 @@ module _ (w : PlainSetting) where
   keeps-lines r (line.Expr c ∷ ls) scope s n h k = keeps-thens r _ _ (ends-later r s _ k (keeps-eval_of c scope s n)) (λ v t n k. keeps-lines r ls scope t n h k)
 
   -- likewise, from that state on
-  pub keeps-defined : (ls : List Line) (s : State) (n : ℕ) → EndsLater s (lines_from (eval_of w) ls (next_place s) (with_cell (cell.Scope (defined ls) None) s) n)
+  pub keeps-defined : (ls : List Line) (s : WorldState) (n : ℕ) → EndsLater s (lines_from (eval_of w) ls (next_place s) (with_cell (cell.Scope (defined ls) None) s) n)
   keeps-defined ls s n =
       keeps-lines s ls (next_place s) (with_cell (cell.Scope (defined ls) None) s) n (omega arith) (later_with s (cell.Scope (defined ls) None))
 
   -- an expression with a cell of its own
-  pub keeps-alone : (c : PlainCore) (s : State) (n : ℕ) → EndsLater s (eval_of w c (next_place s) (with_cell (cell.Scope [] None) s) n)
+  pub keeps-alone : (c : PlainCore) (s : WorldState) (n : ℕ) → EndsLater s (eval_of w c (next_place s) (with_cell (cell.Scope [] None) s) n)
   keeps-alone c s n = ends-later s _ _ (later_with s (cell.Scope [] None)) (keeps-eval_of c _ _ n)
 
 pub keeps-library : LibrariesEndLater

@@ -10,26 +10,26 @@ use Rattle.sx_eval.specs.Evals.{state_of}
 use Rattle.sx_eval.specs.Lines.{library_evaluated}
 use Rattle.sx_eval.specs.Meaning.{eval_of, applied}
 use Rattle.sx_eval.specs.Setting.{PlainSetting}
-use Rattle.sx_eval.specs.State.{State, Outcome, done, faulted, unfit}
+use Rattle.sx_eval.specs.State.{WorldState, Outcome, done, faulted, unfit}
 
 -- A state that comes after another: the cells that were there are there still, each in its place, and no name that was taken is
 -- free again.
-pub record Later (s t : State) : Type 0 where
+pub record LaterWorld (s t : WorldState) : Type 0 where
   pub cells : Keeps s.cells t.cells
   pub library : t.names.library ≡ s.names.library
   pub names : s.names.number ≤ t.names.number
 
-abbrev pub EndsLater : State → Outcome → Type 0
-EndsLater s (done v t n) = Later s t
-EndsLater s (faulted f t n) = Later s t
+abbrev pub EndsLater : WorldState → Outcome → Type 0
+EndsLater s (done v t n) = LaterWorld s t
+EndsLater s (faulted f t n) = LaterWorld s t
 EndsLater s unfit = Unit {0}
 
 -- Whatever an evaluation comes to, it changes no cell that was there.
 abbrev pub ExpressionsEndLater : Type 0
-ExpressionsEndLater = (w : PlainSetting) (c : PlainCore) (scope : Place) (s : State) (n : ℕ) → EndsLater s (eval_of w c scope s n)
+ExpressionsEndLater = (w : PlainSetting) (c : PlainCore) (scope : Place) (s : WorldState) (n : ℕ) → EndsLater s (eval_of w c scope s n)
 
 abbrev pub CallsEndLater : Type 0
-CallsEndLater = (w : PlainSetting) (vs : List Value) (s : State) (n : ℕ) → EndsLater s (applied w (eval_of w) vs s n)
+CallsEndLater = (w : PlainSetting) (vs : List Value) (s : WorldState) (n : ℕ) → EndsLater s (applied w (eval_of w) vs s n)
 
 -- A library adds the cell in which its variables get their values.
 abbrev pub LibrariesEndLater : Type 0

@@ -5,7 +5,7 @@ use Rattle.sx_core.specs.Core.{PlainCore}
 use Rattle.sx_value.specs.ToSyntax.{fuel_spent}
 use Rattle.sx_eval.specs.Meaning.{unrolled, evaluates, eval_of}
 use Rattle.sx_eval.specs.Setting.{PlainSetting}
-use Rattle.sx_eval.specs.State.{State, Outcome, done, faulted, unfit}
+use Rattle.sx_eval.specs.State.{WorldState, Outcome, done, faulted, unfit}
 use Rattle.sx_eval_laws.specs.Runs.{ByFuel}
 
 -- the same outcome, with so much more fuel left
@@ -61,8 +61,8 @@ FuelFalls run = (n : ℕ) → LeavesAtMost n (run n)
 
 -- The meaning of an expression is given by those of its parts,
 abbrev pub Unrolls : Type 0
-Unrolls = (w : PlainSetting) (c : PlainCore) (scope : Place) (s : State) (n : ℕ) → eval_of w c scope s n ≡ unrolled w (eval_of w) c scope s n
+Unrolls = (w : PlainSetting) (c : PlainCore) (scope : Place) (s : WorldState) (n : ℕ) → eval_of w c scope s n ≡ unrolled w (eval_of w) c scope s n
 
 -- and every depth that is no less than the fuel gives it.
 abbrev pub AnyDepth : Type 0
-AnyDepth = (w : PlainSetting) (depth : ℕ) (c : PlainCore) (scope : Place) (s : State) (n : ℕ) → n ≤ depth → evaluates w depth c scope s n ≡ eval_of w c scope s n
+AnyDepth = (w : PlainSetting) (depth : ℕ) (c : PlainCore) (scope : Place) (s : WorldState) (n : ℕ) → n ≤ depth → evaluates w depth c scope s n ≡ eval_of w c scope s n

@@ -7,13 +7,13 @@ use Rattle.sx_value.specs.declared.value.Value.{Value}
 use Rattle.sx_eval.specs.Lines.{lines_from}
 use Rattle.sx_eval.specs.Meaning.{eval_of, applied}
 use Rattle.sx_eval.specs.Setting.{PlainSetting}
-use Rattle.sx_eval.specs.State.{State, Outcome}
+use Rattle.sx_eval.specs.State.{WorldState, Outcome}
 
 abbrev pub ByFuel : Type 0
 ByFuel = ℕ → Outcome
 
 -- of each expression, each call and the lines of each library
 pub record Everywhere (P : ByFuel → Type 0) : Type 0 where
-  pub expressions : (w : PlainSetting) (c : PlainCore) (scope : Place) (s : State) → P (eval_of w c scope s)
-  pub calls : (w : PlainSetting) (vs : List Value) (s : State) → P (applied w (eval_of w) vs s)
-  pub libraries : (w : PlainSetting) (ls : List Line) (scope : Place) (s : State) → P (lines_from (eval_of w) ls scope s)
+  pub expressions : (w : PlainSetting) (c : PlainCore) (scope : Place) (s : WorldState) → P (eval_of w c scope s)
+  pub calls : (w : PlainSetting) (vs : List Value) (s : WorldState) → P (applied w (eval_of w) vs s)
+  pub libraries : (w : PlainSetting) (ls : List Line) (scope : Place) (s : WorldState) → P (lines_from (eval_of w) ls scope s)

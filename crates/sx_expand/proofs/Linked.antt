@@ -7,12 +7,12 @@ use Rattle.sx_core.specs.Core as core
 use Rattle.sx_core.specs.Core.{PlainCore}
 use Rattle.sx_core.specs.declared.link.Link.{Link}
 use Rattle.sx_core.specs.declared.link.LinkKind.TheVariants as link
-use Rattle.sx_core.specs.declared.record.LibRecord.{LibRecord}
+use Rattle.sx_core.specs.declared.record.CompiledLibrary.{CompiledLibrary}
 use Rattle.sx_standing.specs.State.{State}
 use Rattle.sx_standing.proofs.Noted.{noted-keeps}
 use Rattle.sx_heads.specs.declared.plan.Plan.{Plan}
 use Rattle.sx_heads.specs.declared.plan.Plan.TheVariants as plans
-use Rattle.sx_expand.specs.Settle.{linked, linked_code, target_span}
+use Rattle.sx_expand.specs.ExpandUses.{linked, linked_code, target_span}
 use Rattle.sx_expand.specs.Top.{record_in, linked_in}
 use Rattle.sx_expand.specs.declared.top.Linked.{Linked}
 
@@ -48,10 +48,10 @@ module _ (P : State → Type 0) (t : Tree) (s : State) (h : (ls : List Link) →
   linked-keeps (plans.SetUse l id) = h s.links
 
 -- the record of a library, beside its links
-pub record_given : (t : Result (LibRecord × State) Fault) (x : Linked) → linked_in t ≡ Ok x → record_in t ≡ Ok x.library
-record_given (Ok p) x h = let e : ◌≡◌ {A = Linked} (record { library = p.0; links = p.1.links }) x = cc in ap (λ (l : Linked). let r : Result LibRecord Fault = Ok l.library in r) e
+pub record_given : (t : Result (CompiledLibrary × State) Fault) (x : Linked) → linked_in t ≡ Ok x → record_in t ≡ Ok x.library
+record_given (Ok p) x h = let e : ◌≡◌ {A = Linked} (record { library = p.0; links = p.1.links }) x = cc in ap (λ (l : Linked). let r : Result CompiledLibrary Fault = Ok l.library in r) e
 record_given (Err f) x h = absurd (cc)
 
-pub record_stops : (t : Result (LibRecord × State) Fault) (f : Fault) → linked_in t ≡ Err f → record_in t ≡ Err f
+pub record_stops : (t : Result (CompiledLibrary × State) Fault) (f : Fault) → linked_in t ≡ Err f → record_in t ≡ Err f
 record_stops (Ok p) f h = absurd (cc)
 record_stops (Err e) f h = cc

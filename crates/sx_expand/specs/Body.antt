@@ -27,8 +27,8 @@ use Rattle.sx_heads.specs.declared.taken.Waits.TheVariants as waits
 use Rattle.sx_heads.specs.Depth.{deeper, most_round}
 use Rattle.sx_expand.specs.Inside.{Inside}
 use Rattle.sx_expand.specs.Keywords.{define_syntax, with_keywords}
-use Rattle.sx_expand.specs.Settle.{settle_item}
-use Rattle.sx_expand.specs.declared.settle.SettledItem.{SettledItem}
+use Rattle.sx_expand.specs.ExpandUses.{expand_item_uses}
+use Rattle.sx_expand.specs.declared.expand_uses.PlannedItem.{PlannedItem}
 
 -- The first pass.
 
@@ -46,12 +46,12 @@ perform_item go at depth done t (items.Keywords recursive bs forms) s =
 perform_item go at depth done t (items.Use k) s = fault_form kind.BadForm t at.place s
 perform_item go at depth done t (items.SetUse l) s = fault_form kind.BadForm t at.place s
 
-abbrev pub perform_settled : Inside → ℕ → Taken × SettledItem → Does Taken
+abbrev pub perform_settled : Inside → ℕ → Taken × PlannedItem → Does Taken
 perform_settled go depth p = perform_item go p.1.at depth p.0 p.1.form p.1.item
 
 -- takes a form of a body
 unfoldable pub item : Inside → BodyAt → ℕ → Taken → Tree → Does Taken
-item go at depth done t s = if nat_lt most_round depth then fault_form kind.TooDeep t at.place s else after (settle_item go.earlier at depth done t s) (perform_settled go depth)
+item go at depth done t s = if nat_lt most_round depth then fault_form kind.TooDeep t at.place s else after (expand_item_uses go.earlier at depth done t s) (perform_settled go depth)
 
 -- The second pass.
 

@@ -10,7 +10,7 @@ use Rattle.sx_base.specs.declared.name.Label.{Label}
 use Rattle.sx_base.specs.declared.span.Span.{Span}
 use Rattle.sx_tree.specs.Tree.{Tree, atom}
 use Rattle.sx_core.specs.Core.{PlainCore}
-use Rattle.sx_core.specs.declared.record.LibRecord.{LibRecord}
+use Rattle.sx_core.specs.declared.record.CompiledLibrary.{CompiledLibrary}
 use Rattle.sx_eval.specs.Codes.{Codes}
 use Rattle.sx_standing.specs.State.{State, state_code, Does}
 use Rattle.sx_standing.specs.Start.{started, first_frame}
@@ -32,11 +32,11 @@ expanding_code =
     (λ e. (e.state, (e.frame, (e.path, e.failed)))) (λ p. record { state = p.0; frame = p.1.0; path = p.1.1.0; failed = p.1.1.1 }) (λ _. refl)
 
 -- an expander that is ready for a library
-abbrev pub ready : LibName → List ℕ → List LibRecord → List (List ℕ × Label) → Codes → Expanding
+abbrev pub ready : LibName → List ℕ → List CompiledLibrary → List (List ℕ × Label) → Codes → Expanding
 ready library path records imports codes = record { state = started library records imports codes; frame = first_frame library; path = path; failed = false }
 
 -- an expression that no form stands round, behind these records
-abbrev pub expression : List LibRecord → Span → ℕ → Tree → Does PlainCore
+abbrev pub expression : List CompiledLibrary → Span → ℕ → Tree → Does PlainCore
 expression rs place level t = (inside rs full_room).form place level 0 t
 
 -- a form that has no span
@@ -44,20 +44,20 @@ abbrev pub nowhere : Tree
 nowhere = atom None Nil
 
 -- the body of a procedure that no form stands round, at a place
-abbrev pub lambda_body : List LibRecord → Span → ℕ → List Tree → Does PlainCore
+abbrev pub lambda_body : List CompiledLibrary → Span → ℕ → List Tree → Does PlainCore
 lambda_body rs place level forms = body (inside rs full_room) place level 0 nowhere forms
 
 abbrev pub body_of : Expanding → List ℕ → Span → TopAt
 body_of e version place = record { path = e.path; version = version; frame = e.frame; place = place }
 
 -- the record of a library or program with these exports and forms, behind these records
-abbrev pub library_record : Expanding → List LibRecord → List ℕ → Span → List (List ℕ × Tree) → List Tree → Result LibRecord Fault
+abbrev pub library_record : Expanding → List CompiledLibrary → List ℕ → Span → List (List ℕ × Tree) → List Tree → Result CompiledLibrary Fault
 library_record e rs version place exports forms = record_in (top (inside rs full_room) (body_of e version place) exports forms e.state)
 
 -- the same, with the links of its expansion
-abbrev pub library_linked : Expanding → List LibRecord → List ℕ → Span → List (List ℕ × Tree) → List Tree → Result Linked Fault
+abbrev pub library_linked : Expanding → List CompiledLibrary → List ℕ → Span → List (List ℕ × Tree) → List Tree → Result Linked Fault
 library_linked e rs version place exports forms = linked_in (top (inside rs full_room) (body_of e version place) exports forms e.state)
 
 -- the fuel that its expansion spends, where it gives a record
-abbrev pub library_spent : Expanding → List LibRecord → List ℕ → Span → List (List ℕ × Tree) → List Tree → ℕ
+abbrev pub library_spent : Expanding → List CompiledLibrary → List ℕ → Span → List (List ℕ × Tree) → List Tree → ℕ
 library_spent e rs version place exports forms = spent_in (top (inside rs full_room) (body_of e version place) exports forms e.state)

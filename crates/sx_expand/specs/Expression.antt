@@ -12,7 +12,7 @@ use Rattle.sx_core.specs.CoreView.{inits, cases, clauses}
 use Rattle.sx_core.specs.declared.code.Clause.{Clause}
 use Rattle.sx_core.specs.declared.code.Init.{Init}
 use Rattle.sx_core.specs.declared.code.Lambda.{Lambda}
-use Rattle.sx_core.specs.declared.record.LibRecord.{LibRecord}
+use Rattle.sx_core.specs.declared.record.CompiledLibrary.{CompiledLibrary}
 use Rattle.sx_shapes.specs.declared.shape.FormalIds.{FormalIds}
 use Rattle.sx_shapes.specs.declared.shape.BindingSpec.{BindingSpec}
 use Rattle.sx_shapes.specs.declared.shape.LambdaCase.{LambdaCase}
@@ -26,8 +26,8 @@ use Rattle.sx_expand.specs.Inside.{Inside}
 use Rattle.sx_expand.specs.Body.{body, item, sequence_of}
 use Rattle.sx_expand.specs.Keywords.{with_keywords}
 use Rattle.sx_expand.specs.Quasi.{quasi_form}
-use Rattle.sx_expand.specs.Settle.{settle}
-use Rattle.sx_expand.specs.declared.settle.Settled.{Settled}
+use Rattle.sx_expand.specs.ExpandUses.{expand_uses}
+use Rattle.sx_expand.specs.declared.expand_uses.PlannedForm.{PlannedForm}
 use Rattle.sx_heads.specs.declared.plan.Plan.{Plan}
 use Rattle.sx_heads.specs.declared.plan.Plan.TheVariants as plans
 use Rattle.sx_standing.specs.declared.binders.BoundSpec.{BoundSpec}
@@ -140,19 +140,19 @@ perform go place level depth t (plans.Quasi which template) = quasi_form go plac
 perform go place level depth t (plans.Use k) = fault_form kind.BadForm t place
 perform go place level depth t (plans.SetUse l id) = fault_form kind.BadForm t place
 
-abbrev pub perform_settled : Inside → ℕ → ℕ → Settled → Does PlainCore
+abbrev pub perform_settled : Inside → ℕ → ℕ → PlannedForm → Does PlainCore
 perform_settled go level depth d = perform go d.place level depth d.form d.plan
 
 -- at most so many forms may stand round one
 unfoldable pub form_at : Inside → Span → ℕ → ℕ → Tree → Does PlainCore
-form_at go place level depth t s = if nat_lt most_round depth then fault_form kind.TooDeep t place s else after (settle go.earlier place level t s) (perform_settled go level depth)
+form_at go place level depth t s = if nat_lt most_round depth then fault_form kind.TooDeep t place s else after (expand_uses go.earlier place level t s) (perform_settled go level depth)
 
 -- in so much room no form is refused but for its depth
 abbrev pub full_room : ℕ
 full_room = most_round + 2
 
 -- what is done with forms inside which so many more may nest, behind these records
-unfoldable pub inside : List LibRecord → ℕ → Inside
+unfoldable pub inside : List CompiledLibrary → ℕ → Inside
 inside rs zero = record {
   earlier = rs;
   form = λ place level depth t. fault_form kind.TooDeep t place;
@@ -161,5 +161,5 @@ inside rs zero = record {
 }
 inside rs (suc room) = record { earlier = rs; form = form_at (inside rs room); procedure = lambda_case (inside rs room); item = item (inside rs room) }
 
-abbrev pub expression : List LibRecord → Span → ℕ → ℕ → Tree → ℕ → Does PlainCore
+abbrev pub expression : List CompiledLibrary → Span → ℕ → ℕ → Tree → ℕ → Does PlainCore
 expression rs place level depth t room = (inside rs room).form place level depth t

@@ -4,7 +4,7 @@ use Rattle.sx_base.specs.declared.span.Span.{Span}
 use Rattle.sx_tree.specs.Tree.{Tree}
 use Rattle.sx_core.specs.Core.{PlainCore}
 use Rattle.sx_core.specs.declared.code.Lambda.{Lambda}
-use Rattle.sx_core.specs.declared.record.LibRecord.{LibRecord}
+use Rattle.sx_core.specs.declared.record.CompiledLibrary.{CompiledLibrary}
 use Rattle.sx_shapes.specs.declared.shape.FormalIds.{FormalIds}
 use Rattle.sx_standing.specs.State.{Does}
 use Rattle.sx_heads.specs.declared.taken.BodyAt.{BodyAt}
@@ -13,7 +13,7 @@ use Rattle.sx_heads.specs.declared.taken.Taken.{Taken}
 -- the records before the library; an expression, at a place, a level and a depth; the case of a procedure that a definition binds; and a
 -- form of a body at a depth, behind those that were taken
 pub record Inside : Type 0 where
-  pub earlier : List LibRecord
+  pub earlier : List CompiledLibrary
   pub form : Span → ℕ → ℕ → Tree → Does PlainCore
   pub procedure : Span → ℕ → ℕ → Tree → FormalIds → List Tree → Does Lambda
   pub item : BodyAt → ℕ → Taken → Tree → Does Taken

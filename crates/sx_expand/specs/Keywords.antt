@@ -9,7 +9,7 @@ use Rattle.sx_shapes.specs.At.{place_of}
 use Rattle.sx_shapes.specs.declared.shape.BindingSpec.{BindingSpec}
 use Rattle.sx_standing.specs.InScope.{apart}
 use Rattle.sx_standing.specs.State.{Does, fresh_frame}
-use Rattle.sx_standing.specs.Uses.{bind_keywords, finish_keyword}
+use Rattle.sx_standing.specs.Uses.{bind_keywords, evaluate_transformer}
 use Rattle.sx_standing.specs.declared.binders.BoundSpec.{BoundSpec}
 use Rattle.sx_heads.specs.Items.{define_keyword}
 use Rattle.sx_heads.specs.declared.taken.BodyAt.{BodyAt}
@@ -17,22 +17,22 @@ use Rattle.sx_heads.specs.declared.taken.Taken.{Taken}
 use Rattle.sx_expand.specs.Inside.{Inside}
 
 -- the expression of a keyword is expanded one level up, with nothing in scope, and then evaluated
-unfoldable pub keyword : Inside → Span → ℕ → ℕ → BoundSpec → Does (Unit {0})
-keyword go place level depth b s = after (apart (go.form place (level + 1) depth b.init) s) (finish_keyword go.earlier (place_of b.init place) b.label)
+unfoldable pub expand_transformer : Inside → Span → ℕ → ℕ → BoundSpec → Does (Unit {0})
+expand_transformer go place level depth b s = after (apart (go.form place (level + 1) depth b.init) s) (evaluate_transformer go.earlier (place_of b.init place) b.label)
 
 -- the expressions of `letrec-syntax` see its keywords
 abbrev pub seen_in : Bool → FrameNo → BoundSpec → BoundSpec
 seen_in recursive frame b = if recursive then record b { init = stamp frame b.init } else b
 
-abbrev pub keyword_in : Inside → Span → ℕ → ℕ → Bool → FrameNo → Unit {0} → BoundSpec → Does (Unit {0})
-keyword_in go place level depth recursive frame done b = keyword go place level depth (seen_in recursive frame b)
+abbrev pub expand_transformer_in : Inside → Span → ℕ → ℕ → Bool → FrameNo → Unit {0} → BoundSpec → Does (Unit {0})
+expand_transformer_in go place level depth recursive frame done b = expand_transformer go place level depth (seen_in recursive frame b)
 
-abbrev pub all_keywords : Inside → Span → ℕ → ℕ → Bool → FrameNo → List BoundSpec → Does (Unit {0})
-all_keywords go place level depth recursive frame bs = gather (keyword_in go place level depth recursive frame) tt bs
+abbrev pub expand_transformers : Inside → Span → ℕ → ℕ → Bool → FrameNo → List BoundSpec → Does (Unit {0})
+expand_transformers go place level depth recursive frame bs = gather (expand_transformer_in go place level depth recursive frame) tt bs
 
 -- the keywords of `let-syntax`, or of `letrec-syntax` where it is recursive, in a frame: all are bound before the first is evaluated
 unfoldable pub keywords : Inside → Span → ℕ → ℕ → Bool → List BindingSpec → FrameNo → Does (Unit {0})
-keywords go place level depth recursive bs frame s = after (bind_keywords frame place level bs s) (all_keywords go place level depth recursive frame)
+keywords go place level depth recursive bs frame s = after (bind_keywords frame place level bs s) (expand_transformers go place level depth recursive frame)
 
 -- such keywords, with the forms in which they stand
 abbrev pub with_keywords : Inside → Span → ℕ → ℕ → Bool → List BindingSpec → List Tree → Does (List Tree)
@@ -41,4 +41,4 @@ with_keywords go place level depth recursive bs forms s =
 
 -- a keyword that a form of a body defines
 unfoldable pub define_syntax : Inside → BodyAt → ℕ → Taken → Tree → BindingSpec → Does (Unit {0})
-define_syntax go at depth done t b s = after (define_keyword at done t b s) (keyword go at.place at.level depth)
+define_syntax go at depth done t b s = after (define_keyword at done t b s) (expand_transformer go at.place at.level depth)

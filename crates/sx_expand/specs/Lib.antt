@@ -1,6 +1,6 @@
 pub mod Inside
 pub mod Quasi
-pub mod Settle
+pub mod ExpandUses
 pub mod Keywords
 pub mod Body
 pub mod Expression

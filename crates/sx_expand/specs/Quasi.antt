@@ -7,14 +7,14 @@ use Rattle.sx_core.specs.Core.{PlainCore}
 use Rattle.sx_quasi.specs.declared.word.Family.{Family}
 use Rattle.sx_quasi_code.specs.Form.{form_of, parts_of, code_of}
 use Rattle.sx_quasi_code.specs.declared.form.QuasiForm.{QuasiForm}
-use Rattle.sx_quasi_code.specs.declared.parts.Part.{Part}
+use Rattle.sx_quasi_code.specs.declared.parts.PartForm.{PartForm}
 use Rattle.sx_standing.specs.State.{Does}
 use Rattle.sx_expand.specs.Inside.{Inside}
 
-abbrev pub part_core : Inside → Span → ℕ → Part → Does PlainCore
+abbrev pub part_core : Inside → Span → ℕ → PartForm → Does PlainCore
 part_core go place level p = go.form place level p.depth p.form
 
-abbrev pub parts_in_order : Inside → Span → ℕ → List Part → Does (List PlainCore)
+abbrev pub parts_in_order : Inside → Span → ℕ → List PartForm → Does (List PlainCore)
 parts_in_order go place level = each (part_core go place level) []
 
 abbrev pub quasi_made : Inside → Span → ℕ → ℕ → Tree → QuasiForm → Does PlainCore

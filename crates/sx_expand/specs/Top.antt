@@ -16,7 +16,7 @@ use Rattle.sx_core.specs.Core.{PlainCore}
 use Rattle.sx_core.specs.References.{references}
 use Rattle.sx_core.specs.declared.record.Line.{Line}
 use Rattle.sx_core.specs.declared.record.Line.TheVariants as line
-use Rattle.sx_core.specs.declared.record.LibRecord.{LibRecord}
+use Rattle.sx_core.specs.declared.record.CompiledLibrary.{CompiledLibrary}
 use Rattle.sx_stage.specs.Libraries.{with_library}
 use Rattle.sx_standing.specs.State.{State, Does, fault_word}
 use Rattle.sx_standing.specs.Own.{export_labels, own_bindings}
@@ -69,7 +69,7 @@ refs_of own lines = with_lines_of own [] lines
 
 -- The record.
 
-abbrev pub record_of : TopAt → List (List ℕ × Label) → List Line → State → LibRecord
+abbrev pub record_of : TopAt → List (List ℕ × Label) → List Line → State → CompiledLibrary
 record_of at exports lines s = record {
   path = at.path;
   name = s.library;
@@ -81,21 +81,21 @@ record_of at exports lines s = record {
   refs = refs_of s.library lines;
 }
 
-abbrev pub give_record : TopAt → List (List ℕ × Label) → List Line → Does LibRecord
+abbrev pub give_record : TopAt → List (List ℕ × Label) → List Line → Does CompiledLibrary
 give_record at es lines s = Ok (record_of at es lines s, s)
 
 -- a record alone, without the state that is left
-abbrev pub record_in : Result (LibRecord × State) Fault → Result LibRecord Fault
+abbrev pub record_in : Result (CompiledLibrary × State) Fault → Result CompiledLibrary Fault
 record_in (Err e) = Err e
 record_in (Ok p) = Ok p.0
 
 -- a record, and which identifiers stand for which labels in its expansion
-abbrev pub linked_in : Result (LibRecord × State) Fault → Result Linked Fault
+abbrev pub linked_in : Result (CompiledLibrary × State) Fault → Result Linked Fault
 linked_in (Err e) = Err e
 linked_in (Ok p) = Ok (record { library = p.0; links = p.1.links })
 
 -- the fuel that was spent, where there is a record
-abbrev pub spent_in : Result (LibRecord × State) Fault → ℕ
+abbrev pub spent_in : Result (CompiledLibrary × State) Fault → ℕ
 spent_in (Err e) = 0
 spent_in (Ok p) = p.1.spent
 
@@ -110,13 +110,13 @@ abbrev pub body_at : TopAt → LibName → BodyAt
 body_at at own = record { frame = at.frame; place = at.place; level = 0; kind = kind_of own }
 
 -- what comes after the first pass: the exports, and the second pass
-unfoldable pub finished : Inside → TopAt → List (List ℕ × Tree) → Taken → Does LibRecord
-finished go at es taken s = after (exports at es s) (λ ls s'. after (finish_all go 0 taken.waiting s') (λ lines. give_record at ls lines))
+unfoldable pub second_pass : Inside → TopAt → List (List ℕ × Tree) → Taken → Does CompiledLibrary
+second_pass go at es taken s = after (exports at es s) (λ ls s'. after (finish_all go 0 taken.waiting s') (λ lines. give_record at ls lines))
 
 -- the first pass over the body of a library or program, with its frame on all its forms
 unfoldable pub first_pass : Inside → TopAt → List Tree → Does Taken
 first_pass go at forms s = splice go (body_at at s.library) 0 begun (map (stamp at.frame) forms) s
 
 -- the body of a library or program
-unfoldable pub top : Inside → TopAt → List (List ℕ × Tree) → List Tree → Does LibRecord
-top go at es forms s = after (first_pass go at forms s) (finished go at es)
+unfoldable pub top : Inside → TopAt → List (List ℕ × Tree) → List Tree → Does CompiledLibrary
+top go at es forms s = after (first_pass go at forms s) (second_pass go at es)

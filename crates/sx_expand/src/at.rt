@@ -34,7 +34,7 @@ pub struct ItemAt<'a, M> {
     pub means: &'a M,
 }
 
-/// A form of a body, where it stands, and what has transformers evaluated. The steps of `settle_item` go by it.
+/// A form of a body, where it stands, and what has transformers evaluated. The steps of `expand_item_uses` go by it.
 #[derive(Drop)]
 pub struct ItemForm<'a, M> {
     pub form: &'a Syn,

@@ -14,7 +14,7 @@ use crate::at::{FormAt, ItemAt};
 use crate::cores::procedure_of_case;
 use crate::expression::{ProcedureForm, expression, procedure, sequence_of, stamp_all};
 use crate::keywords::{KeywordDefinition, LetSyntaxForm, define_syntax, with_keywords};
-use crate::settle::{SettledItem, settle_item};
+use crate::expand_uses::{PlannedItem, expand_item_uses};
 use crate::transformers::Transformers;
 use std::alloc::Global;
 use std::sync::ledger::Ledger;
@@ -181,7 +181,7 @@ fn item_at<M: Transformers, N: Ledger, L: Ledger>(
     if at.depth > MOST_ROUND {
         return Err(state.fault_form(FaultKind::TooDeep, form, &at.body.place));
     }
-    let settled = settle_item(state, at, taken, form, counts)?;
+    let settled = expand_item_uses(state, at, taken, form, counts)?;
     let done = perform_item(state, at, taken, &settled, counts);
     drop(settled);
     done
@@ -195,7 +195,7 @@ fn perform_item<M: Transformers, N: Ledger, L: Ledger>(
     state: &mut Expansion<L>,
     at: &ItemAt<M>,
     taken: &mut Taken,
-    settled: &SettledItem,
+    settled: &PlannedItem,
     counts: &mut Counts<N, L>,
 ) -> Result<(), Stop>
     ensures { GivesAfter (λ _. taken.new) result state.new (perform_item (inside (M.records at.now.means.now) at.now.room) settled.now.at at.now.depth taken.old settled.now.form settled.now.item state.old) }

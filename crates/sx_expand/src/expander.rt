@@ -26,7 +26,7 @@ use sx_base::name::FrameNo;
 use sx_base::span::Span;
 use sx_base::symbol::Symbol;
 use sx_core::code::Core;
-use sx_core::record::LibRecord;
+use sx_core::record::CompiledLibrary;
 use sx_fuel::fuel::Fuel;
 use sx_standing::expansion::Expansion;
 use sx_standing::means::{Counts, Means};
@@ -163,7 +163,7 @@ impl<L: Ledger> Expander<L> {
         body: LibraryBody,
         means: &Means,
         tally: &mut Tally<N, L>,
-    ) -> Result<LibRecord, Stop>
+    ) -> Result<CompiledLibrary, Stop>
         requires { self.failed ≡ false }
         ensures record { Gives (λ r. r) result (library_record self (earlier_in means.now.earlier) body.entry.version body.entry.place.now body.entry.exports.now body.entry.forms) }
         ensures fuel { OnOk result (tally.new.fuel ≡ tally.old.fuel + library_spent self (earlier_in means.now.earlier) body.entry.version body.entry.place.now body.entry.exports.now body.entry.forms) }
@@ -247,7 +247,7 @@ fn library_record<N: Ledger, L: Ledger>(
     body: LibraryBody,
     means: &Means,
     counts: &mut Counts<N, L>,
-) -> Result<LibRecord, Stop>
+) -> Result<CompiledLibrary, Stop>
     ensures record { Gives (λ r. r) result (library_record expander.old (earlier_in means.now.earlier) body.entry.version body.entry.place.now body.entry.exports.now body.entry.forms) }
     ensures spent { OnOk result (expander.new.state.spent ≡ library_spent expander.old (earlier_in means.now.earlier) body.entry.version body.entry.place.now body.entry.exports.now body.entry.forms) }
 {

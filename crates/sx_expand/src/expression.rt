@@ -15,7 +15,7 @@ use crate::cores::{
 use crate::keywords::{LetSyntaxForm, keywords_form};
 use crate::patterns::{SyntaxCaseForm, syntax_case};
 use crate::quasi::{TemplateForm, quasi_form};
-use crate::settle::{Settled, settle};
+use crate::expand_uses::{PlannedForm, expand_uses};
 use crate::transformers::Transformers;
 use std::alloc::Global;
 use std::sync::ledger::Ledger;
@@ -179,7 +179,7 @@ fn form_at<M: Transformers, N: Ledger, L: Ledger>(
     if at.depth > MOST_ROUND {
         return Err(state.fault_form(FaultKind::TooDeep, form, at.place));
     }
-    let Settled { place, form, plan } = settle(state, form, at, counts)?;
+    let PlannedForm { place, form, plan } = expand_uses(state, form, at, counts)?;
     let there = FormAt {
         place: &place,
         ..*at

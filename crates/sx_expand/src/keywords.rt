@@ -4,7 +4,7 @@ ghost use Rattle.std.specs.Prelude.{◌≡◌, IfOk};
 ghost use Rattle.sx_base.specs.Act.{GivesAfter};
 ghost use Rattle.sx_standing.specs.InScope.{apart};
 ghost use Rattle.sx_expand.specs.Expression.{inside, keywords_form};
-ghost use Rattle.sx_expand.specs.Keywords.{keyword, seen_in, keyword_in, all_keywords, keywords, with_keywords, define_syntax};
+ghost use Rattle.sx_expand.specs.Keywords.{expand_transformer, seen_in, expand_transformer_in, expand_transformers, keywords, with_keywords, define_syntax};
 
 use crate::at::{FormAt, ItemAt};
 use crate::expression::{expression, in_sequence, stamp_all};
@@ -77,13 +77,13 @@ fn expression_apart<M: Transformers, N: Ledger, L: Ledger>(
 /// Expands the expression of a keyword, one level up and with nothing in scope, and evaluates it.
 #[cycle(form)]
 #[tactic(auto, unfolding(crate::specs::Keywords::keyword), using(crate::proofs::Steps::earlier_inside))]
-fn keyword<M: Transformers, N: Ledger, L: Ledger>(
+fn expand_transformer<M: Transformers, N: Ledger, L: Ledger>(
     state: &mut Expansion<L>,
     bound: &BoundSpec,
     at: &FormAt<M>,
     counts: &mut Counts<N, L>,
 ) -> Result<(), Stop>
-    ensures { GivesAfter (λ _. tt) result state.new (keyword (inside (M.records at.now.means.now) at.now.room) at.now.place.now at.now.level at.now.depth bound.now state.old) }
+    ensures { GivesAfter (λ _. tt) result state.new (expand_transformer (inside (M.records at.now.means.now) at.now.room) at.now.place.now at.now.level at.now.depth bound.now state.old) }
 {
     let Some(up) = at.level.checked_add(1) else {
         return Err(Stop::Memory);
@@ -95,7 +95,7 @@ fn keyword<M: Transformers, N: Ledger, L: Ledger>(
         label: &bound.label,
         place: &place,
     };
-    at.means.finish_keyword(state, &waiting, core, counts)
+    at.means.evaluate_transformer(state, &waiting, core, counts)
 }
 
 /// The expressions of `letrec-syntax` see its keywords.
@@ -118,14 +118,14 @@ fn seen_in<N: Ledger>(
 }
 
 #[cycle(form)]
-fn keyword_in<M: Transformers, N: Ledger, L: Ledger>(
+fn expand_transformer_in<M: Transformers, N: Ledger, L: Ledger>(
     state: &mut Expansion<L>,
     scope: &KeywordFrame,
     bound: &BoundSpec,
     at: &FormAt<M>,
     counts: &mut Counts<N, L>,
 ) -> Result<(), Stop>
-    ensures { GivesAfter (λ _. tt) result state.new (keyword_in (inside (M.records at.now.means.now) at.now.room) at.now.place.now at.now.level at.now.depth scope.now.recursive scope.now.frame.now tt bound.now state.old) }
+    ensures { GivesAfter (λ _. tt) result state.new (expand_transformer_in (inside (M.records at.now.means.now) at.now.room) at.now.place.now at.now.level at.now.depth scope.now.recursive scope.now.frame.now tt bound.now state.old) }
 {
     let bound = seen_in(
         state.alloc(),
@@ -134,21 +134,21 @@ fn keyword_in<M: Transformers, N: Ledger, L: Ledger>(
         bound,
         counts.nodes,
     )?;
-    keyword(state, &bound, at, counts)
+    expand_transformer(state, &bound, at, counts)
 }
 
 #[cycle(form)]
-fn all_keywords<M: Transformers, N: Ledger, L: Ledger>(
+fn expand_transformers<M: Transformers, N: Ledger, L: Ledger>(
     state: &mut Expansion<L>,
     scope: &KeywordFrame,
     bound: &[BoundSpec],
     at: &FormAt<M>,
     counts: &mut Counts<N, L>,
 ) -> Result<(), Stop>
-    ensures { GivesAfter (λ _. tt) result state.new (all_keywords (inside (M.records at.now.means.now) at.now.room) at.now.place.now at.now.level at.now.depth scope.now.recursive scope.now.frame.now bound.now state.old) }
+    ensures { GivesAfter (λ _. tt) result state.new (expand_transformers (inside (M.records at.now.means.now) at.now.room) at.now.place.now at.now.level at.now.depth scope.now.recursive scope.now.frame.now bound.now state.old) }
 {
     for one in bound {
-        keyword_in(state, scope, one, at, counts)?;
+        expand_transformer_in(state, scope, one, at, counts)?;
     }
     Ok(())
 }
@@ -171,7 +171,7 @@ fn keywords<M: Transformers, N: Ledger, L: Ledger>(
         level: at.level,
     };
     let bound = state.bind_keywords(&binders, specs)?;
-    all_keywords(state, scope, bound.as_slice(), at, counts)
+    expand_transformers(state, scope, bound.as_slice(), at, counts)
 }
 
 /// The forms among the keywords of `let-syntax` or `letrec-syntax`, which are evaluated.
@@ -228,5 +228,5 @@ pub(crate) fn define_syntax<M: Transformers, N: Ledger, L: Ledger>(
         room: at.room,
         means: at.means,
     };
-    keyword(state, &bound, &keyword_at, counts)
+    expand_transformer(state, &bound, &keyword_at, counts)
 }

@@ -17,7 +17,7 @@
 //!
 //! A form is expanded at a *place*, a *level* and a *depth*, with some *room* and some *means*: `at` says what
 //! each is. Callers have an `expander`. `top` expands the body of a library or program, in the two passes of
-//! `body`. `settle` puts what comes of a use of a keyword in its place, until a form is no use. `expression`
+//! `body`. `expand_uses` puts what comes of a use of a keyword in its place, until a form is no use. `expression`
 //! has the core forms, but for those of `patterns` (`syntax-case`), `quasi` (`quasiquote`, `quasisyntax`) and
 //! `keywords` (`let-syntax`, `letrec-syntax`).
 #![tactic(auto)]
@@ -32,7 +32,7 @@ pub mod keywords;
 pub mod links;
 pub mod patterns;
 pub mod quasi;
-pub mod settle;
+pub mod expand_uses;
 pub mod tally;
 pub mod top;
 pub mod transformers;

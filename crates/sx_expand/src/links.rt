@@ -3,7 +3,7 @@
 ghost use Rattle.std.specs.Prelude.{◌≡◌, OnOk};
 ghost use Rattle.sx_core.specs.declared.link.LinkKind.TheVariants as links;
 ghost use Rattle.sx_standing.specs.State.{noted};
-ghost use Rattle.sx_expand.specs.Settle.{linked, linked_code, linked_primitive, target_span, first_span};
+ghost use Rattle.sx_expand.specs.ExpandUses.{linked, linked_code, linked_primitive, target_span, first_span};
 
 use std::rc::Rc;
 use std::sync::ledger::Ledger;
@@ -15,7 +15,7 @@ use sx_core::code::{Core, CoreNode};
 use sx_core::link::LinkKind;
 use sx_heads::plan::Plan;
 use sx_standing::expansion::Expansion;
-use sx_syntax::syn::{Opened, Syn};
+use sx_syntax::syn::{OpenedTree, Syn};
 
 /// Links an identifier to a primitive.
 fn link_primitive<L: Ledger>(state: &mut Expansion<L>, id: &Syn, op: Op) -> Result<(), Memory>
@@ -45,7 +45,7 @@ fn link_first<L: Ledger>(state: &mut Expansion<L>, list: &Syn, label: &Label) ->
     ensures { OnOk result (state.new ≡ noted (first_span list.now) label.now links.Refer state.old) }
 {
     match list.open(state.alloc())? {
-        Opened::Pair(id, _) => state.note(&id, label, LinkKind::Refer),
+        OpenedTree::Pair(id, _) => state.note(&id, label, LinkKind::Refer),
         _ => Ok(()),
     }
 }
@@ -55,7 +55,7 @@ fn link_target<L: Ledger>(state: &mut Expansion<L>, form: &Syn, label: &Label) -
     ensures { OnOk result (state.new ≡ noted (target_span form.now) label.now links.Refer state.old) }
 {
     match form.open(state.alloc())? {
-        Opened::Pair(_, rest) => link_first(state, &rest, label),
+        OpenedTree::Pair(_, rest) => link_first(state, &rest, label),
         _ => Ok(()),
     }
 }

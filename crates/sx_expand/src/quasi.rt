@@ -15,7 +15,7 @@ use sx_core::code::Core;
 use sx_heads::context::FormContext;
 use sx_quasi::word::Family;
 use sx_quasi_code::form::{QuasiForm, code_of, form_of, parts_of};
-use sx_quasi_code::parts::Part;
+use sx_quasi_code::parts::PartForm;
 use sx_standing::expansion::Expansion;
 use sx_standing::means::Counts;
 use sx_syntax::syn::Syn;
@@ -34,7 +34,7 @@ pub(crate) struct TemplateForm<'a> {
 #[cycle(form)]
 fn parts_in_order<M: Transformers, N: Ledger, L: Ledger>(
     state: &mut Expansion<L>,
-    parts: &[Part],
+    parts: &[PartForm],
     at: &FormAt<M>,
     counts: &mut Counts<N, L>,
 ) -> Result<Vec<Core>, Stop>

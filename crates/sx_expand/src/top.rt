@@ -6,7 +6,7 @@ ghost use Rattle.sx_base.specs.Gives.{Gives};
 ghost use Rattle.sx_stage.specs.Libraries.{earlier_in};
 ghost use Rattle.sx_expand.specs.Body.{finish_one, finish_all, splice};
 ghost use Rattle.sx_expand.specs.Expression.{inside, full_room};
-ghost use Rattle.sx_expand.specs.Top.{export, all_exports, exports, with_label_of, with_labels_of, code_of, with_lines_of, refs_of, record_of, linked_in, spent_in, kind_of, body_at, first_pass, finished, top};
+ghost use Rattle.sx_expand.specs.Top.{export, all_exports, exports, with_label_of, with_labels_of, code_of, with_lines_of, refs_of, record_of, linked_in, spent_in, kind_of, body_at, first_pass, second_pass, top};
 
 use crate::at::{FormAt, ItemAt};
 use crate::body::{begun, finish_one, item};
@@ -24,10 +24,10 @@ use sx_base::steps::Steps;
 use sx_base::symbol::Symbol;
 use sx_core::code::Core;
 use sx_core::link::Link;
-use sx_core::record::{LibRecord, Line};
+use sx_core::record::{CompiledLibrary, Line};
 use sx_core::references::references;
 use sx_heads::taken::{BodyAt, BodyKind, Taken, Waiting};
-use sx_stage::libraries::Libraries;
+use sx_stage::libraries::LibraryList;
 use sx_standing::expansion::Expansion;
 use sx_standing::means::{Counts, Means};
 use sx_core::share::share_library;
@@ -57,7 +57,7 @@ pub struct TopBody<'a> {
 /// The record of a library or program, and its links in the order in which they were noted.
 #[derive(Drop)]
 pub struct Linked {
-    pub library: LibRecord,
+    pub library: CompiledLibrary,
     pub links: Items<Link>,
 }
 
@@ -113,7 +113,7 @@ fn exports<N: Ledger, L: Ledger>(
 fn add_label(
     alloc: Global,
     own: &LibName,
-    done: &mut Libraries,
+    done: &mut LibraryList,
     label: &Label,
 ) -> Result<(), Memory>
     ensures { OnOk result (done.new ≡ with_label_of own.now done.old label.now) }
@@ -127,7 +127,7 @@ fn add_label(
 fn add_labels(
     alloc: Global,
     own: &LibName,
-    done: &mut Libraries,
+    done: &mut LibraryList,
     labels: &[Label],
 ) -> Result<(), Memory>
     ensures { OnOk result (done.new ≡ with_labels_of own.now done.old labels.now) }
@@ -151,7 +151,7 @@ fn code_of(line: &Line) -> &Core
 fn refs_of(alloc: Global, own: &LibName, lines: &[Line]) -> Result<Items<LibName>, Memory>
     ensures { IfOk result (λ ks. ks ≡ refs_of own.now lines.now) }
 {
-    let mut done = Libraries::new(alloc);
+    let mut done = LibraryList::new(alloc);
     for line in lines {
         let labels = references(alloc, code_of(line))?;
         add_labels(alloc, own, &mut done, labels.as_slice())?;
@@ -164,7 +164,7 @@ fn record_of<L: Ledger>(
     at: TopAt,
     exports: Items<(Symbol, Label)>,
     lines: Vec<Line>,
-) -> Result<LibRecord, Memory>
+) -> Result<CompiledLibrary, Memory>
     ensures given { IfOk result (λ r. r ≡ record_of at exports lines.items state.old) }
     ensures links { state.new.links ≡ state.old.links }
     ensures spent { OnOk result (state.new.spent ≡ state.old.spent) }
@@ -174,7 +174,7 @@ fn record_of<L: Ledger>(
     let refs = refs_of(alloc, &name, lines.as_slice())?;
     let frames = state.own_rows()?;
     let bindings = state.own_bindings()?;
-    Ok(LibRecord {
+    Ok(CompiledLibrary {
         path: at.path,
         name,
         version: at.version,
@@ -233,15 +233,15 @@ fn finish_each<N: Ledger, L: Ledger>(
 
 /// What comes after the first pass.
 #[tactic(auto, unfolding(crate::specs::Top::finished))]
-fn finished<N: Ledger, L: Ledger>(
+fn second_pass<N: Ledger, L: Ledger>(
     state: &mut Expansion<L>,
     body: TopBody,
     taken: Taken,
     means: &Means,
     counts: &mut Counts<N, L>,
 ) -> Result<Linked, Stop>
-    ensures linked { Gives (λ r. r) result (linked_in (finished (inside (earlier_in means.now.earlier) full_room) body.entry.at body.entry.exports.now taken state.old)) }
-    ensures spent { OnOk result (state.new.spent ≡ spent_in (finished (inside (earlier_in means.now.earlier) full_room) body.entry.at body.entry.exports.now taken state.old)) }
+    ensures linked { Gives (λ r. r) result (linked_in (second_pass (inside (earlier_in means.now.earlier) full_room) body.entry.at body.entry.exports.now taken state.old)) }
+    ensures spent { OnOk result (state.new.spent ≡ spent_in (second_pass (inside (earlier_in means.now.earlier) full_room) body.entry.at body.entry.exports.now taken state.old)) }
 {
     let TopBody { at, exports: list } = body;
     let exports = exports(state, &at, list, counts.nodes)?;
@@ -331,5 +331,5 @@ pub fn top<N: Ledger, L: Ledger>(
     ensures spent { OnOk result (state.new.spent ≡ spent_in (top (inside (earlier_in means.now.earlier) full_room) body.entry.at body.entry.exports.now forms state.old)) }
 {
     let taken = first_pass(state, &body.at, forms, means, counts)?;
-    finished(state, body, taken, means, counts)
+    second_pass(state, body, taken, means, counts)
 }

@@ -2,9 +2,9 @@
 
 ghost use Rattle.std.specs.Prelude.{List};
 ghost use Rattle.sx_base.specs.Act.{GivesAfter};
-ghost use Rattle.sx_core.specs.declared.record.LibRecord.{LibRecord};
+ghost use Rattle.sx_core.specs.declared.record.CompiledLibrary.{CompiledLibrary};
 ghost use Rattle.sx_stage.specs.Libraries.{earlier_in};
-ghost use Rattle.sx_standing.specs.Uses.{use_keyword, asks_variable, finish_keyword};
+ghost use Rattle.sx_standing.specs.Uses.{use_keyword, asks_variable, evaluate_transformer};
 
 use std::sync::ledger::Ledger;
 use sx_base::fault::Stop;
@@ -21,7 +21,7 @@ use sx_syntax::syn::Syn;
 /// cycle.
 pub trait Transformers {
     /// The records before the library.
-    ghost records: { Self → List LibRecord };
+    ghost records: { Self → List CompiledLibrary };
 
     /// What comes of a use of the keyword with this label. Faults of evaluation stand at the place in `used`.
     fn use_keyword<N: Ledger, L: Ledger>(
@@ -44,14 +44,14 @@ pub trait Transformers {
         ensures { GivesAfter (λ b. b) result state.new (asks_variable (records self.now) place.now label.now state.old) };
 
     /// Evaluates the expression of a keyword, of which this is the code, and keeps what it gives.
-    fn finish_keyword<N: Ledger, L: Ledger>(
+    fn evaluate_transformer<N: Ledger, L: Ledger>(
         &self,
         state: &mut Expansion<L>,
         keyword: &KeywordAt,
         code: Core,
         counts: &mut Counts<N, L>,
     ) -> Result<(), Stop>
-        ensures { GivesAfter (λ _. tt) result state.new (finish_keyword (records self.now) keyword.now.place.now keyword.now.label.now code state.old) };
+        ensures { GivesAfter (λ _. tt) result state.new (evaluate_transformer (records self.now) keyword.now.place.now keyword.now.label.now code state.old) };
 }
 
 impl<'a> Transformers for Means<'a> {
@@ -77,13 +77,13 @@ impl<'a> Transformers for Means<'a> {
         state.asks_variable(place, label, self, counts)
     }
 
-    fn finish_keyword<N: Ledger, L: Ledger>(
+    fn evaluate_transformer<N: Ledger, L: Ledger>(
         &self,
         state: &mut Expansion<L>,
         keyword: &KeywordAt,
         code: Core,
         counts: &mut Counts<N, L>,
     ) -> Result<(), Stop> {
-        state.finish_keyword(keyword, code, self, counts)
+        state.evaluate_transformer(keyword, code, self, counts)
     }
 }

@@ -29,13 +29,13 @@ use Rattle.sx_standing.specs.Uses.{put_keyword, bind_keyword}
 use Rattle.sx_standing.specs.declared.binders.BoundSpec.{BoundSpec}
 use Rattle.sx_expand.specs.Top.{stands_for, export, exports}
 use Rattle.sx_expand.specs.declared.top.TopAt.{TopAt}
-use Rattle.sx_expand_fault_laws.specs.Told.{Tells}
-use Rattle.sx_expand_fault_laws.specs.Bindings.{IsBound, IsBadBinder, IsBadExport, BindingsAreTold}
+use Rattle.sx_expand_fault_laws.specs.Told.{TellsFault}
+use Rattle.sx_expand_fault_laws.specs.Bindings.{IsBoundName, IsBadBinder, IsBadExport, BindingsAreTold}
 use Rattle.sx_expand_fault_laws.specs.Bindings as b
 use Rattle.sx_expand_fault_laws.proofs.Told.{tells, told}
 
-tells-of : (k : kind.the_data) (form : Tree) (place : Span) (words : List (List ℕ)) (f : Fault) → fault_at k form place words ≡ f → Tells k form place words f
-tells-of k form place words f e = subst (λ g. Tells k form place words g) e (tells k form place words)
+tells-of : (k : kind.the_data) (form : Tree) (place : Span) (words : List (List ℕ)) (f : Fault) → fault_at k form place words ≡ f → TellsFault k form place words f
+tells-of k form place words f e = subst (λ g. TellsFault k form place words g) e (tells k form place words)
 
 -- Rows.
 
@@ -47,17 +47,17 @@ second-so : (p q : Bool) → (p && q) ≡ true → q ≡ true
 second-so true q h = h
 second-so false q h = absurd (cc)
 
-bound-is : (x : List ℕ) (ms : List Mark) (rs : List Row) → is_some (label_in rs x ms) ≡ true → IsBound x ms rs
+bound-is : (x : List ℕ) (ms : List Mark) (rs : List Row) → is_some (label_in rs x ms) ≡ true → IsBoundName x ms rs
 bound-is x ms [] h = absurd (cc)
 bound-is x ms (r ∷ rs) h = by (bound-is x ms rs) (is_of x ms r) refl h
   where
-    by : (is_some (label_in rs x ms) ≡ true → IsBound x ms rs) → (t : Bool) → is_of x ms r ≡ t → is_some (if t then Some r.label else label_in rs x ms) ≡ true → IsBound x ms (r ∷ rs)
+    by : (is_some (label_in rs x ms) ≡ true → IsBoundName x ms rs) → (t : Bool) → is_of x ms r ≡ t → is_some (if t then Some r.label else label_in rs x ms) ≡ true → IsBoundName x ms (r ∷ rs)
     by rest true e k =
         b.by_this_row (sym ((texts_decides x r.symbol).0 (first-so (pointwise nat_eq x r.symbol) (same_marks ms r.marks) e)))
         (sym ((same_marks_decides ms r.marks).0 (second-so (pointwise nat_eq x r.symbol) (same_marks ms r.marks) e)))
     by rest false e k = b.by_another_row (rest k)
 
-is-bound : (x : List ℕ) (ms : List Mark) (rs : List Row) → IsBound x ms rs → is_some (label_in rs x ms) ≡ true
+is-bound : (x : List ℕ) (ms : List Mark) (rs : List Row) → IsBoundName x ms rs → is_some (label_in rs x ms) ≡ true
 is-bound x ms _ (b.by_this_row {r} {rs} s m) =
     ap (λ t. is_some (if t && same_marks ms r.marks then Some r.label else label_in rs x ms)) ((texts_decides x r.symbol).1 (sym s))
     ∙ ap (λ t. is_some (if t then Some r.label else label_in rs x ms)) ((same_marks_decides ms r.marks).1 (sym m))
@@ -87,7 +87,7 @@ module _ {A : Type 0} (frame : FrameNo) (id : Tree) (place : Span) (s : State) (
       b.second leaf-is (bound-is (symbol_of id) (marks_of id) (rows_at frame s.frames) has) (tells-of kind.Duplicate id place (symbol_of id ∷ []) f is)
   bind-only false has f e = absurd (gives (record t { frames = with_row t.frames frame (row_for id l) }) f e)
 
-  bind-told : (f : Fault) → IsBound (symbol_of id) (marks_of id) (rows_at frame s.frames) → Tells kind.Duplicate id place (symbol_of id ∷ []) f → after (put_row id place frame l t) go ≡ Err f
+  bind-told : (f : Fault) → IsBoundName (symbol_of id) (marks_of id) (rows_at frame s.frames) → TellsFault kind.Duplicate id place (symbol_of id ∷ []) f → after (put_row id place frame l t) go ≡ Err f
   bind-told f h told-so =
       ap (λ x. after (Put frame id place x l t) go) (same ∙ is-bound (symbol_of id) (marks_of id) (rows_at frame s.frames) h)
       ∙ ap Err (sym (told kind.Duplicate id place (symbol_of id ∷ []) f told-so))
@@ -105,7 +105,7 @@ module _ (frame : FrameNo) (id : Tree) (place : Span) (s : State) where
   not-both : (t : Bool) → t ≡ true → t ≡ false → ⊥
   not-both t h k = let e : true ≡ false = sym h ∙ k in let z : ⊥ = cc in z
 
-  no-binder : (f : Fault) → is_leaf id ≡ false → Tells kind.BadForm id place [] f → fault_at kind.BadForm id place [] ≡ f
+  no-binder : (f : Fault) → is_leaf id ≡ false → TellsFault kind.BadForm id place [] f → fault_at kind.BadForm id place [] ≡ f
   no-binder f h t = sym (told kind.BadForm id place [] f t)
 
   -- Variables.

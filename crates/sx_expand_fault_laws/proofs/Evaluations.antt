@@ -6,7 +6,7 @@ use Rattle.sx_base.specs.declared.fault.Fault.{Fault}
 use Rattle.sx_base.specs.declared.span.Span.{Span}
 use Rattle.sx_tree.specs.Tree.{Tree}
 use Rattle.sx_core.specs.Core.{PlainCore}
-use Rattle.sx_core.specs.declared.record.LibRecord.{LibRecord}
+use Rattle.sx_core.specs.declared.record.CompiledLibrary.{CompiledLibrary}
 use Rattle.sx_value.specs.ToSyntax.{Reading, to_syntax}
 use Rattle.sx_value.specs.declared.value.Value.{Value}
 use Rattle.sx_value.specs.declared.value.Value.TheVariants as value
@@ -23,15 +23,15 @@ put-at place b f p =
     let ws : f.words ≡ b.words = p.words in
     λ i. record { kind = k i; span = at i; words = ws i }
 
-told-expression : (place : Span) (c : PlainCore) (s : PlainStage) (t : eval.State) (left : ℕ) (b : Bare) (f : Fault) → outcome_of c s ≡ eval.faulted b t left → IsPutAt place b f → evaluate place c s ≡ Err f
+told-expression : (place : Span) (c : PlainCore) (s : PlainStage) (t : eval.WorldState) (left : ℕ) (b : Bare) (f : Fault) → outcome_of c s ≡ eval.faulted b t left → IsPutAt place b f → evaluate place c s ≡ Err f
 unfolding evaluate
 told-expression place c s t left b f e p = ap (λ o. ended_at place (with_codes_of c s) o) e ∙ ap Err (sym (put-at place b f p))
 
-told-call : (place : Span) (v x : Value) (s : PlainStage) (t : eval.State) (left : ℕ) (b : Bare) (f : Fault) → outcome_of_call v x s ≡ eval.faulted b t left → IsPutAt place b f → call place v x s ≡ Err f
+told-call : (place : Span) (v x : Value) (s : PlainStage) (t : eval.WorldState) (left : ℕ) (b : Bare) (f : Fault) → outcome_of_call v x s ≡ eval.faulted b t left → IsPutAt place b f → call place v x s ≡ Err f
 unfolding call
 told-call place v x s t left b f e p = ap (λ o. ended_at place s o) e ∙ ap Err (sym (put-at place b f p))
 
-told-library : (place : Span) (r : LibRecord) (s : PlainStage) (t : eval.State) (left : ℕ) (b : Bare) (f : Fault) → outcome_of_lines r.run s ≡ eval.faulted b t left → IsPutAt place b f → evaluate_library place r s ≡ Err f
+told-library : (place : Span) (r : CompiledLibrary) (s : PlainStage) (t : eval.WorldState) (left : ℕ) (b : Bare) (f : Fault) → outcome_of_lines r.run s ≡ eval.faulted b t left → IsPutAt place b f → evaluate_library place r s ≡ Err f
 unfolding evaluate_library
 told-library place r s t left b f e p = ap (λ o. library_ended place r s o) e ∙ ap Err (sym (put-at place b f p))
 

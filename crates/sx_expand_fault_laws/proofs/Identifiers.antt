@@ -15,7 +15,7 @@ use Rattle.sx_core.specs.Core.{variable}
 use Rattle.sx_core.specs.Labels.{same_label, has_label}
 use Rattle.sx_core.specs.declared.core_form.CoreForm.{CoreForm}
 use Rattle.sx_core.specs.declared.core_form.CoreForm.TheVariants as core_forms
-use Rattle.sx_core.specs.declared.record.LibRecord.{LibRecord}
+use Rattle.sx_core.specs.declared.record.CompiledLibrary.{CompiledLibrary}
 use Rattle.sx_shapes.specs.At.{place_of, fault_at}
 use Rattle.sx_shapes.specs.Forms.{shape}
 use Rattle.sx_shapes.specs.Lists.{is_leaf}
@@ -31,10 +31,10 @@ use Rattle.sx_standing.specs.declared.standing.Variable.{Variable}
 use Rattle.sx_heads.specs.Plan.{variable_at, refer, reference, target_variable, assign_to, assign_by, assign, application, with_shape, keyword_plan, by_head, list_plan, shape_plan, plan_of}
 use Rattle.sx_heads.specs.declared.plan.Plan.{Plan}
 use Rattle.sx_heads.specs.declared.plan.Plan.TheVariants as plans
-use Rattle.sx_expand.specs.Settle.{set_step, step_of, step}
-use Rattle.sx_expand.specs.declared.settle.Step.{Step}
-use Rattle.sx_expand_fault_laws.specs.Told.{Tells}
-use Rattle.sx_expand_fault_laws.specs.Identifiers.{IsAmong, IsVisible, IsBadReference, IsBadTarget, IsAssignment, IsBadAssignment, IsAuxiliary, IdentifiersAreTold}
+use Rattle.sx_expand.specs.ExpandUses.{set_step, step_of, step}
+use Rattle.sx_expand.specs.declared.expand_uses.PlanOrUse.{PlanOrUse}
+use Rattle.sx_expand_fault_laws.specs.Told.{TellsFault}
+use Rattle.sx_expand_fault_laws.specs.Identifiers.{IsAmongForms, IsVisible, IsBadReference, IsBadTarget, IsAssignment, IsBadAssignment, IsAuxiliary, IdentifiersAreTold}
 use Rattle.sx_expand_fault_laws.specs.Identifiers as i
 use Rattle.sx_expand_fault_laws.proofs.Told.{tells, told}
 
@@ -46,19 +46,19 @@ label-is l m h = let e = (same_name_cases l.0 m.0).0 h in λ k. record { 0 = e k
 label-self : (l : Label) → same_label l l ≡ true
 label-self l = (same_name_cases l.0 l.0).1 refl
 
-is-among : (ls : List Label) (l : Label) → has_label ls l ≡ true → IsAmong l ls
+is-among : (ls : List Label) (l : Label) → has_label ls l ≡ true → IsAmongForms l ls
 is-among [] l h = absurd (cc)
 is-among (m ∷ ms) l h = by (is-among ms l) (same_label l m) refl h
   where
-    by : (has_label ms l ≡ true → IsAmong l ms) → (b : Bool) → same_label l m ≡ b → (b || has_label ms l) ≡ true → IsAmong l (m ∷ ms)
-    by rest true e k = subst (λ n. IsAmong l (n ∷ ms)) (label-is l m e) i.first_label
+    by : (has_label ms l ≡ true → IsAmongForms l ms) → (b : Bool) → same_label l m ≡ b → (b || has_label ms l) ≡ true → IsAmongForms l (m ∷ ms)
+    by rest true e k = subst (λ n. IsAmongForms l (n ∷ ms)) (label-is l m e) i.first_label
     by rest false e k = i.later_label (rest k)
 
 or-true : (b : Bool) → (b || true) ≡ true
 or-true true = refl
 or-true false = refl
 
-among-is : (l : Label) (ls : List Label) → IsAmong l ls → has_label ls l ≡ true
+among-is : (l : Label) (ls : List Label) → IsAmongForms l ls → has_label ls l ≡ true
 among-is l _ (i.first_label {ls}) = ap (λ b. b || has_label ls l) (label-self l)
 among-is l _ (i.later_label {m} {ls} h) = ap (λ b. same_label l m || b) (among-is l ls h) ∙ or-true (same_label l m)
 
@@ -119,15 +119,15 @@ seen-by s level v own same in_it top a b c d =
     ∙ ap (λ x. if own then (if same then in_it else false) else x) d
 
 -- a fault that tells as asked
-tells-of : (k : kind.the_data) (form : Tree) (place : Span) (words : List (List ℕ)) (f : Fault) → fault_at k form place words ≡ f → Tells k form place words f
-tells-of k form place words f e = subst (λ g. Tells k form place words g) e (tells k form place words)
+tells-of : (k : kind.the_data) (form : Tree) (place : Span) (words : List (List ℕ)) (f : Fault) → fault_at k form place words ≡ f → TellsFault k form place words f
+tells-of k form place words f e = subst (λ g. TellsFault k form place words g) e (tells k form place words)
 
 -- References.
 
 abbrev by_tests : {A : Type 0} → (own same in_it top assigned : Bool) → (fine elsewhere out : A) → A
 by_tests own same in_it top assigned fine elsewhere out = if own then (if same then (if in_it then fine else out) else out) else (if top then (if assigned then elsewhere else fine) else out)
 
-module _ (rs : List LibRecord) (place : Span) (level : ℕ) (id : Tree) (s : State) where
+module _ (rs : List CompiledLibrary) (place : Span) (level : ℕ) (id : Tree) (s : State) where
   abbrev Fault-of : kind.the_data → Fault
   Fault-of k = fault_at k id place (symbol_of id ∷ [])
 
@@ -195,7 +195,7 @@ module _ (rs : List LibRecord) (place : Span) (level : ℕ) (id : Tree) (s : Sta
       ∙ ap (λ r. after r (step_of rs place id)) (tested-as v false (nat_eq v.level level) (is_in_scope s v) true true own refl refl top assigned)
       ∙ ap Err (sym (told kind.AssignedElsewhere id place (symbol_of id ∷ []) f t))
 
-leaf-step : (rs : List LibRecord) (place : Span) (level : ℕ) (span : Option Span) (x : List ℕ) (c : LeafContext) (s : State)
+leaf-step : (rs : List CompiledLibrary) (place : Span) (level : ℕ) (span : Option Span) (x : List ℕ) (c : LeafContext) (s : State)
     → step rs place level (leaf span x c) s ≡ after (refer place level (leaf span x c) (standing_of s (leaf span x c)) s) (step_of rs place (leaf span x c))
 unfolding step reference
 leaf-step rs place level span x c s = refl
@@ -206,7 +206,7 @@ abbrev by_target : {A : Type 0} → (own same in_it top exported : Bool) → (fi
 by_target own same in_it top exported fine told_export told_import out =
     if own then (if same then (if in_it then (if exported then told_export else fine) else out) else out) else (if top then (if exported then told_export else told_import) else out)
 
-module _ (rs : List LibRecord) (place : Span) (level : ℕ) (form id value : Tree) (s : State) where
+module _ (rs : List CompiledLibrary) (place : Span) (level : ℕ) (form id value : Tree) (s : State) where
   abbrev At-form : kind.the_data → Fault
   At-form k = fault_at k form place (symbol_of id ∷ [])
 
@@ -232,7 +232,7 @@ module _ (rs : List LibRecord) (place : Span) (level : ℕ) (form id value : Tre
       ∙ ap (λ x. Aimed v own same in_it top x) e
 
   -- what comes of the form after its target was looked at
-  abbrev Then : Result (Label × State) Fault → Result (Step × State) Fault
+  abbrev Then : Result (Label × State) Fault → Result (PlanOrUse × State) Fault
   Then r = after (after r (assign_to value)) (step_of rs place form)
 
   the-fault : (g f : Fault) → Then (Err g) ≡ Err f → g ≡ f
@@ -241,7 +241,7 @@ module _ (rs : List LibRecord) (place : Span) (level : ℕ) (form id value : Tre
   target-out : (v : Variable) (f : Fault) → standing_of s id ≡ standing.Variable v → seen s level v ≡ false → At-target kind.OutOfContext ≡ f → IsBadTarget s place level form id f
   target-out v f stand h e = i.target_out_of_context stand (unseen s level v h) (tells-of kind.OutOfContext id place (symbol_of id ∷ []) f e)
 
-  not-among : (l : Label) → has_label s.exports l ≡ false → IsAmong l s.exports → ⊥
+  not-among : (l : Label) → has_label s.exports l ≡ false → IsAmongForms l s.exports → ⊥
   not-among l h k = not-both (has_label s.exports l) (among-is l s.exports k) h
 
   target-exported : (v : Variable) (f : Fault) → standing_of s id ≡ standing.Variable v → seen s level v ≡ true → has_label s.exports v.label ≡ true → At-form kind.AssignedExport ≡ f → IsBadTarget s place level form id f
@@ -273,7 +273,7 @@ module _ (rs : List LibRecord) (place : Span) (level : ℕ) (form id value : Tre
   export-aimed v false same in_it false h = absurd (cc)
 
   -- an assignment, whatever its target stands for
-  abbrev Assigned : Standing → Result (Step × State) Fault
+  abbrev Assigned : Standing → Result (PlanOrUse × State) Fault
   Assigned st = after (assign_by place level form id value st s) (step_of rs place form)
 
   asked : (l : Label) → standing_of s id ≡ standing.Keyword l → (r : Result (Bool × State) Fault) → asks_variable rs (place_of form place) l s ≡ r → (f : Fault) → after r (set_step place form l id) ≡ Err f → IsBadAssignment rs s place level form id f
@@ -309,7 +309,7 @@ module _ (rs : List LibRecord) (place : Span) (level : ℕ) (form id value : Tre
       ap Assigned e ∙ ap (λ r. Then r) (aimed-as v false (nat_eq v.level level) (is_in_scope s v) true false own refl refl top (none-among v.label among))
       ∙ ap Err (sym (told kind.AssignedImport form place (symbol_of id ∷ []) f t))
     where
-      none-among : (l : Label) → (IsAmong l s.exports → ⊥) → has_label s.exports l ≡ false
+      none-among : (l : Label) → (IsAmongForms l s.exports → ⊥) → has_label s.exports l ≡ false
       none-among l h = by (has_label s.exports l) refl
         where
           by : (b : Bool) → has_label s.exports l ≡ b → has_label s.exports l ≡ false
@@ -333,11 +333,11 @@ set-plan : (place : Span) (level : ℕ) (form head id value : Tree) (s : State) 
 unfolding keyword_plan role_of shape_plan assign
 set-plan place level form head id value s e = ap (λ r. with_shape place level form core_forms.Set r s) e
 
-stepped : (rs : List LibRecord) (place : Span) (level : ℕ) (form : Tree) (s : State) → step rs place level form s ≡ after (plan_of place level form s) (step_of rs place form)
+stepped : (rs : List CompiledLibrary) (place : Span) (level : ℕ) (form : Tree) (s : State) → step rs place level form s ≡ after (plan_of place level form s) (step_of rs place form)
 unfolding step
 stepped rs place level form s = refl
 
-assignment-step : (rs : List LibRecord) (place : Span) (level : ℕ) (form id value : Tree) (s : State) → IsAssignment s place id value form → step rs place level form s ≡ Assigned rs place level form id value s (standing_of s id)
+assignment-step : (rs : List CompiledLibrary) (place : Span) (level : ℕ) (form id value : Tree) (s : State) → IsAssignment s place id value form → step rs place level form s ≡ Assigned rs place level form id value s (standing_of s id)
 assignment-step rs place level _ id value s (i.a_set {span} {head} {rest} leaf-is stand e) =
     stepped rs place level (pair span head rest) s
     ∙ ap (λ r. after r (step_of rs place (pair span head rest))) (headed place level span head rest core_forms.Set s leaf-is stand ∙ set-plan place level (pair span head rest) head id value s e)

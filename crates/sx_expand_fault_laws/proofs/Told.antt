@@ -5,7 +5,7 @@ use Rattle.sx_base.specs.declared.fault.FaultKind.TheVariants as kind
 use Rattle.sx_base.specs.declared.span.Span.{Span}
 use Rattle.sx_tree.specs.Tree.{Tree, span_of}
 use Rattle.sx_shapes.specs.At.{span_or, place_of, fault_at}
-use Rattle.sx_expand_fault_laws.specs.Told.{Tells}
+use Rattle.sx_expand_fault_laws.specs.Told.{TellsFault}
 
 module _ (given : kind.the_data) (form : Tree) (place : Span) (words : List (List ℕ)) where
   own-span : (o : Option Span) (p : Span) → o ≡ Some p → span_or place o ≡ p
@@ -16,14 +16,14 @@ module _ (given : kind.the_data) (form : Tree) (place : Span) (words : List (Lis
   round-span None h = refl
   round-span (Some s) h = absurd (cc)
 
-  pub tells : Tells given form place words (fault_at given form place words)
+  pub tells : TellsFault given form place words (fault_at given form place words)
   tells = record { kind = refl; at_form = λ p e. own-span (span_of form) p e; round_form = λ e. round-span (span_of form) e; words = refl }
 
   pub told-span : (o : Option Span) (q : Span) → ((p : Span) → o ≡ Some p → q ≡ p) → (o ≡ None → q ≡ place) → q ≡ span_or place o
   told-span None q own round = round refl
   told-span (Some p) q own round = own p refl
 
-  pub told : (f : Fault) → Tells given form place words f → f ≡ fault_at given form place words
+  pub told : (f : Fault) → TellsFault given form place words f → f ≡ fault_at given form place words
   told f t =
       let at : f.span ≡ place_of form place = told-span (span_of form) f.span t.at_form t.round_form in
       let k : f.kind ≡ given = t.kind in

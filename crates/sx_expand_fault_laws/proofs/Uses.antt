@@ -5,26 +5,26 @@ use Rattle.sx_base.specs.declared.fault.Fault.{Fault}
 use Rattle.sx_base.specs.declared.fault.FaultKind.TheVariants as kind
 use Rattle.sx_base.specs.declared.span.Span.{Span}
 use Rattle.sx_tree.specs.Tree.{Tree}
-use Rattle.sx_core.specs.declared.record.LibRecord.{LibRecord}
+use Rattle.sx_core.specs.declared.record.CompiledLibrary.{CompiledLibrary}
 use Rattle.sx_standing.specs.State.{State}
 use Rattle.sx_heads.specs.declared.plan.KeywordUse.{KeywordUse}
 use Rattle.sx_heads.specs.declared.taken.BodyAt.{BodyAt}
 use Rattle.sx_heads.specs.declared.taken.Taken.{Taken}
-use Rattle.sx_expand.specs.Settle.{too_many, step, settled_by, settle_to, item_step, item_by, settle_item_to}
-use Rattle.sx_expand.specs.declared.settle.ItemStep.TheVariants as item_steps
-use Rattle.sx_expand.specs.declared.settle.Step.TheVariants as steps
-use Rattle.sx_expand_fault_laws.specs.Told.{Tells}
+use Rattle.sx_expand.specs.ExpandUses.{too_many, step, planned_by, expand_uses_to, item_step, item_by, expand_item_uses_to}
+use Rattle.sx_expand.specs.declared.expand_uses.ItemOrUse.TheVariants as item_steps
+use Rattle.sx_expand.specs.declared.expand_uses.PlanOrUse.TheVariants as steps
+use Rattle.sx_expand_fault_laws.specs.Told.{TellsFault}
 use Rattle.sx_expand_fault_laws.specs.Uses.{UsesTooManyAreTold}
 use Rattle.sx_expand_fault_laws.proofs.Told.{told}
 
-none-left : (rs : List LibRecord) (place : Span) (level : ℕ) (t : Tree) (s u : State) (k : KeywordUse) (f : Fault) → step rs place level t s ≡ Ok (steps.Use k, u) → Tells kind.TooManyExpansions t place [] f
-    → settle_to rs zero place level t s ≡ Err f
-unfolding settle_to
-none-left rs place level t s u k f e h = ap (λ r. after r (settled_by (λ j. too_many t place) place t)) e ∙ ap Err (sym (told kind.TooManyExpansions t place [] f h))
+none-left : (rs : List CompiledLibrary) (place : Span) (level : ℕ) (t : Tree) (s u : State) (k : KeywordUse) (f : Fault) → step rs place level t s ≡ Ok (steps.Use k, u) → TellsFault kind.TooManyExpansions t place [] f
+    → expand_uses_to rs zero place level t s ≡ Err f
+unfolding expand_uses_to
+none-left rs place level t s u k f e h = ap (λ r. after r (planned_by (λ j. too_many t place) place t)) e ∙ ap Err (sym (told kind.TooManyExpansions t place [] f h))
 
-no-item-left : (rs : List LibRecord) (at : BodyAt) (depth : ℕ) (done taken : Taken) (t : Tree) (s u : State) (k : KeywordUse) (f : Fault) → item_step rs at depth done t s ≡ Ok ((taken, item_steps.Use k), u)
-    → Tells kind.TooManyExpansions t at.place [] f → settle_item_to rs zero at depth done t s ≡ Err f
-unfolding settle_item_to
+no-item-left : (rs : List CompiledLibrary) (at : BodyAt) (depth : ℕ) (done taken : Taken) (t : Tree) (s u : State) (k : KeywordUse) (f : Fault) → item_step rs at depth done t s ≡ Ok ((taken, item_steps.Use k), u)
+    → TellsFault kind.TooManyExpansions t at.place [] f → expand_item_uses_to rs zero at depth done t s ≡ Err f
+unfolding expand_item_uses_to
 no-item-left rs at depth done taken t s u k f e h = ap (λ r. after r (item_by (λ d j. too_many t at.place) at t)) e ∙ ap Err (sym (told kind.TooManyExpansions t at.place [] f h))
 
 pub uses-too-many : UsesTooManyAreTold

@@ -19,21 +19,21 @@ use Rattle.sx_standing.specs.State.{State}
 use Rattle.sx_standing.specs.Uses.{bind_keyword}
 use Rattle.sx_expand.specs.Top.{exports}
 use Rattle.sx_expand.specs.declared.top.TopAt.{TopAt}
-use Rattle.sx_expand_fault_laws.specs.Told.{Tells}
+use Rattle.sx_expand_fault_laws.specs.Told.{TellsFault}
 
 -- some row binds the symbol under the marks
-pub data IsBound (x : List ℕ) (ms : List Mark) : List Row → Type 0 where
-  by_this_row : {r : Row} {rs : List Row} → r.symbol ≡ x → r.marks ≡ ms → IsBound x ms (r ∷ rs)
-  by_another_row : {r : Row} {rs : List Row} → IsBound x ms rs → IsBound x ms (r ∷ rs)
+pub data IsBoundName (x : List ℕ) (ms : List Mark) : List Row → Type 0 where
+  by_this_row : {r : Row} {rs : List Row} → r.symbol ≡ x → r.marks ≡ ms → IsBoundName x ms (r ∷ rs)
+  by_another_row : {r : Row} {rs : List Row} → IsBoundName x ms rs → IsBoundName x ms (r ∷ rs)
 
 -- A frame binds an identifier once. The second binder is the fault, and what is no identifier is no binder.
 pub data IsBadBinder (s : State) (frame : FrameNo) (id : Tree) (place : Span) (f : Fault) : Type 0 where
-  second : is_leaf id ≡ true → IsBound (symbol_of id) (marks_of id) (rows_at frame s.frames) → Tells kind.Duplicate id place (symbol_of id ∷ []) f → IsBadBinder s frame id place f
-  no_identifier : is_leaf id ≡ false → Tells kind.BadForm id place [] f → IsBadBinder s frame id place f
+  second : is_leaf id ≡ true → IsBoundName (symbol_of id) (marks_of id) (rows_at frame s.frames) → TellsFault kind.Duplicate id place (symbol_of id ∷ []) f → IsBadBinder s frame id place f
+  no_identifier : is_leaf id ≡ false → TellsFault kind.BadForm id place [] f → IsBadBinder s frame id place f
 
 -- The first export, in order, whose identifier stands for nothing in the library.
 pub data IsBadExport (s : State) (at : TopAt) (f : Fault) : List (List ℕ × Tree) → Type 0 where
-  this_export : {external : List ℕ} {id : Tree} {es : List (List ℕ × Tree)} → stands s.frames (stamp at.frame id) ≡ None → Tells kind.ExportUnbound id at.place (symbol_of id ∷ []) f → IsBadExport s at f ((external, id) ∷ es)
+  this_export : {external : List ℕ} {id : Tree} {es : List (List ℕ × Tree)} → stands s.frames (stamp at.frame id) ≡ None → TellsFault kind.ExportUnbound id at.place (symbol_of id ∷ []) f → IsBadExport s at f ((external, id) ∷ es)
   another_export : {external : List ℕ} {id : Tree} {l : Label} {es : List (List ℕ × Tree)} → stands s.frames (stamp at.frame id) ≡ Some l → IsBadExport s at f es → IsBadExport s at f ((external, id) ∷ es)
 
 -- Binders and exports are at fault exactly so.

@@ -4,19 +4,19 @@ use Rattle.sx_base.specs.declared.fault.Fault.{Fault}
 use Rattle.sx_base.specs.declared.fault.FaultKind.TheVariants as kind
 use Rattle.sx_base.specs.declared.span.Span.{Span}
 use Rattle.sx_tree.specs.Tree.{Tree}
-use Rattle.sx_core.specs.declared.record.LibRecord.{LibRecord}
+use Rattle.sx_core.specs.declared.record.CompiledLibrary.{CompiledLibrary}
 use Rattle.sx_standing.specs.State.{State}
 use Rattle.sx_heads.specs.declared.plan.KeywordUse.{KeywordUse}
 use Rattle.sx_heads.specs.declared.taken.BodyAt.{BodyAt}
 use Rattle.sx_heads.specs.declared.taken.Taken.{Taken}
-use Rattle.sx_expand.specs.Settle.{step, settle_to, item_step, settle_item_to}
-use Rattle.sx_expand.specs.declared.settle.ItemStep.TheVariants as item_steps
-use Rattle.sx_expand.specs.declared.settle.Step.TheVariants as steps
-use Rattle.sx_expand_fault_laws.specs.Told.{Tells}
+use Rattle.sx_expand.specs.ExpandUses.{step, expand_uses_to, item_step, expand_item_uses_to}
+use Rattle.sx_expand.specs.declared.expand_uses.ItemOrUse.TheVariants as item_steps
+use Rattle.sx_expand.specs.declared.expand_uses.PlanOrUse.TheVariants as steps
+use Rattle.sx_expand_fault_laws.specs.Told.{TellsFault}
 
 -- Where no use is left, a form that is one is TooManyExpansions, which has no words; so is a form of a body.
 pub record UsesTooManyAreTold : Type 0 where
-  pub expressions : (rs : List LibRecord) (place : Span) (level : ℕ) (t : Tree) (s u : State) (k : KeywordUse) (f : Fault) → step rs place level t s ≡ Ok (steps.Use k, u) → Tells kind.TooManyExpansions t place [] f
-      → settle_to rs zero place level t s ≡ Err f
-  pub items : (rs : List LibRecord) (at : BodyAt) (depth : ℕ) (done taken : Taken) (t : Tree) (s u : State) (k : KeywordUse) (f : Fault) → item_step rs at depth done t s ≡ Ok ((taken, item_steps.Use k), u)
-      → Tells kind.TooManyExpansions t at.place [] f → settle_item_to rs zero at depth done t s ≡ Err f
+  pub expressions : (rs : List CompiledLibrary) (place : Span) (level : ℕ) (t : Tree) (s u : State) (k : KeywordUse) (f : Fault) → step rs place level t s ≡ Ok (steps.Use k, u) → TellsFault kind.TooManyExpansions t place [] f
+      → expand_uses_to rs zero place level t s ≡ Err f
+  pub items : (rs : List CompiledLibrary) (at : BodyAt) (depth : ℕ) (done taken : Taken) (t : Tree) (s u : State) (k : KeywordUse) (f : Fault) → item_step rs at depth done t s ≡ Ok ((taken, item_steps.Use k), u)
+      → TellsFault kind.TooManyExpansions t at.place [] f → expand_item_uses_to rs zero at depth done t s ≡ Err f

@@ -2,19 +2,19 @@
 use Rattle.std.proofs.Common.{List, [], ◌∷◌, ◌++◌, sym, subst, inl, inr, append-nil, append_assoc}
 use Rattle.sx_base.specs.declared.library.LibName.{LibName}
 use Rattle.sx_base.specs.declared.name.Label.{Label}
-use Rattle.sx_core.specs.declared.record.LibRecord.{LibRecord}
+use Rattle.sx_core.specs.declared.record.CompiledLibrary.{CompiledLibrary}
 use Rattle.sx_core_laws.specs.Words.{Among}
 use Rattle.sx_core_laws.specs.Follows.{names_of, row_labels, export_labels}
 use Rattle.sx_expand_laws.specs.Serves.{IsLabelThere, Serves, AllServe}
 use Rattle.sx_expand_laws.proofs.Fresh.{each-map}
 
 -- one more at the end
-pub serve-more : (earlier rs : List LibRecord) (r : LibRecord) → AllServe earlier rs → Serves (earlier ++ rs) r → AllServe earlier (rs ++ r ∷ [])
-serve-more earlier [] r h k = (subst (λ (es : List LibRecord). Serves es r) (append-nil earlier) k, tt)
-serve-more earlier (x ∷ rs) r h k = (h.0, serve-more (earlier ++ x ∷ []) rs r h.1 (subst (λ (es : List LibRecord). Serves es r) (sym (append_assoc earlier (x ∷ []) rs)) k))
+pub serve-more : (earlier rs : List CompiledLibrary) (r : CompiledLibrary) → AllServe earlier rs → Serves (earlier ++ rs) r → AllServe earlier (rs ++ r ∷ [])
+serve-more earlier [] r h k = (subst (λ (es : List CompiledLibrary). Serves es r) (append-nil earlier) k, tt)
+serve-more earlier (x ∷ rs) r h k = (h.0, serve-more (earlier ++ x ∷ []) rs r h.1 (subst (λ (es : List CompiledLibrary). Serves es r) (sym (append_assoc earlier (x ∷ []) rs)) k))
 
 -- only the names of the records before it count
-pub serves-names : (a b : List LibRecord) (r : LibRecord) → ((l : LibName) → Among (names_of a) l → Among (names_of b) l) → Serves a r → Serves b r
+pub serves-names : (a b : List CompiledLibrary) (r : CompiledLibrary) → ((l : LibName) → Among (names_of a) l → Among (names_of b) l) → Serves a r → Serves b r
 serves-names a b r more h = record {
   own_bindings = h.own_bindings;
   kinds = h.kinds;

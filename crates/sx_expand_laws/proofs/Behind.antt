@@ -25,7 +25,7 @@ use Rattle.sx_frames.proofs.ScopeLemmas.{same_frame-self}
 use Rattle.sx_builtin.specs.Exports.{derived_place}
 use Rattle.sx_core.specs.Core.{PlainCore}
 use Rattle.sx_core.specs.declared.binding.Binding.{Binding}
-use Rattle.sx_core.specs.declared.record.LibRecord.{LibRecord}
+use Rattle.sx_core.specs.declared.record.CompiledLibrary.{CompiledLibrary}
 use Rattle.sx_core.specs.declared.record.Line.{Line}
 use Rattle.sx_core_laws.specs.Follows.{names_of, export_names, bound_labels, Key, key_of, line_cores, keywords, IsGiven, IsKnown, Suits, Follows}
 use Rattle.sx_core_laws.specs.Following.{AllFollow}
@@ -45,7 +45,7 @@ use Rattle.sx_expand.specs.Body.{finish_all}
 use Rattle.sx_expand.specs.Expanding.{ready, body_of, library_record}
 use Rattle.sx_expand.specs.Expression.{inside, full_room}
 use Rattle.sx_expand.specs.Inside.{Inside}
-use Rattle.sx_expand.specs.Top.{stands_for, export, all_exports, exports, give_record, record_in, finished, first_pass, top}
+use Rattle.sx_expand.specs.Top.{stands_for, export, all_exports, exports, give_record, record_in, second_pass, first_pass, top}
 use Rattle.sx_expand.specs.declared.top.TopAt.{TopAt}
 use Rattle.sx_expand_laws.specs.Behind.{IsKnownBefore, IsFollower, RecordsFollow}
 use Rattle.sx_expand_laws.specs.Ready.{IsReady}
@@ -104,20 +104,20 @@ exports-named at es s =
     (λ xs t k. k)
 
 top-named : (go : Inside) (at : TopAt) (es : List (List ℕ × Tree)) (forms : List Tree) (s : State) → Gave (λ r v. export_names r ≡ map asked es) (top go at es forms s)
-unfolding top finished
+unfolding top second_pass
 top-named go at es forms s =
-    gave-after (λ d t. Unit {0}) (λ r v. export_names r ≡ map asked es) (first_pass go at forms s) (finished go at es) (gave-any (λ d t. Unit {0}) (first_pass go at forms s) (λ d t. tt))
+    gave-after (λ d t. Unit {0}) (λ r v. export_names r ≡ map asked es) (first_pass go at forms s) (second_pass go at es) (gave-any (λ d t. Unit {0}) (first_pass go at forms s) (λ d t. tt))
     (λ d t k. gave-after (λ xs u. map external xs ≡ map asked es) (λ r v. export_names r ≡ map asked es) (exports at es t) (λ ls u. after (finish_all go 0 d.waiting u) (λ lines. give_record at ls lines)) (exports-named at es t)
     (λ xs u j. gave-after (λ ys v. Unit {0}) (λ r v. export_names r ≡ map asked es) (finish_all go 0 d.waiting u) (λ lines. give_record at xs lines) (gave-any (λ ys v. Unit {0}) (finish_all go 0 d.waiting u) (λ ys v. tt)) (λ ys v i. j)))
 
-pub record-named : (own : LibName) (path : List ℕ) (records : List LibRecord) (imports : List (List ℕ × Label)) (version : List ℕ) (place : Span) (es : List (List ℕ × Tree)) (forms : List Tree) (codes : Codes) (r : LibRecord)
+pub record-named : (own : LibName) (path : List ℕ) (records : List CompiledLibrary) (imports : List (List ℕ × Label)) (version : List ℕ) (place : Span) (es : List (List ℕ × Tree)) (forms : List Tree) (codes : Codes) (r : CompiledLibrary)
     → library_record (ready own path records imports codes) records version place es forms ≡ Ok r → export_names r ≡ map asked es
 record-named own path records imports version place es forms codes r e =
     by (top (inside records full_room) (body_of (ready own path records imports codes) version place) es forms (started own records imports codes))
     (top-named (inside records full_room) (body_of (ready own path records imports codes) version place) es forms (started own records imports codes)) e
   where
-    by : (x : Result (LibRecord × State) Fault) → Gave (λ q v. export_names q ≡ map asked es) x → record_in x ≡ Ok r → export_names r ≡ map asked es
-    by (Ok p) h k = let is : p.0 ≡ r = cc in subst (λ (q : LibRecord). export_names q ≡ map asked es) is h
+    by : (x : Result (CompiledLibrary × State) Fault) → Gave (λ q v. export_names q ≡ map asked es) x → record_in x ≡ Ok r → export_names r ≡ map asked es
+    by (Ok p) h k = let is : p.0 ≡ r = cc in subst (λ (q : CompiledLibrary). export_names q ≡ map asked es) is h
     by (Err f) h k = absurd (cc)
 
 -- Rows of one library, each once.
@@ -197,13 +197,13 @@ core-frames own apart [] = tt
 core-frames own apart (n ∷ ns) = ((λ e. apart (sym e)), core-frames own apart ns)
 
 -- frames of records that have other names
-record-frames : (own : LibName) (earlier rs : List LibRecord) → AllServe earlier rs → (Among (names_of rs) own → ⊥) → Each (λ (r : FrameRow). IsOwn own r.frame.0 → ⊥) (rows_of rs)
+record-frames : (own : LibName) (earlier rs : List CompiledLibrary) → AllServe earlier rs → (Among (names_of rs) own → ⊥) → Each (λ (r : FrameRow). IsOwn own r.frame.0 → ⊥) (rows_of rs)
 record-frames own earlier [] h new = tt
 record-frames own earlier (r ∷ rs) h new =
     each-append (λ (x : FrameRow). IsOwn own x.frame.0 → ⊥) r.frames (rows_of rs) (each-map (λ (x : FrameRow). x.frame.0.library ≡ r.name) (λ (x : FrameRow). IsOwn own x.frame.0 → ⊥) r.frames h.0.own_frames (λ x e o. new (inl (sym o ∙ e))))
     (record-frames own (earlier ++ r ∷ []) rs h.1 (λ a. new (inr a)))
 
-module _ (own : LibName) (records : List LibRecord) (imports : List (List ℕ × Label)) (codes : Codes) where
+module _ (own : LibName) (records : List CompiledLibrary) (imports : List (List ℕ × Label)) (codes : Codes) where
   pub started-keyed : AllServe [] records → (Among (names_of records) own → ⊥) → (own ≡ library.Core → ⊥) → Once (map external imports) → AreKeyed own (started own records imports codes).frames
   unfolding started record_frame rows_for
   started-keyed serve new apart once f o =
@@ -214,12 +214,12 @@ module _ (own : LibName) (records : List LibRecord) (imports : List (List ℕ ×
 
 -- Labels that are known.
 
-known-more : (records more : List LibRecord) (l : Label) → ((k : Label) → Among (flat_map bound_labels records) k → Among (flat_map bound_labels more) k) → IsKnownBefore records l → IsKnownBefore more l
+known-more : (records more : List CompiledLibrary) (l : Label) → ((k : Label) → Among (flat_map bound_labels records) k → Among (flat_map bound_labels more) k) → IsKnownBefore records l → IsKnownBefore more l
 known-more records more l w (inl a) = inl (w l a)
 known-more records more l w (inr g) = inr g
 
 -- what records bind that follow one another is named by them
-binder-names : (earlier rs : List LibRecord) → AllFollow earlier rs → (l : Label) → Among (flat_map bound_labels rs) l → Among (names_of rs) l.0.library
+binder-names : (earlier rs : List CompiledLibrary) → AllFollow earlier rs → (l : Label) → Among (flat_map bound_labels rs) l → Among (names_of rs) l.0.library
 binder-names earlier [] h l a = elim a [ ]
 binder-names earlier (r ∷ rs) h l a = by (among-parts (bound_labels r) (flat_map bound_labels rs) l a) (binder-names (earlier ++ r ∷ []) rs h.1 l)
   where
@@ -228,7 +228,7 @@ binder-names earlier (r ∷ rs) h l a = by (among-parts (bound_labels r) (flat_m
     by (inr b) rest = inr (rest b)
 
 -- their rows give what is known
-rows-known : (all earlier rs : List LibRecord) → AllFollow earlier rs → ((l : Label) → Among (flat_map bound_labels earlier) l → Among (flat_map bound_labels all) l)
+rows-known : (all earlier rs : List CompiledLibrary) → AllFollow earlier rs → ((l : Label) → Among (flat_map bound_labels earlier) l → Among (flat_map bound_labels all) l)
     → ((l : Label) → Among (flat_map bound_labels rs) l → Among (flat_map bound_labels all) l) → Each (λ (x : FrameRow). IsKnownBefore all x.label) (rows_of rs)
 rows-known all earlier [] h before these = tt
 rows-known all earlier (r ∷ rs) h before these =
@@ -256,7 +256,7 @@ rows-known all earlier (r ∷ rs) h before these =
     one l (inl a) = bound l (among-parts (bound_labels r) (flat_map bound_labels earlier) l a)
     one l (inr g) = inr g
 
-imports-known : (records : List LibRecord) (f : FrameNo) (es : List (List ℕ × Label)) → Each (λ (e : List ℕ × Label). IsKnownBefore records e.1) es → Each (λ (x : FrameRow). IsKnownBefore records x.label) (map (import_row f) es)
+imports-known : (records : List CompiledLibrary) (f : FrameNo) (es : List (List ℕ × Label)) → Each (λ (e : List ℕ × Label). IsKnownBefore records e.1) es → Each (λ (x : FrameRow). IsKnownBefore records x.label) (map (import_row f) es)
 imports-known records f [] h = tt
 imports-known records f (e ∷ es) h = (h.0, imports-known records f es h.1)
 
@@ -267,11 +267,11 @@ AreGiven ns = Each (λ n. (n < name_count) × (derived_place n ≡ None)) ns
 introduced-given : AreGiven introduced_numbers
 introduced-given = ((omega arith, refl), ((omega arith, refl), ((omega arith, refl), ((omega arith, refl), ((omega arith, refl), ((omega arith, refl), ((omega arith, refl), ((omega arith, refl), ((omega arith, refl), ((omega arith, refl), ((omega arith, refl), ((omega arith, refl), ((omega arith, refl), ((omega arith, refl), ((omega arith, refl), ((omega arith, refl), ((omega arith, refl), ((omega arith, refl), tt))))))))))))))))))
 
-numbers-known : (records : List LibRecord) (ns : List ℕ) → AreGiven ns → Each (λ (x : FrameRow). IsKnownBefore records x.label) (map core_row ns)
+numbers-known : (records : List CompiledLibrary) (ns : List ℕ) → AreGiven ns → Each (λ (x : FrameRow). IsKnownBefore records x.label) (map core_row ns)
 numbers-known records [] h = tt
 numbers-known records (n ∷ ns) h = (inr (refl, h.0), numbers-known records ns h.1)
 
-module _ (own : LibName) (records : List LibRecord) (imports : List (List ℕ × Label)) (codes : Codes) (follow : AllFollow [] records) (known : Each (λ (e : List ℕ × Label). IsKnownBefore records e.1) imports) where
+module _ (own : LibName) (records : List CompiledLibrary) (imports : List (List ℕ × Label)) (codes : Codes) (follow : AllFollow [] records) (known : Each (λ (e : List ℕ × Label). IsKnownBefore records e.1) imports) where
   started-known : (f : FrameNo) → Each (λ (x : Row). IsKnownBefore records x.label) (rows_at f (started own records imports codes).frames)
   unfolding started record_frame rows_for
   started-known f =
@@ -288,7 +288,7 @@ module _ (own : LibName) (records : List LibRecord) (imports : List (List ℕ ×
   started-bound : (Among (names_of records) own → ⊥) → (own ≡ library.Core → ⊥) → RowsAreBound own (started own records imports codes)
   started-bound new apart f x a o = absurd (known-foreign new apart x.label (each-at (λ (y : Row). IsKnownBefore records y.label) (rows_at f (started own records imports codes).frames) x (started-known f) a) o)
 
-known-there : (records : List LibRecord) → AllFollow [] records → (l : Label) → IsKnownBefore records l → IsThere records l.0.library
+known-there : (records : List CompiledLibrary) → AllFollow [] records → (l : Label) → IsKnownBefore records l → IsThere records l.0.library
 known-there records follow l (inl a) = inl (binder-names [] records follow l a)
 known-there records follow l (inr g) = inr (inl g.0)
 
@@ -297,7 +297,7 @@ ellipsis-given = (refl, (omega arith, refl))
 
 -- The record.
 
-module _ (own : LibName) (path : List ℕ) (records : List LibRecord) (imports : List (List ℕ × Label)) (version : List ℕ) (place : Span) (es : List (List ℕ × Tree)) (forms : List Tree) (codes : Codes) (r : LibRecord)
+module _ (own : LibName) (path : List ℕ) (records : List CompiledLibrary) (imports : List (List ℕ × Label)) (version : List ℕ) (place : Span) (es : List (List ℕ × Tree)) (forms : List Tree) (codes : Codes) (r : CompiledLibrary)
     (h : IsFollower own records imports es) (e : library_record (ready own path records imports codes) records version place es forms ≡ Ok r) where
   is-ready : IsReady own records
   is-ready = record { new = h.new; earlier = followers-serve records h.earlier }

@@ -11,7 +11,7 @@ use Rattle.sx_tree.specs.Tree.{Tree}
 use Rattle.sx_core.specs.Core.{PlainCore, two_armed, assignment, letrec, call, matching, cores}
 use Rattle.sx_core.specs.CoreView.{inits, clauses}
 use Rattle.sx_core.specs.References.{formals_labels}
-use Rattle.sx_core.specs.declared.record.LibRecord.{LibRecord}
+use Rattle.sx_core.specs.declared.record.CompiledLibrary.{CompiledLibrary}
 use Rattle.sx_core_laws.specs.Words.{Each}
 use Rattle.sx_pattern.specs.declared.compile.Compiled.{Compiled}
 use Rattle.sx_pattern.specs.declared.compile.PatternVariable.{PatternVariable}
@@ -26,7 +26,7 @@ use Rattle.sx_standing.specs.Binders.{bind_specs, bind_formals}
 use Rattle.sx_standing.specs.InScope.{apart}
 use Rattle.sx_standing.specs.Patterns.{pattern_of, check_literals, bind_pattern}
 use Rattle.sx_standing.specs.State.{State, fresh, fresh_frame}
-use Rattle.sx_standing.specs.Uses.{bind_keywords, finish_keyword}
+use Rattle.sx_standing.specs.Uses.{bind_keywords, evaluate_transformer}
 use Rattle.sx_standing.specs.declared.binders.BoundSpec.{BoundSpec}
 use Rattle.sx_heads.specs.Items.{begun, is_top, define_keyword}
 use Rattle.sx_heads.specs.declared.item.Item.{Item}
@@ -42,9 +42,9 @@ use Rattle.sx_expand.specs.Body.{splice, perform_item, item, value_of, finish_as
 use Rattle.sx_expand.specs.Expression.{in_order, case_in, lambda_case, lambda, one_case, all_cases, case_lambda, one_init, all_inits, letrec_in, letrec_form, application, alternate, conditional, set, in_sequence, fender, clause_in, pattern_clause, all_clauses, syntax_case, keywords_form, perform, perform_settled, form_at, inside}
 use Rattle.sx_heads.specs.Depth.{deeper, most_round}
 use Rattle.sx_expand.specs.Inside.{Inside}
-use Rattle.sx_expand.specs.Keywords.{keyword, seen_in, keyword_in, all_keywords, keywords, with_keywords, define_syntax}
+use Rattle.sx_expand.specs.Keywords.{expand_transformer, seen_in, expand_transformer_in, expand_transformers, keywords, with_keywords, define_syntax}
 use Rattle.sx_expand.specs.Quasi.{part_core, parts_in_order, quasi_made, quasi_form}
-use Rattle.sx_expand.specs.Settle.{settle, settle_item}
+use Rattle.sx_expand.specs.ExpandUses.{expand_uses, expand_item_uses}
 use Rattle.sx_expand_laws.specs.InScope.{ScopeStays}
 use Rattle.sx_expand_laws.specs.States.{IsOwn, IsKept, Keeps, Adds, Later, LaterBut}
 use Rattle.sx_expand_laws.proofs.Acts.{Gave, gave-any, gave-both, gave-after, gave-within, gave-less, gave-if, gave-gather, told}
@@ -57,10 +57,10 @@ use Rattle.sx_expand_laws.proofs.BindingKeywords.{BindsKeywords, BindsPatterns, 
 use Rattle.sx_expand_laws.proofs.Compiled.{variable_label, variable_depth}
 use Rattle.sx_expand_laws.proofs.Moved.{Names, Moved, Leaving, moved-after, moved-each, moved-counted, framed}
 use Rattle.sx_expand_laws.proofs.QuasiLater.{form-same, moved-code}
-use Rattle.sx_expand_laws.proofs.Settled.{settle-later}
+use Rattle.sx_expand_laws.proofs.PlannedForm.{expand_uses-later}
 use Rattle.sx_expand_laws.proofs.Uses.{Patterned, pattern-later, literals-later, finish-later, finish-kept, moved-apart}
 use Rattle.sx_expand_laws.proofs.Binding.{BindsAll, spec_label, binds-formals, binds-specs}
-use Rattle.sx_expand_laws.proofs.Items.{wait_kinds, Took, Takes, took-later, Settles, BindsOne, defines-keyword, settle-takes}
+use Rattle.sx_expand_laws.proofs.Items.{wait_kinds, Took, Takes, took-later, Settles, BindsOne, defines-keyword, expand_uses-takes}
 
 -- nothing was taken yet
 pub took-none : (own : LibName) (top : Bool) (s : State) → Took own top s begun s
@@ -196,12 +196,12 @@ module _ (own : LibName) (go : Inside) (moves : Moves own go) where
   abbrev pub Keeping : State → BoundSpec → State → Type 0
   Keeping s b u = Later own s u × IsKept u b.label
 
-  pub moved-keyword : (place : Span) (level depth : ℕ) (b : BoundSpec) (s : State) → Names own s → Gave (λ x u. Keeping s b u) (keyword go place level depth b s)
-  unfolding keyword
-  moved-keyword place level depth b s n = gave-after (λ c u. Later own s u) (λ x u. Keeping s b u) (apart (go.form place (level + 1) depth b.init) s) (finish_keyword go.earlier (place_of b.init place) b.label)
+  pub moved-keyword : (place : Span) (level depth : ℕ) (b : BoundSpec) (s : State) → Names own s → Gave (λ x u. Keeping s b u) (expand_transformer go place level depth b s)
+  unfolding expand_transformer
+  moved-keyword place level depth b s n = gave-after (λ c u. Later own s u) (λ x u. Keeping s b u) (apart (go.form place (level + 1) depth b.init) s) (evaluate_transformer go.earlier (place_of b.init place) b.label)
       (moved-apart own (go.form place (level + 1) depth b.init) s (moves.form place (level + 1) depth b.init (record s { scope = [] }) n))
-      (λ c u m. gave-less (λ x v. Later own u v × IsKept v b.label) (λ x v. Keeping s b v) (finish_keyword go.earlier (place_of b.init place) b.label c u)
-      (gave-both (λ x v. Later own u v) (λ x v. IsKept v b.label) (finish_keyword go.earlier (place_of b.init place) b.label c u)
+      (λ c u m. gave-less (λ x v. Later own u v × IsKept v b.label) (λ x v. Keeping s b v) (evaluate_transformer go.earlier (place_of b.init place) b.label c u)
+      (gave-both (λ x v. Later own u v) (λ x v. IsKept v b.label) (evaluate_transformer go.earlier (place_of b.init place) b.label c u)
       (finish-later own go.earlier (place_of b.init place) b.label c u m.next) (finish-kept own go.earlier (place_of b.init place) b.label c u))
       (λ x v k. (later-then own s u v m k.0, k.1)))
 
@@ -213,13 +213,13 @@ module _ (own : LibName) (go : Inside) (moves : Moves own go) where
   abbrev pub KeepingAll : State → List BoundSpec → State → Type 0
   KeepingAll s bs u = Later own s u × Each (λ (b : BoundSpec). b.label.0.number < s.names.number → IsKept u b.label) bs
 
-  moved-all : (place : Span) (level depth : ℕ) (recursive : Bool) (f : FrameNo) (bs : List BoundSpec) (s : State) → Names own s → Gave (λ x u. KeepingAll s bs u) (all_keywords go place level depth recursive f bs s)
+  moved-all : (place : Span) (level depth : ℕ) (recursive : Bool) (f : FrameNo) (bs : List BoundSpec) (s : State) → Names own s → Gave (λ x u. KeepingAll s bs u) (expand_transformers go place level depth recursive f bs s)
   unfolding gather
   moved-all place level depth recursive f [] s n = (later-self own s n, tt)
   moved-all place level depth recursive f (b ∷ bs) s n =
-      gave-after (λ x u. Keeping s (seen_in recursive f b) u) (λ x u. KeepingAll s (b ∷ bs) u) (keyword_in go place level depth recursive f tt b s) (λ e. gather (keyword_in go place level depth recursive f) e bs)
+      gave-after (λ x u. Keeping s (seen_in recursive f b) u) (λ x u. KeepingAll s (b ∷ bs) u) (expand_transformer_in go place level depth recursive f tt b s) (λ e. gather (expand_transformer_in go place level depth recursive f) e bs)
       (moved-keyword place level depth (seen_in recursive f b) s n)
-      (λ x u k. gave-less (λ y v. KeepingAll u bs v) (λ y v. KeepingAll s (b ∷ bs) v) (all_keywords go place level depth recursive f bs u) (moved-all place level depth recursive f bs u k.0.next)
+      (λ x u k. gave-less (λ y v. KeepingAll u bs v) (λ y v. KeepingAll s (b ∷ bs) v) (expand_transformers go place level depth recursive f bs u) (moved-all place level depth recursive f bs u k.0.next)
       (λ y v j. (
         later-then own s u v k.0 j.0,
         (
@@ -234,8 +234,8 @@ module _ (own : LibName) (go : Inside) (moves : Moves own go) where
   moved-keywords place level depth recursive bs forms s n =
       let f = as_frame s.names in
       gave-after (λ x u. Later own s u) (Moved own s) (keywords go place level depth recursive bs f (counted s)) (λ _. give (map (stamp f) forms))
-      (gave-after (BindsKeywords own f (counted s)) (Moved own s) (bind_keywords f place level bs (counted s)) (all_keywords go place level depth recursive f) (binds-keywords own f place level bs (counted s) n)
-      (λ xs u b. gave-less (λ y v. KeepingAll u xs v) (Moved own s) (all_keywords go place level depth recursive f xs u) (moved-all place level depth recursive f xs u b.later.next)
+      (gave-after (BindsKeywords own f (counted s)) (Moved own s) (bind_keywords f place level bs (counted s)) (expand_transformers go place level depth recursive f) (binds-keywords own f place level bs (counted s) n)
+      (λ xs u b. gave-less (λ y v. KeepingAll u xs v) (Moved own s) (expand_transformers go place level depth recursive f xs u) (moved-all place level depth recursive f xs u b.later.next)
       (λ y v j. later-framed own f s (counted s) u v (counted-later own s n) b.later (b.adds false) n (omega arith) j.0 (keywords-kept own f (counted s) u v xs b j.0 j.1))))
       (λ x u k. k)
 
@@ -326,7 +326,7 @@ module _ (own : LibName) (go : Inside) (moves : Moves own go) where
   moved-form : (place : Span) (level depth : ℕ) (t : Tree) (s : State) → Names own s → Gave (Moved own s) (form_at go place level depth t s)
   unfolding form_at
   moved-form place level depth t s n = gave-if (Moved own s) (nat_lt most_round depth) _ _ (λ e. tt)
-      (λ e. moved-after own s (settle go.earlier place level t s) (perform_settled go level depth) (settle-later own go.earlier s.uses_left place level t s n) (λ d u m. moved-perform d.place level depth d.form d.plan u m))
+      (λ e. moved-after own s (expand_uses go.earlier place level t s) (perform_settled go level depth) (expand_uses-later own go.earlier s.uses_left place level t s n) (λ d u m. moved-perform d.place level depth d.form d.plan u m))
 
   -- A form of a body.
 
@@ -337,9 +337,9 @@ module _ (own : LibName) (go : Inside) (moves : Moves own go) where
     defined-takes : (depth : ℕ) (d : Taken) (t : Tree) (b : BindingSpec) (s : State) → Names own s → Took own (is_top at.kind) start d s → Gave (T s) (after (define_syntax go at depth d t b s) (λ _. give d))
     unfolding define_syntax
     defined-takes depth d t b s n k =
-        gave-after (λ x u. T s d u) (T s) (after (define_keyword at d t b s) (keyword go at.place at.level depth)) (λ _. give d)
-        (gave-after (BindsOne own start at s n low) (λ x u. T s d u) (define_keyword at d t b s) (keyword go at.place at.level depth) (defines-keyword own start at s n low d t b)
-        (λ x u j. gave-less (λ y v. Keeping u x v) (λ y v. T s d v) (keyword go at.place at.level depth x u) (moved-keyword at.place at.level depth x u j.later.next)
+        gave-after (λ x u. T s d u) (T s) (after (define_keyword at d t b s) (expand_transformer go at.place at.level depth)) (λ _. give d)
+        (gave-after (BindsOne own start at s n low) (λ x u. T s d u) (define_keyword at d t b s) (expand_transformer go at.place at.level depth) (defines-keyword own start at s n low d t b)
+        (λ x u j. gave-less (λ y v. Keeping u x v) (λ y v. T s d v) (expand_transformer go at.place at.level depth x u) (moved-keyword at.place at.level depth x u j.later.next)
         (λ y v l. record {
           later = but-then own at.frame s u v j.later (but-later own at.frame u v l.0);
           took = took-later own (is_top at.kind) start d u v l.0.up (adds-later own (is_top at.kind) u v l.0) (took-later own (is_top at.kind) start d s u j.later.up (j.adds (is_top at.kind)) k);
@@ -367,16 +367,16 @@ module _ (own : LibName) (go : Inside) (moves : Moves own go) where
       → Gave (Takes own at.frame (is_top at.kind) start s) (item go at depth d t s)
   unfolding item
   item-takes at start low depth d t s n k =
-      gave-if (Takes own at.frame (is_top at.kind) start s) (nat_lt most_round depth) _ (after (settle_item go.earlier at depth d t s) (expand_body.perform_settled go depth)) (λ e. tt)
-      (λ e. gave-after (Settles own go.earlier start depth at s) (Takes own at.frame (is_top at.kind) start s) (settle_item go.earlier at depth d t s) (expand_body.perform_settled go depth)
-      (settle-takes own go.earlier start depth s.uses_left at d t s n low k)
+      gave-if (Takes own at.frame (is_top at.kind) start s) (nat_lt most_round depth) _ (after (expand_item_uses go.earlier at depth d t s) (expand_body.perform_settled go depth)) (λ e. tt)
+      (λ e. gave-after (Settles own go.earlier start depth at s) (Takes own at.frame (is_top at.kind) start s) (expand_item_uses go.earlier at depth d t s) (expand_body.perform_settled go depth)
+      (expand_uses-takes own go.earlier start depth s.uses_left at d t s n low k)
       (λ p u j. gave-less (Takes own at.frame (is_top at.kind) start u) (Takes own at.frame (is_top at.kind) start s) (expand_body.perform_settled go depth p u)
       (subst (λ (other : BodyAt). Gave (Takes own at.frame (is_top at.kind) start u) (perform_item go other depth p.0 p.1.form p.1.item u)) (sym j.1.1)
       (performs-item (record at { place = j.1.0 }) start low depth p.0 p.1.form p.1.item u j.0.later.next j.0.took))
       (λ y v l. record { later = but-then own at.frame s u v j.0.later l.later; took = l.took; keeps = keeps-then own s u v j.0.later.up l.later.up j.0.keeps l.keeps })))
 
 -- so it is inside forms, however deep they may nest
-pub inside-moves : (own : LibName) (rs : List LibRecord) (room : ℕ) → Moves own (inside rs room)
+pub inside-moves : (own : LibName) (rs : List CompiledLibrary) (room : ℕ) → Moves own (inside rs room)
 unfolding inside
 inside-moves own rs zero = record { form = λ place level depth t s n. tt; procedure = λ place level depth t ids forms s n. tt; item = λ at depth d t start s n low k. tt }
 inside-moves own rs (suc room) =
@@ -388,7 +388,7 @@ inside-moves own rs (suc room) =
     }
 
 -- from a state to the one behind a form
-pub form-later : (rs : List LibRecord) (room : ℕ) (place : Span) (level depth : ℕ) (t : Tree) (s u : State) (c : PlainCore) → (inside rs room).form place level depth t s ≡ Ok (c, u) → Later s.names.library s u
+pub form-later : (rs : List CompiledLibrary) (room : ℕ) (place : Span) (level depth : ℕ) (t : Tree) (s u : State) (c : PlainCore) → (inside rs room).form place level depth t s ≡ Ok (c, u) → Later s.names.library s u
 form-later rs room place level depth t s u c e = told (λ d v. Later s.names.library s v) ((inside rs room).form place level depth t s) c u ((inside-moves s.names.library rs room).form place level depth t s refl) e
 
 pub scope-stays : ScopeStays

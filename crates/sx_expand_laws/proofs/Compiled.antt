@@ -16,7 +16,7 @@ use Rattle.sx_core_laws.specs.Parts.{literals, all_literals}
 use Rattle.sx_core_laws.specs.Templates.{Depths, depths, all_depths}
 use Rattle.sx_core_laws.specs.WellMade.{IsLeaf}
 use Rattle.sx_core_laws.specs.Words.{Each}
-use Rattle.sx_pattern.specs.Compile.{Context, Taken, Element, Walked, is_known, is_literal, named, new_variable, leaf_pattern, no_parts, with_part, dots_of, parts_of, with_repeated, next_ellipsis, repeated_part, element, step, walked, list_with, vector_with, pattern, element_patterns, tail_pattern, literals_checked, with_variables, compiled}
+use Rattle.sx_pattern.specs.Compile.{PatternScope, Taken, Element, Walked, is_known, is_literal, named, new_variable, leaf_pattern, no_parts, with_part, dots_of, parts_of, with_repeated, next_ellipsis, repeated_part, element, step, walked, list_with, vector_with, pattern, element_patterns, tail_pattern, literals_checked, with_variables, compiled}
 use Rattle.sx_pattern.specs.Keywords.{is_form}
 use Rattle.sx_pattern.specs.declared.compile.Compiled.{Compiled}
 use Rattle.sx_pattern.specs.declared.compile.PatternVariable.{PatternVariable}
@@ -129,7 +129,7 @@ module _ (own : LibName) where
   parts-none : (depth : ℕ) (s : Taken) → s.1.library ≡ own → HasParts depth s no_parts s
   parts-none depth s n = record { takes = takes-none s n; alone = λ e. refl }
 
-  module _ (c : Context) where
+  module _ (c : PatternScope) where
     variable-takes : (t : Tree) (depth : ℕ) (s : Taken) → s.1.library ≡ own → GaveBy (IsOf depth s) (new_variable c.place t depth s)
     variable-takes t depth s n = by-if (IsOf depth s) (is_known s.0 t) _ _ tt (record {
       news = named s.1 t depth ∷ [];
@@ -245,7 +245,7 @@ pub record Compiles (own : LibName) (old : Named) (c : Compiled) (new : Named) :
   pub labels : variables c.pattern ≡ map variable_label c.variables
   pub leaves : Each IsLeaf (literals c.pattern)
 
-pub compiles : (own : LibName) (c : Context) (t : Tree) (names : Named) → names.library ≡ own → GaveBy (Compiles own names) (compiled c t names)
+pub compiles : (own : LibName) (c : PatternScope) (t : Tree) (names : Named) → names.library ≡ own → GaveBy (Compiles own names) (compiled c t names)
 compiles own c t names n = checked (literals_checked c.frames c.place c.literals)
   where
     of : (r : Result (PlainPattern × Taken) Fault) → GaveBy (IsOf own 0 ([], names)) r → GaveBy (Compiles own names) (with_variables r)

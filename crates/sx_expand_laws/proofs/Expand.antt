@@ -15,7 +15,7 @@ use Rattle.sx_standing.specs.State.{State}
 use Rattle.sx_expand.specs.Body.{sequence_of}
 use Rattle.sx_expand.specs.Expression.{in_order, application, alternate, conditional, set, in_sequence}
 use Rattle.sx_expand.specs.Inside.{Inside}
-use Rattle.sx_expand_laws.specs.States.{Sound, Later, Reach}
+use Rattle.sx_expand_laws.specs.States.{Sound, Later, ReachOfCode}
 use Rattle.sx_expand_laws.proofs.Acts.{Gave, gave-after, gave-both, gave-each}
 use Rattle.sx_expand_laws.proofs.Fresh.{Made, Apart, each-at}
 use Rattle.sx_expand_laws.proofs.Later.{later-self, later-then, sound-later}
@@ -35,8 +35,8 @@ GivesCase own vs ls s c t = GoodCase own t.bindings vs ls s.names.number t.names
 pub record Safe (own : LibName) (given : List Label) (go : Inside) : Type 0 where
   pub moves : Moves own go
   pub nests : Nests own go
-  pub form : (place : Span) (level depth : ℕ) (t : Tree) (s : State) (vs : Depths) (ls : List Label) → Sound own given s → Reach own given vs level s ls → Gave (GivesGood own vs ls s) (go.form place level depth t s)
-  pub procedure : (place : Span) (level depth : ℕ) (t : Tree) (ids : FormalIds) (forms : List Tree) (s : State) (vs : Depths) (ls : List Label) → Sound own given s → Reach own given vs level s ls
+  pub form : (place : Span) (level depth : ℕ) (t : Tree) (s : State) (vs : Depths) (ls : List Label) → Sound own given s → ReachOfCode own given vs level s ls → Gave (GivesGood own vs ls s) (go.form place level depth t s)
+  pub procedure : (place : Span) (level depth : ℕ) (t : Tree) (ids : FormalIds) (forms : List Tree) (s : State) (vs : Depths) (ls : List Label) → Sound own given s → ReachOfCode own given vs level s ls
       → Gave (GivesCase own vs ls s) (go.procedure place level depth t ids forms s)
 
 -- what is from earlier than a number isn't made from there
@@ -49,7 +49,7 @@ apart-later own labels m n b xs ys le before h k l x y = by (each-at (IsFrom own
 
 module _ (own : LibName) (given : List Label) (vs : Depths) (level : ℕ) (ls : List Label) where
   abbrev pub Starts : State → Type 0
-  Starts s = Sound own given s × Reach own given vs level s ls
+  Starts s = Sound own given s × ReachOfCode own given vs level s ls
 
   pub starts-later : (s t : State) → Starts s → Later own s t → Starts t
   starts-later s t h k = (sound-later own given s t k h.0, reach-later own given vs level s t ls k h.0 h.1)

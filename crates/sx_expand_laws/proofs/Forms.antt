@@ -16,7 +16,7 @@ use Rattle.sx_core.specs.References.{binders, variables, formals_labels, init_bi
 use Rattle.sx_core.specs.declared.binding.Binding.TheVariants as binding
 use Rattle.sx_core.specs.declared.code.Clause.{Clause}
 use Rattle.sx_core.specs.declared.code.Init.{Init}
-use Rattle.sx_core.specs.declared.record.LibRecord.{LibRecord}
+use Rattle.sx_core.specs.declared.record.CompiledLibrary.{CompiledLibrary}
 use Rattle.sx_core.specs.declared.code.Lambda.{Lambda}
 use Rattle.sx_core.specs.declared.formals.Formals.{Formals}
 use Rattle.sx_core_laws.specs.Templates.{Depths, depths}
@@ -39,7 +39,7 @@ use Rattle.sx_expand.specs.Expression.{case_in, lambda_case, lambda, one_case, a
 use Rattle.sx_heads.specs.Depth.{deeper, most_round}
 use Rattle.sx_expand.specs.Inside.{Inside}
 use Rattle.sx_expand.specs.Keywords.{with_keywords}
-use Rattle.sx_expand.specs.Settle.{settle}
+use Rattle.sx_expand.specs.ExpandUses.{expand_uses}
 use Rattle.sx_expand_laws.specs.States.{IsPattern, Later}
 use Rattle.sx_expand_laws.proofs.Acts.{Gave, gave-after, gave-within, gave-less, gave-both, gave-if, gave-each}
 use Rattle.sx_expand_laws.proofs.Fresh.{Made, FreshLabels, label_name, code_name, each-map, fresh-wider, fresh-append, made-apart}
@@ -48,7 +48,7 @@ use Rattle.sx_expand_laws.proofs.NestingForms.{inside-nests}
 use Rattle.sx_expand_laws.proofs.Naming.{as_frame, counted, counted-later, next-made}
 use Rattle.sx_expand_laws.proofs.Good.{Bindings, IsPatternIn, InTurn, Good, GoodCase, GoodInit, GoodInits, GoodClauses, GoodClause, GoodFender, Before, label_of, good-lambda, good-case_lambda, good-wider, inner-wider, inits-wider, good-inits, good-letrec, good-clause, good-clauses, good-matching, case-grown, clauses-grown, clauses-sooner}
 use Rattle.sx_expand_laws.proofs.Meanings.{Planned}
-use Rattle.sx_expand_laws.proofs.SettledPlans.{SettlesTo, settle-planned}
+use Rattle.sx_expand_laws.proofs.SettledPlans.{SettlesTo, expand_uses-planned}
 use Rattle.sx_expand_laws.proofs.Uses.{Patterned, pattern-later, literals-later}
 use Rattle.sx_expand_laws.proofs.BindingKeywords.{pattern-are}
 use Rattle.sx_expand_laws.proofs.Compiled.{variable_label, variable_depth}
@@ -313,14 +313,14 @@ module _ (own : LibName) (given : List Label) (go : Inside) (safe : Safe own giv
     pub gives-form : (place : Span) (depth : ℕ) (t : Tree) (s : State) → Starts own given vs level ls s → Gave (GivesGood own vs ls s) (form_at go place level depth t s)
     unfolding form_at
     gives-form place depth t s h =
-        gave-if (GivesGood own vs ls s) (nat_lt most_round depth) _ (after (settle go.earlier place level t s) (perform_settled go level depth)) (λ e. tt)
-        (λ e. gave-after (SettlesTo own given go.earlier vs level ls s) (GivesGood own vs ls s) (settle go.earlier place level t s) (perform_settled go level depth)
-        (settle-planned own given go.earlier vs level ls s.uses_left place t s h)
+        gave-if (GivesGood own vs ls s) (nat_lt most_round depth) _ (after (expand_uses go.earlier place level t s) (perform_settled go level depth)) (λ e. tt)
+        (λ e. gave-after (SettlesTo own given go.earlier vs level ls s) (GivesGood own vs ls s) (expand_uses go.earlier place level t s) (perform_settled go level depth)
+        (expand_uses-planned own given go.earlier vs level ls s.uses_left place t s h)
         (λ d u k. gave-less (GivesGood own vs ls u) (GivesGood own vs ls s) (perform_settled go level depth d u) (performs d.place depth d.form d.plan u (starts-later own given vs level ls s u h k.0) k.1)
         (λ c v j. good-wider own v.bindings vs ls u.names.number v.names.number s.names.number v.names.number c k.0.up (omega arith) j)))
 
 -- So it is inside forms, however deep they may nest.
-pub inside-safe : (own : LibName) (given : List Label) (rs : List LibRecord) (room : ℕ) → Safe own given (inside rs room)
+pub inside-safe : (own : LibName) (given : List Label) (rs : List CompiledLibrary) (room : ℕ) → Safe own given (inside rs room)
 unfolding inside
 inside-safe own given rs zero = record { moves = inside-moves own rs zero; nests = inside-nests own rs zero; form = λ place level depth t s vs ls h k. tt; procedure = λ place level depth t ids forms s vs ls h k. tt }
 inside-safe own given rs (suc room) =

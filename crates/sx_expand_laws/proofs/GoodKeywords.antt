@@ -18,7 +18,7 @@ use Rattle.sx_core.specs.Core.{PlainCore}
 use Rattle.sx_core.specs.References.{binders}
 use Rattle.sx_core.specs.declared.binding.Binding.{Binding}
 use Rattle.sx_core.specs.declared.binding.Binding.TheVariants as binding
-use Rattle.sx_core.specs.declared.record.LibRecord.{LibRecord}
+use Rattle.sx_core.specs.declared.record.CompiledLibrary.{CompiledLibrary}
 use Rattle.sx_core.specs.declared.record.Line.{Line}
 use Rattle.sx_core.specs.declared.record.Line.TheVariants as line
 use Rattle.sx_core_laws.specs.Follows.{IsRecorded, keyword_of, keywords, line_cores}
@@ -39,7 +39,7 @@ use Rattle.sx_expand.specs.Body.{splice, finish_all}
 use Rattle.sx_expand.specs.Expanding.{ready, body_of, library_record}
 use Rattle.sx_expand.specs.Expression.{inside, full_room}
 use Rattle.sx_expand.specs.Inside.{Inside}
-use Rattle.sx_expand.specs.Top.{exports, give_record, record_in, body_at, finished, first_pass, top}
+use Rattle.sx_expand.specs.Top.{exports, give_record, record_in, body_at, second_pass, first_pass, top}
 use Rattle.sx_expand.specs.declared.top.TopAt.{TopAt}
 use Rattle.sx_expand_laws.specs.Keywords.{KeywordsAreGood}
 use Rattle.sx_expand_laws.specs.Ready.{IsReady}
@@ -60,7 +60,7 @@ use Rattle.sx_expand_laws.proofs.SparesBodies.{T, LinesAway, Lines, spares-splic
 use Rattle.sx_expand_laws.proofs.SparesAll.{inside-spares}
 
 -- the state in which the expansion of a record ended: neither its lines nor its keywords share a name with another keyword
-pub record Ends (own : LibName) (given : List Label) (r : LibRecord) (v : State) : Type 0 where
+pub record Ends (own : LibName) (given : List Label) (r : CompiledLibrary) (v : State) : Type 0 where
   pub kept : KeptAreGood own given v
   pub bindings : r.bindings ≡ own_bindings v
   pub next : v.names.library ≡ own
@@ -80,8 +80,8 @@ module _ (own : LibName) (given : List Label) (go : Inside) (spares : Spares own
       bound : Each (IsBound s) s.scope → Each (IsBound t) t.scope
       bound e = subst (Each (IsBound t)) (sym h.scope) (each-map (IsBound s) (IsBound t) s.scope e (λ l x. (x.0, ap (λ bs. bound_to bs l) h.bindings ∙ x.1)))
 
-  ends-finished : (at : TopAt) (es : List (List ℕ × Tree)) (d : Taken) (s : State) → IsGoodState own given s → AreUnspent own s (taken_labels d) → Gave (Ends own given) (finished go at es d s)
-  unfolding finished
+  ends-finished : (at : TopAt) (es : List (List ℕ × Tree)) (d : Taken) (s : State) → IsGoodState own given s → AreUnspent own s (taken_labels d) → Gave (Ends own given) (second_pass go at es d s)
+  unfolding second_pass
   ends-finished at es d s b k =
       gave-after (λ ls t. SameScope s t × AreShown s.frames ls) (Ends own given) (exports at es s) (λ ls t. after (finish_all go 0 d.waiting t) (λ lines. give_record at ls lines)) (same-exports at es s)
       (λ ls t h. let o = exports-same s t h.0 b in
@@ -97,11 +97,11 @@ module _ (own : LibName) (given : List Label) (go : Inside) (spares : Spares own
   ends-top : (at : TopAt) (es : List (List ℕ × Tree)) (forms : List Tree) (start : State) → IsGoodState own given start → Gave (Ends own given) (top go at es forms start)
   unfolding top first_pass
   ends-top at es forms start b =
-      gave-after (Gives own given (T own given go spares) start) (Ends own given) (splice go (body_at at start.library) 0 begun (map (stamp at.frame) forms) start) (finished go at es)
+      gave-after (Gives own given (T own given go spares) start) (Ends own given) (splice go (body_at at start.library) 0 begun (map (stamp at.frame) forms) start) (second_pass go at es)
       (spares-splice own given go spares (body_at at start.library) 0 begun (map (stamp at.frame) forms) start (λ e. refl) b tt)
       (λ d t g. ends-finished at es d t g.0.0 g.1)
 
-pub started-begins : (own : LibName) (records : List LibRecord) (imports : List (List ℕ × Label)) (codes : Codes) → IsReady own records → IsGoodState own (flat_map defined records) (started own records imports codes)
+pub started-begins : (own : LibName) (records : List CompiledLibrary) (imports : List (List ℕ × Label)) (codes : Codes) → IsReady own records → IsGoodState own (flat_map defined records) (started own records imports codes)
 unfolding started
 started-begins own records imports codes h = record {
   sound = started-sound own records imports codes h;
@@ -113,11 +113,11 @@ started-begins own records imports codes h = record {
   };
 }
 
-pub record Ended (own : LibName) (given : List Label) (r : LibRecord) : Type 0 where
+pub record Ended (own : LibName) (given : List Label) (r : CompiledLibrary) : Type 0 where
   pub state : State
   pub ends : Ends own given r state
 
-pub record-ends : (own : LibName) (path : List ℕ) (records : List LibRecord) (imports : List (List ℕ × Label)) (version : List ℕ) (place : Span) (exports : List (List ℕ × Tree)) (forms : List Tree) (codes : Codes) (r : LibRecord)
+pub record-ends : (own : LibName) (path : List ℕ) (records : List CompiledLibrary) (imports : List (List ℕ × Label)) (version : List ℕ) (place : Span) (exports : List (List ℕ × Tree)) (forms : List Tree) (codes : Codes) (r : CompiledLibrary)
     → IsReady own records → library_record (ready own path records imports codes) records version place exports forms ≡ Ok r → Ended own (flat_map defined records) r
 record-ends own path records imports version place exports forms codes r h e =
     let given = flat_map defined records in
@@ -125,8 +125,8 @@ record-ends own path records imports version place exports forms codes r h e =
     let at = body_of (ready own path records imports codes) version place in
     by (top (inside records full_room) at exports forms start) (ends-top own given (inside records full_room) (inside-spares own given records full_room) at exports forms start (started-begins own records imports codes h)) e
   where
-    by : (x : Result (LibRecord × State) Fault) → Gave (Ends own (flat_map defined records)) x → record_in x ≡ Ok r → Ended own (flat_map defined records) r
-    by (Ok p) g is = let same : p.0 ≡ r = cc in record { state = p.1; ends = subst (λ (q : LibRecord). Ends own (flat_map defined records) q p.1) same g }
+    by : (x : Result (CompiledLibrary × State) Fault) → Gave (Ends own (flat_map defined records)) x → record_in x ≡ Ok r → Ended own (flat_map defined records) r
+    by (Ok p) g is = let same : p.0 ≡ r = cc in record { state = p.1; ends = subst (λ (q : CompiledLibrary). Ends own (flat_map defined records) q p.1) same g }
     by (Err f) g is = absurd (cc)
 
 -- Of the state in which it ended: the expressions of its keywords.
@@ -240,7 +240,7 @@ numbers-unspent own given v [] h = tt
 numbers-unspent own given v (x ∷ xs) h = each-append (λ (n : CodeNo). Unspent own v n.0) (code_numbers (line_core x)) (flat_map code_numbers (map line_core xs)) (each-flat (λ (n : CodeNo). Unspent own v n.0) own_number (parts (line_core x)) h.0.codes) (numbers-unspent own given v xs h.1)
 
 -- each keyword has its expression
-module _ (own : LibName) (records : List LibRecord) (imports : List (List ℕ × Label)) (codes : Codes) (r : LibRecord) (ready : IsReady own records) (runs : Runs own (flat_map defined records) (started own records imports codes) r) where
+module _ (own : LibName) (records : List CompiledLibrary) (imports : List (List ℕ × Label)) (codes : Codes) (r : CompiledLibrary) (ready : IsReady own records) (runs : Runs own (flat_map defined records) (started own records imports codes) r) where
   abbrev l : ℕ → Label
   l n = own_label runs.ended n
 

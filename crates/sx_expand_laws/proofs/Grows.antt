@@ -22,11 +22,11 @@ use Rattle.sx_core_laws.specs.Words.{Among, Once}
 use Rattle.sx_quasi_code.specs.Inserted.{dots, ellipsis}
 use Rattle.sx_scope.specs.Stands.{row_for}
 use Rattle.sx_standing.specs.State.{State}
-use Rattle.sx_expand_laws.specs.States.{IsOwn, IsOwnOrEllipsis, IsBound, Shows, IsAdded, IndicesApart, row_key, AreKeyed, RowsAreBound, Grows}
+use Rattle.sx_expand_laws.specs.States.{IsOwn, IsOwnOrEllipsis, IsBound, RowsShow, IsAdded, IndicesApart, row_key, AreKeyed, RowsAreBound, Grows}
 use Rattle.sx_expand_laws.proofs.Fresh.{among-parts, among-first, once-append}
 
 -- a frame that keeps its rows shows what it showed
-pub shows-more : (rs more : List Row) (l : Label) → ((r : Row) → Among rs r → Among more r) → Shows rs l → Shows more l
+pub shows-more : (rs more : List Row) (l : Label) → ((r : Row) → Among rs r → Among more r) → RowsShow rs l → RowsShow more l
 shows-more rs more l w h = record { row = h.row; there = w h.row h.there; label = h.label }
 
 module _ (own : LibName) where

@@ -10,7 +10,7 @@ use Rattle.sx_base.specs.declared.name.Label.{Label}
 use Rattle.sx_base.specs.declared.span.Span.{Span}
 use Rattle.sx_tree.specs.Tree.{Tree, atom, leaf, pair, vector}
 use Rattle.sx_core.specs.declared.core_form.CoreForm.{CoreForm}
-use Rattle.sx_core.specs.declared.record.LibRecord.{LibRecord}
+use Rattle.sx_core.specs.declared.record.CompiledLibrary.{CompiledLibrary}
 use Rattle.sx_shapes.specs.At.{place_of}
 use Rattle.sx_shapes.specs.Forms.{shape}
 use Rattle.sx_shapes.specs.Lists.{is_leaf}
@@ -37,11 +37,11 @@ use Rattle.sx_heads.specs.declared.taken.Taken.{Taken}
 use Rattle.sx_heads.specs.declared.taken.Waiting.{Waiting}
 use Rattle.sx_heads.specs.declared.taken.Waits.{Waits}
 use Rattle.sx_heads.specs.declared.taken.Waits.TheVariants as waits
-use Rattle.sx_expand.specs.Settle as settle
-use Rattle.sx_expand.specs.Settle.{next_form, too_many, at_use, set_item_step, item_step_of, item_step, settle_item_to}
-use Rattle.sx_expand.specs.declared.settle.ItemStep.{ItemStep}
-use Rattle.sx_expand.specs.declared.settle.ItemStep.TheVariants as item_steps
-use Rattle.sx_expand.specs.declared.settle.SettledItem.{SettledItem}
+use Rattle.sx_expand.specs.ExpandUses as expand_uses
+use Rattle.sx_expand.specs.ExpandUses.{next_form, too_many, at_use, set_item_step, item_step_of, item_step, expand_item_uses_to}
+use Rattle.sx_expand.specs.declared.expand_uses.ItemOrUse.{ItemOrUse}
+use Rattle.sx_expand.specs.declared.expand_uses.ItemOrUse.TheVariants as item_steps
+use Rattle.sx_expand.specs.declared.expand_uses.PlannedItem.{PlannedItem}
 use Rattle.sx_expand_laws.specs.States.{Keeps, Adds, Later, LaterBut}
 use Rattle.sx_expand_laws.proofs.Acts.{Gave, gave-after, gave-less, gave-if}
 use Rattle.sx_expand_laws.proofs.BindingKeywords.{BindsKeywords, binds-keyword}
@@ -302,7 +302,7 @@ module _ (own : LibName) (start : State) (at : BodyAt) where
 abbrev pub IsPlaced : BodyAt → BodyAt → Type 0
 IsPlaced at other = (place : Span) × (other ≡ record at { place = place })
 
-module _ (own : LibName) (rs : List LibRecord) (start : State) where
+module _ (own : LibName) (rs : List CompiledLibrary) (start : State) where
   -- from what was taken to more
   abbrev pub Steps : {A : Type 0} → BodyAt → State → Taken × A → State → Type 0
   Steps at s p u = Takes own at.frame (is_top at.kind) start s p.0 u
@@ -311,48 +311,48 @@ module _ (own : LibName) (rs : List LibRecord) (start : State) where
   takes-moved at s t u d h k = record { later = but-then own at.frame s t u h.later (but-later own at.frame t u k); took = took-later own (is_top at.kind) start d t u k.up (adds-later own (is_top at.kind) t u k) h.took; keeps = keeps-then own s t u h.later.up k.up h.keeps k.keeps }
 
   module _ (depth : ℕ) where
-    set-steps : (at : BodyAt) (d : Taken) (t : Tree) (l : Label) (b : Bool) (s u : State) → Takes own at.frame (is_top at.kind) start s d u → Gave (Steps {A = ItemStep} at s) (set_item_step at depth d t l b u)
+    set-steps : (at : BodyAt) (d : Taken) (t : Tree) (l : Label) (b : Bool) (s u : State) → Takes own at.frame (is_top at.kind) start s d u → Gave (Steps {A = ItemOrUse} at s) (set_item_step at depth d t l b u)
     set-steps at d t l true s u h = h
     set-steps at d t l false s u h = record { later = h.later; took = took-wait own start at depth d t u h.took; keeps = h.keeps }
 
-    steps-of : (at : BodyAt) (t : Tree) (d : Taken) (i : Item) (s u : State) → Takes own at.frame (is_top at.kind) start s d u → Gave (Steps {A = ItemStep} at s) (item_step_of rs at depth t d i u)
+    steps-of : (at : BodyAt) (t : Tree) (d : Taken) (i : Item) (s u : State) → Takes own at.frame (is_top at.kind) start s d u → Gave (Steps {A = ItemOrUse} at s) (item_step_of rs at depth t d i u)
     steps-of at t d items.Nothing s u h = h
     steps-of at t d (items.Forms forms) s u h = h
     steps-of at t d (items.Keyword b) s u h = h
     steps-of at t d (items.Keywords recursive bs forms) s u h = h
     steps-of at t d (items.Use l) s u h = h
     steps-of at t d (items.SetUse l) s u h =
-        gave-after (λ b v. Later own u v) (Steps {A = ItemStep} at s) (asks_variable rs (place_of t at.place) l u) (set_item_step at depth d t l) (asks-later own rs (place_of t at.place) l u h.later.next)
+        gave-after (λ b v. Later own u v) (Steps {A = ItemOrUse} at s) (asks_variable rs (place_of t at.place) l u) (set_item_step at depth d t l) (asks-later own rs (place_of t at.place) l u h.later.next)
         (λ b v k. set-steps at d t l b s v (takes-moved at s u v d h k))
 
-    pub step-takes : (at : BodyAt) (d : Taken) (t : Tree) (s : State) → s.names.library ≡ own → (is_top at.kind ≡ true → at.level ≡ 0) → Took own (is_top at.kind) start d s → Gave (Steps {A = ItemStep} at s) (item_step rs at depth d t s)
+    pub step-takes : (at : BodyAt) (d : Taken) (t : Tree) (s : State) → s.names.library ≡ own → (is_top at.kind ≡ true → at.level ≡ 0) → Took own (is_top at.kind) start d s → Gave (Steps {A = ItemOrUse} at s) (item_step rs at depth d t s)
     unfolding item_step
     step-takes at d t s n low k =
-        gave-after (Comes own start at s) (Steps {A = ItemStep} at s) (item_plan at depth d t s) (λ p. item_step_of rs at depth t p.0 p.1) (takes-item own start at s n low depth d t k) (λ p u h. steps-of at t p.0 p.1 s u h)
+        gave-after (Comes own start at s) (Steps {A = ItemOrUse} at s) (item_plan at depth d t s) (λ p. item_step_of rs at depth t p.0 p.1) (takes-item own start at s n low depth d t k) (λ p u h. steps-of at t p.0 p.1 s u h)
 
     -- where the form stands is the same body
-    abbrev pub Settles : BodyAt → State → Taken × SettledItem → State → Type 0
+    abbrev pub Settles : BodyAt → State → Taken × PlannedItem → State → Type 0
     Settles at s p u = Takes own at.frame (is_top at.kind) start s p.0 u × IsPlaced at p.1.at
 
-    pub settle-takes : (left : ℕ) (at : BodyAt) (d : Taken) (t : Tree) (s : State) → s.names.library ≡ own → (is_top at.kind ≡ true → at.level ≡ 0) → Took own (is_top at.kind) start d s
-        → Gave (Settles at s) (settle_item_to rs left at depth d t s)
-    unfolding settle_item_to
-    settle-takes zero at d t s n low k =
-        gave-after (Steps {A = ItemStep} at s) (Settles at s) (item_step rs at depth d t s) (settle.item_by (λ done l. too_many t at.place) at t) (step-takes at d t s n low k) by
+    pub expand_uses-takes : (left : ℕ) (at : BodyAt) (d : Taken) (t : Tree) (s : State) → s.names.library ≡ own → (is_top at.kind ≡ true → at.level ≡ 0) → Took own (is_top at.kind) start d s
+        → Gave (Settles at s) (expand_item_uses_to rs left at depth d t s)
+    unfolding expand_item_uses_to
+    expand_uses-takes zero at d t s n low k =
+        gave-after (Steps {A = ItemOrUse} at s) (Settles at s) (item_step rs at depth d t s) (expand_uses.item_by (λ done l. too_many t at.place) at t) (step-takes at d t s n low k) by
       where
-        by : (p : Taken × ItemStep) (u : State) → Steps {A = ItemStep} at s p u → Gave (Settles at s) (settle.item_by (λ done l. too_many t at.place) at t p u)
+        by : (p : Taken × ItemOrUse) (u : State) → Steps {A = ItemOrUse} at s p u → Gave (Settles at s) (expand_uses.item_by (λ done l. too_many t at.place) at t p u)
         by (e, item_steps.Item i) u h = (h, (at.place, refl))
         by (e, item_steps.Use l) u h = tt
-    settle-takes (suc left) at d t s n low k =
-        gave-after (Steps {A = ItemStep} at s) (Settles at s) (item_step rs at depth d t s) (settle.item_by (λ taken l s'. after (next_form rs left at.place t l (Some at.frame) s') (settle_item_to rs left (at_use at t) depth taken)) at t) (step-takes at d t s n low k)
-        (λ p u h. by p u h (λ e x v m j. settle-takes left (at_use at t) e x v m low j))
+    expand_uses-takes (suc left) at d t s n low k =
+        gave-after (Steps {A = ItemOrUse} at s) (Settles at s) (item_step rs at depth d t s) (expand_uses.item_by (λ taken l s'. after (next_form rs left at.place t l (Some at.frame) s') (expand_item_uses_to rs left (at_use at t) depth taken)) at t) (step-takes at d t s n low k)
+        (λ p u h. by p u h (λ e x v m j. expand_uses-takes left (at_use at t) e x v m low j))
       where
-        by : (p : Taken × ItemStep) (u : State) → Steps {A = ItemStep} at s p u
-            → ((e : Taken) (x : Tree) (v : State) → v.names.library ≡ own → Took own (is_top at.kind) start e v → Gave (Settles (at_use at t) v) (settle_item_to rs left (at_use at t) depth e x v))
-            → Gave (Settles at s) (settle.item_by (λ taken l s'. after (next_form rs left at.place t l (Some at.frame) s') (settle_item_to rs left (at_use at t) depth taken)) at t p u)
+        by : (p : Taken × ItemOrUse) (u : State) → Steps {A = ItemOrUse} at s p u
+            → ((e : Taken) (x : Tree) (v : State) → v.names.library ≡ own → Took own (is_top at.kind) start e v → Gave (Settles (at_use at t) v) (expand_item_uses_to rs left (at_use at t) depth e x v))
+            → Gave (Settles at s) (expand_uses.item_by (λ taken l s'. after (next_form rs left at.place t l (Some at.frame) s') (expand_item_uses_to rs left (at_use at t) depth taken)) at t p u)
         by (e, item_steps.Item i) u h next = (h, (at.place, refl))
         by (e, item_steps.Use l) u h next =
-            gave-after (λ x v. Later own u v) (Settles at s) (next_form rs left at.place t l (Some at.frame) u) (settle_item_to rs left (at_use at t) depth e) (next-later own rs left at.place t l (Some at.frame) u h.later.next)
+            gave-after (λ x v. Later own u v) (Settles at s) (next_form rs left at.place t l (Some at.frame) u) (expand_item_uses_to rs left (at_use at t) depth e) (next-later own rs left at.place t l (Some at.frame) u h.later.next)
             (λ x v j. let g = takes-moved at s u v e h j in
-            gave-less (Settles (at_use at t) v) (Settles at s) (settle_item_to rs left (at_use at t) depth e x v) (next e x v j.next g.took)
+            gave-less (Settles (at_use at t) v) (Settles at s) (expand_item_uses_to rs left (at_use at t) depth e x v) (next e x v j.next g.took)
             (λ y w z. (record { later = but-then own at.frame s v w g.later z.0.later; took = z.0.took; keeps = keeps-then own s v w g.later.up z.0.later.up g.keeps z.0.keeps }, (z.1.0, z.1.1))))

@@ -21,7 +21,7 @@ pub mod Plans
 pub mod InsertPatterns
 pub mod Inserts
 pub mod QuasiLater
-pub mod Settled
+pub mod PlannedForm
 pub mod Items
 pub mod Changes
 pub mod Nesting

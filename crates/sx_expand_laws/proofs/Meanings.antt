@@ -32,7 +32,7 @@ use Rattle.sx_standing.specs.declared.standing.Standing.TheVariants as standing
 use Rattle.sx_heads.specs.Plan.{done, reference, assign, plan_of}
 use Rattle.sx_heads.specs.declared.plan.Plan.{Plan}
 use Rattle.sx_heads.specs.declared.plan.Plan.TheVariants as plans
-use Rattle.sx_expand_laws.specs.States.{Adds, Grows, IsOwn, IsPrimitive, IsTop, IsPattern, Later, Reach, Sound}
+use Rattle.sx_expand_laws.specs.States.{Adds, Grows, IsOwn, IsPrimitive, IsTop, IsPattern, Later, ReachOfCode, Sound}
 use Rattle.sx_expand_laws.proofs.Acts.{Gave, gave-after, gave-less}
 use Rattle.sx_expand_laws.proofs.Fresh.{each-append, each-at, each-map, among-first, among-second}
 use Rattle.sx_expand_laws.proofs.Good.{Bindings, IsVariableIn, Good, good-quoted, good-variable, good-primitive, good-instance}
@@ -88,7 +88,7 @@ forms-planned own bs vs ls n (plans.SetUse l id) h = elim h [ ]
 below : (m k : ℕ) → nat_lt m k ≡ true → m < k
 below m k e = omega (arith, ltb-true)
 
-module _ (own : LibName) (given : List Label) (vs : Depths) (level : ℕ) (ls : List Label) (s : State) (sound : Sound own given s) (reach : Reach own given vs level s ls) where
+module _ (own : LibName) (given : List Label) (vs : Depths) (level : ℕ) (ls : List Label) (s : State) (sound : Sound own given s) (reach : ReachOfCode own given vs level s ls) where
   numbered-fits : (l : Label) → Fits level ls s (numbered_as l)
   numbered-fits l = by (nat_lt l.0.number name_count) refl
     where
@@ -168,7 +168,7 @@ module _ (own : LibName) (given : List Label) (vs : Depths) (level : ℕ) (ls : 
   -- the template of a form suits the pattern variables in scope
   pub template-suits : (place : Span) (t : Tree) (x : PlainTemplate) (u : State) → IsTemplate place level t s x u → Suits vs 0 x × Each (Among ls) (template_labels x)
   template-suits place t x u k =
-      let c : templates.Context = record { frames = s.frames; bindings = s.bindings; level = level; place = place } in
+      let c : templates.TemplateScope = record { frames = s.frames; bindings = s.bindings; level = level; place = place } in
       let fits = subst (IfGood (TemplateFits (λ l d. IsPattern s l level d) 0)) k.compiled (compiled-fits (λ l d. IsPattern s l level d) c (λ l d e. e) t) in
       let both = fits-suit (λ l d. IsPattern s l level d) s.scope vs (λ l d a p. reach.depths l level d a p) 0 x k.in_scope fits in
       (both.0, each-map (Among s.scope) (Among ls) (template_labels x) both.1 (λ l a. each-at (Among ls) s.scope l reach.scope a))
@@ -186,7 +186,7 @@ module _ (own : LibName) (given : List Label) (vs : Depths) (level : ℕ) (ls : 
 -- Later states, and more labels.
 
 module _ (own : LibName) (given : List Label) (vs : Depths) (level : ℕ) where
-  pub reach-later : (s t : State) (ls : List Label) → Later own s t → Sound own given s → Reach own given vs level s ls → Reach own given vs level t ls
+  pub reach-later : (s t : State) (ls : List Label) → Later own s t → Sound own given s → ReachOfCode own given vs level s ls → ReachOfCode own given vs level t ls
   reach-later s t ls h sound k = record {
     scope = subst (Each (Among ls)) (sym h.scope) k.scope;
     top = λ l v o b. k.top l v o (h.tops l v o b);
@@ -199,7 +199,7 @@ module _ (own : LibName) (given : List Label) (vs : Depths) (level : ℕ) where
       by l at depth (inl x) = k.depths l at depth x.0 x.1
       by l at depth (inr x) = elim x [ ]
 
-  pub reach-more : (s : State) (ls ms : List Label) → ((l : Label) → Among ls l → Among ms l) → Reach own given vs level s ls → Reach own given vs level s ms
+  pub reach-more : (s : State) (ls ms : List Label) → ((l : Label) → Among ls l → Among ms l) → ReachOfCode own given vs level s ls → ReachOfCode own given vs level s ms
   reach-more s ls ms w k = record {
     scope = each-map (Among ls) (Among ms) s.scope k.scope w;
     top = λ l v o b. let r = k.top l v o b in (r.0, (λ e. w l (r.1 e)));
@@ -210,7 +210,7 @@ module _ (own : LibName) (given : List Label) (vs : Depths) (level : ℕ) where
 
   -- where labels come, and pattern variables
   pub reach-added : (top : Bool) (ms ls : List Label) (ds : Depths) (s t : State) → Adds own top ms ds s t → Grows own s t → Each (λ (v : Label × ℕ). (at : ℕ) × IsPattern t v.0 at v.1) ds
-      → Sound own given s → Reach own given vs level s ls → Reach own given (ds ++ vs) level t (ms ++ ls)
+      → Sound own given s → ReachOfCode own given vs level s ls → ReachOfCode own given (ds ++ vs) level t (ms ++ ls)
   reach-added top ms ls ds s t h grows are sound k = record {
     scope = subst (Each (Among (ms ++ ls))) (sym h.scope)
         (each-append (Among (ms ++ ls)) s.scope h.more

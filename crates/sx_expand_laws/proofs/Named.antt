@@ -27,7 +27,7 @@ use Rattle.sx_core.specs.CoreForm.{at_number}
 use Rattle.sx_core.specs.declared.binding.Binding.TheVariants as binding
 use Rattle.sx_core.specs.declared.binding.Binding.{Binding}
 use Rattle.sx_core.specs.declared.core_form.CoreForm.{CoreForm}
-use Rattle.sx_core.specs.declared.record.LibRecord.{LibRecord}
+use Rattle.sx_core.specs.declared.record.CompiledLibrary.{CompiledLibrary}
 use Rattle.sx_core.specs.declared.link.LinkKind.TheVariants as kinds
 use Rattle.sx_shapes.specs.At.{place_of}
 use Rattle.sx_shapes.specs.Lists.{is_leaf}
@@ -45,10 +45,10 @@ use Rattle.sx_heads.specs.declared.plan.Plan.TheVariants as plans
 use Rattle.sx_heads.specs.declared.plan.Plan.{Plan}
 use Rattle.sx_expand.specs.Expression.{perform, perform_settled, form_at, inside}
 use Rattle.sx_expand.specs.Inside.{Inside}
-use Rattle.sx_expand.specs.Settle.{next_form, too_many, step_of, step, linked, linked_code, settled_by, settle_to, settle}
-use Rattle.sx_expand.specs.declared.settle.Settled.{Settled}
-use Rattle.sx_expand.specs.declared.settle.Step.{Step}
-use Rattle.sx_expand.specs.declared.settle.Step.TheVariants as steps
+use Rattle.sx_expand.specs.ExpandUses.{next_form, too_many, step_of, step, linked, linked_code, planned_by, expand_uses_to, expand_uses}
+use Rattle.sx_expand.specs.declared.expand_uses.PlannedForm.{PlannedForm}
+use Rattle.sx_expand.specs.declared.expand_uses.PlanOrUse.{PlanOrUse}
+use Rattle.sx_expand.specs.declared.expand_uses.PlanOrUse.TheVariants as steps
 use Rattle.sx_expand_laws.specs.Named.{RefersTo, IsUse, ReferencesNameBinders, AssignmentsNameBinders, BindersAreFound, BindersStay}
 use Rattle.sx_expand_laws.specs.States.{IsOld}
 use Rattle.sx_expand_laws.specs.Trees.{StampsAre, LeavesAre}
@@ -124,14 +124,14 @@ reference-named place level id s = gave-less (Refers place level s (standing_by 
     by (Some l) p u k = finishes level s l (label_standing s l) p u refl (label-kept s l) k.0 k.1
 
 -- what is settled of a leaf that is no use is its own plan
-module _ (rs : List LibRecord) (place : Span) (level : ℕ) (t : Tree) (s : State) where
+module _ (rs : List CompiledLibrary) (place : Span) (level : ℕ) (t : Tree) (s : State) where
   abbrev Answers : PlainCore → State → Type 0
   Answers c u = (RefersTo s (stands s.frames t) c × (u ≡ linked_code t c s)) ⊎ IsUse s t
 
-  abbrev IsSettled : Settled → State → Type 0
+  abbrev IsSettled : PlannedForm → State → Type 0
   IsSettled d u = ((c : PlainCore) × ((d.plan ≡ plans.Done c) × (RefersTo s (stands s.frames t) c × (u ≡ linked_code t c s)))) ⊎ IsUse s t
 
-  abbrev IsStep : Step → State → Type 0
+  abbrev IsStep : PlanOrUse → State → Type 0
   IsStep (steps.Plan p) u = (c : PlainCore) × ((p ≡ plans.Done c) × (RefersTo s (stands s.frames t) c × (u ≡ s)))
   IsStep (steps.Use l) u = IsUse s t
 
@@ -149,7 +149,7 @@ module _ (rs : List LibRecord) (place : Span) (level : ℕ) (t : Tree) (s : Stat
   any P (Ok p) h = h p.0 p.1
   any P (Err e) h = tt
 
-  settled-named : (onward : KeywordUse → Does Settled) (x : Step) (u : State) → IsStep x u → Gave IsSettled (settled_by onward place t x u)
+  settled-named : (onward : KeywordUse → Does PlannedForm) (x : PlanOrUse) (u : State) → IsStep x u → Gave IsSettled (planned_by onward place t x u)
   settled-named onward (steps.Plan p) u h = inl (h.0, (h.1.0, (h.1.1.0, ap (λ (x : Plan). linked t x u) h.1.0 ∙ ap (linked_code t h.0) h.1.1.1)))
   settled-named onward (steps.Use l) u h = any IsSettled (onward l u) (λ a v. inr h)
 
@@ -157,26 +157,26 @@ module _ (rs : List LibRecord) (place : Span) (level : ℕ) (t : Tree) (s : Stat
   unfolding step
   plan-named h = gave-after (Finishes s (stands s.frames t) (standing_of s t)) IsStep (plan_of place level t s) (step_of rs place t) h step-named
 
-  settle-named : (left : ℕ) → Gave (Finishes s (stands s.frames t) (standing_of s t)) (plan_of place level t s) → Gave IsSettled (settle_to rs left place level t s)
-  unfolding settle_to
-  settle-named zero h = gave-after IsStep IsSettled (step rs place level t s) (settled_by (λ l. too_many t place) place t) (plan-named h) (settled-named (λ l. too_many t place))
-  settle-named (suc left) h = gave-after IsStep IsSettled (step rs place level t s) (settled_by (λ l s'. after (next_form rs left place t l None s') (settle_to rs left (place_of t place) level)) place t) (plan-named h)
-      (settled-named (λ l s'. after (next_form rs left place t l None s') (settle_to rs left (place_of t place) level)))
+  expand_uses-named : (left : ℕ) → Gave (Finishes s (stands s.frames t) (standing_of s t)) (plan_of place level t s) → Gave IsSettled (expand_uses_to rs left place level t s)
+  unfolding expand_uses_to
+  expand_uses-named zero h = gave-after IsStep IsSettled (step rs place level t s) (planned_by (λ l. too_many t place) place t) (plan-named h) (settled-named (λ l. too_many t place))
+  expand_uses-named (suc left) h = gave-after IsStep IsSettled (step rs place level t s) (planned_by (λ l s'. after (next_form rs left place t l None s') (expand_uses_to rs left (place_of t place) level)) place t) (plan-named h)
+      (settled-named (λ l s'. after (next_form rs left place t l None s') (expand_uses_to rs left (place_of t place) level)))
 
-  pub performs-named : (go : Inside) (depth : ℕ) (d : Settled) (u : State) → IsSettled d u → Gave Answers (perform_settled go level depth d u)
+  pub performs-named : (go : Inside) (depth : ℕ) (d : PlannedForm) (u : State) → IsSettled d u → Gave Answers (perform_settled go level depth d u)
   unfolding perform
   performs-named go depth d u (inl h) = subst (λ (p : Plan). Gave Answers (perform go d.place level depth d.form p u)) (sym h.1.0) (inl h.1.1)
   performs-named go depth d u (inr h) = any Answers (perform_settled go level depth d u) (λ a v. inr h)
 
-form-named : (rs : List LibRecord) (room : ℕ) (place : Span) (level depth : ℕ) (t : Tree) (s : State) → is_leaf t ≡ true
+form-named : (rs : List CompiledLibrary) (room : ℕ) (place : Span) (level depth : ℕ) (t : Tree) (s : State) → is_leaf t ≡ true
     → Gave (λ c u. (RefersTo s (stands s.frames t) c × (u ≡ linked_code t c s)) ⊎ IsUse s t) ((inside rs room).form place level depth t s)
 unfolding inside form_at
 form-named rs zero place level depth t s h = tt
 form-named rs (suc room) place level depth (leaf r x c) s h =
     let earlier = (inside rs room).earlier in
     gave-if (Answers earlier place level (leaf r x c) s) (nat_lt most_round depth) _ _ (λ e. tt)
-    (λ e. gave-after (IsSettled earlier place level (leaf r x c) s) (Answers earlier place level (leaf r x c) s) (settle earlier place level (leaf r x c) s) (perform_settled (inside rs room) level depth)
-    (settle-named earlier place level (leaf r x c) s s.uses_left (reference-named place level (leaf r x c) s)) (performs-named earlier place level (leaf r x c) s (inside rs room) depth))
+    (λ e. gave-after (IsSettled earlier place level (leaf r x c) s) (Answers earlier place level (leaf r x c) s) (expand_uses earlier place level (leaf r x c) s) (perform_settled (inside rs room) level depth)
+    (expand_uses-named earlier place level (leaf r x c) s s.uses_left (reference-named place level (leaf r x c) s)) (performs-named earlier place level (leaf r x c) s (inside rs room) depth))
 form-named rs (suc room) place level depth (atom r a) s h = absurd (cc)
 form-named rs (suc room) place level depth (pair r a d) s h = absurd (cc)
 form-named rs (suc room) place level depth (vector r d) s h = absurd (cc)

@@ -14,7 +14,7 @@ use Rattle.sx_core.specs.CoreView.{inits, clauses}
 use Rattle.sx_core.specs.References.{formals_labels}
 use Rattle.sx_core.specs.declared.code.Init.{Init}
 use Rattle.sx_core.specs.declared.code.Lambda.{Lambda}
-use Rattle.sx_core.specs.declared.record.LibRecord.{LibRecord}
+use Rattle.sx_core.specs.declared.record.CompiledLibrary.{CompiledLibrary}
 use Rattle.sx_core_laws.specs.Words.{Each}
 use Rattle.sx_shapes.specs.At.{place_of}
 use Rattle.sx_shapes.specs.declared.shape.BindingSpec.{BindingSpec}
@@ -46,10 +46,10 @@ use Rattle.sx_expand.specs.Expression.{in_order, case_in, lambda_case, lambda, o
 use Rattle.sx_expand.specs.Inside.{Inside}
 use Rattle.sx_expand.specs.Keywords.{with_keywords, define_syntax}
 use Rattle.sx_expand.specs.Quasi.{quasi_form}
-use Rattle.sx_expand.specs.Settle.{step, step_of, set_step, settled_by, next_form, too_many, settle, settle_to, settle_item}
-use Rattle.sx_expand.specs.declared.settle.Settled.{Settled}
-use Rattle.sx_expand.specs.declared.settle.Step.{Step}
-use Rattle.sx_expand.specs.declared.settle.Step.TheVariants as steps
+use Rattle.sx_expand.specs.ExpandUses.{step, step_of, set_step, planned_by, next_form, too_many, expand_uses, expand_uses_to, expand_item_uses}
+use Rattle.sx_expand.specs.declared.expand_uses.PlannedForm.{PlannedForm}
+use Rattle.sx_expand.specs.declared.expand_uses.PlanOrUse.{PlanOrUse}
+use Rattle.sx_expand.specs.declared.expand_uses.PlanOrUse.TheVariants as steps
 use Rattle.sx_expand_laws.specs.States.{Later}
 use Rattle.sx_expand_laws.specs.Shallow.{deepest}
 use Rattle.sx_expand_laws.proofs.Acts.{Gave, gave-any, gave-after, gave-both, gave-if, gave-less, gave-within}
@@ -57,17 +57,17 @@ use Rattle.sx_expand_laws.proofs.Binding.{BindsAll, spec_label}
 use Rattle.sx_expand_laws.proofs.Changes.{inside-moves, moved-body, moved-case, moved-clause, moved-keywords, BindsPattern, pattern-bound, pattern-adds, performs-item}
 use Rattle.sx_expand_laws.proofs.Fresh.{each-map}
 use Rattle.sx_expand_laws.proofs.Good.{Bindings}
-use Rattle.sx_expand_laws.proofs.Items.{Took, Takes, took-later, settle-takes, Settles}
+use Rattle.sx_expand_laws.proofs.Items.{Took, Takes, took-later, expand_uses-takes, Settles}
 use Rattle.sx_expand_laws.proofs.Later.{later-self, later-then}
 use Rattle.sx_expand_laws.proofs.Naming.{as_frame, counted}
 use Rattle.sx_expand_laws.proofs.Nesting.{not-deep, deeper-next, deeper-up, IsLeveled, defined-grown, Within, WithinCase, WithinInit, WithinFender, WithinClause, within-at, within-grown, case-grown, fender-grown, clause-grown, labels-grown, one_armed-within, two_armed-within, assignment-within, in-sequence-within, call-within, procedure-within, letrec-within, matching-within, IsAlone, alone-within}
 use Rattle.sx_expand_laws.proofs.NestingBinding.{Here, here-but, here-counted, here-later, Pairs, pairs-each, gave-pairs, nothing-asked, binds-formals-leveled, binds-specs-leveled}
 use Rattle.sx_expand_laws.proofs.NestingBodies.{Nests, Splices, splice-nests, body-nests}
-use Rattle.sx_expand_laws.proofs.NestingItems.{AreWaiting, waiting-grown, settle-waits}
+use Rattle.sx_expand_laws.proofs.NestingItems.{AreWaiting, waiting-grown, expand_uses-waits}
 use Rattle.sx_expand_laws.proofs.NestingQuasi.{quasi-nests}
 use Rattle.sx_expand_laws.proofs.Plans.{IsOfForms, plan-cases}
 use Rattle.sx_expand_laws.proofs.Scope.{adds-later}
-use Rattle.sx_expand_laws.proofs.Settled.{settle-later}
+use Rattle.sx_expand_laws.proofs.PlannedForm.{expand_uses-later}
 use Rattle.sx_expand_laws.proofs.Uses.{Patterned, pattern-later, literals-later}
 
 -- A plan that is done is one of a constant, a reference or a template.
@@ -145,8 +145,8 @@ module _ (place : Span) (level : ℕ) where
       (λ x operand. gave-after (λ y u. Unit {0}) Short (template_of place level operand s) (λ y. done (instance y (place_of x place))) (gave-any (λ y u. Unit {0}) (template_of place level operand s) (λ y u. tt)) (λ y u k. tt))
       (λ p h. forms-short p h) t
 
-module _ (rs : List LibRecord) where
-  abbrev StepShort : Step → State → Type 0
+module _ (rs : List CompiledLibrary) where
+  abbrev StepShort : PlanOrUse → State → Type 0
   StepShort (steps.Plan p) u = IsShort p
   StepShort (steps.Use l) u = Unit {0}
 
@@ -174,25 +174,25 @@ module _ (rs : List LibRecord) where
   unfolding step
   step-short place level t s = gave-after Short StepShort (plan_of place level t s) (step_of rs place t) (plan-short place level t s) (λ p u k. steps-short place t p u k)
 
-  abbrev SettledShort : Settled → State → Type 0
+  abbrev SettledShort : PlannedForm → State → Type 0
   SettledShort d u = IsShort d.plan
 
-  pub settle-short : (left : ℕ) (place : Span) (level : ℕ) (t : Tree) (s : State) → Gave SettledShort (settle_to rs left place level t s)
-  unfolding settle_to
-  settle-short zero place level t s = gave-after StepShort SettledShort (step rs place level t s) (settled_by (λ l. too_many t place) place t) (step-short place level t s) by
+  pub expand_uses-short : (left : ℕ) (place : Span) (level : ℕ) (t : Tree) (s : State) → Gave SettledShort (expand_uses_to rs left place level t s)
+  unfolding expand_uses_to
+  expand_uses-short zero place level t s = gave-after StepShort SettledShort (step rs place level t s) (planned_by (λ l. too_many t place) place t) (step-short place level t s) by
     where
-      by : (x : Step) (u : State) → StepShort x u → Gave SettledShort (settled_by (λ l. too_many t place) place t x u)
+      by : (x : PlanOrUse) (u : State) → StepShort x u → Gave SettledShort (planned_by (λ l. too_many t place) place t x u)
       by (steps.Plan p) u k = k
       by (steps.Use l) u k = tt
-  settle-short (suc left) place level t s =
-      gave-after StepShort SettledShort (step rs place level t s) (settled_by (λ l s'. after (next_form rs left place t l None s') (settle_to rs left (place_of t place) level)) place t) (step-short place level t s)
-      (λ x u k. by x u k (λ y v. settle-short left (place_of t place) level y v))
+  expand_uses-short (suc left) place level t s =
+      gave-after StepShort SettledShort (step rs place level t s) (planned_by (λ l s'. after (next_form rs left place t l None s') (expand_uses_to rs left (place_of t place) level)) place t) (step-short place level t s)
+      (λ x u k. by x u k (λ y v. expand_uses-short left (place_of t place) level y v))
     where
-      by : (x : Step) (u : State) → StepShort x u → ((y : Tree) (v : State) → Gave SettledShort (settle_to rs left (place_of t place) level y v))
-          → Gave SettledShort (settled_by (λ l s'. after (next_form rs left place t l None s') (settle_to rs left (place_of t place) level)) place t x u)
+      by : (x : PlanOrUse) (u : State) → StepShort x u → ((y : Tree) (v : State) → Gave SettledShort (expand_uses_to rs left (place_of t place) level y v))
+          → Gave SettledShort (planned_by (λ l s'. after (next_form rs left place t l None s') (expand_uses_to rs left (place_of t place) level)) place t x u)
       by (steps.Plan p) u k next = k
       by (steps.Use l) u k next =
-          gave-after (λ y v. Unit {0}) SettledShort (next_form rs left place t l None u) (settle_to rs left (place_of t place) level) (gave-any (λ y v. Unit {0}) (next_form rs left place t l None u) (λ y v. tt)) (λ y v j. next y v)
+          gave-after (λ y v. Unit {0}) SettledShort (next_form rs left place t l None u) (expand_uses_to rs left (place_of t place) level) (gave-any (λ y v. Unit {0}) (next_form rs left place t l None u) (λ y v. tt)) (λ y v j. next y v)
 
 module _ (own : LibName) (go : Inside) (nests : Nests own go) where
   module _ (place : Span) (level depth : ℕ) where
@@ -393,9 +393,9 @@ module _ (own : LibName) (go : Inside) (nests : Nests own go) where
   form-nests : (place : Span) (level depth : ℕ) (t : Tree) (s : State) → Here own s → Gave (λ c u. Within u.bindings level depth deepest c) (form_at go place level depth t s)
   unfolding form_at
   form-nests place level depth t s h =
-      gave-if (λ c u. Within u.bindings level depth deepest c) (nat_lt most_round depth) _ (after (settle go.earlier place level t s) (perform_settled go level depth)) (λ e. tt)
-      (λ e. gave-after (λ d u. Later own s u × IsShort d.plan) (λ c u. Within u.bindings level depth deepest c) (settle go.earlier place level t s) (perform_settled go level depth)
-      (gave-both (λ d u. Later own s u) (λ d u. IsShort d.plan) (settle go.earlier place level t s) (settle-later own go.earlier s.uses_left place level t s h.0) (settle-short go.earlier s.uses_left place level t s))
+      gave-if (λ c u. Within u.bindings level depth deepest c) (nat_lt most_round depth) _ (after (expand_uses go.earlier place level t s) (perform_settled go level depth)) (λ e. tt)
+      (λ e. gave-after (λ d u. Later own s u × IsShort d.plan) (λ c u. Within u.bindings level depth deepest c) (expand_uses go.earlier place level t s) (perform_settled go level depth)
+      (gave-both (λ d u. Later own s u) (λ d u. IsShort d.plan) (expand_uses go.earlier place level t s) (expand_uses-later own go.earlier s.uses_left place level t s h.0) (expand_uses-short go.earlier s.uses_left place level t s))
       (λ d u k. performs d.place level depth d.form (not-deep depth e) d.plan u k.1 (here-later own s u h k.0)))
 
   -- A form of a body.
@@ -430,10 +430,10 @@ module _ (own : LibName) (go : Inside) (nests : Nests own go) where
       → Gave (λ e u. AreWaiting at base e u.bindings) (item go at depth d t s)
   unfolding item
   item-nests at base depth d t start s deep h low k w =
-      gave-if (λ e u. AreWaiting at base e u.bindings) (nat_lt most_round depth) _ (after (settle_item go.earlier at depth d t s) (expand_body.perform_settled go depth)) (λ e. tt)
-      (λ e. gave-after (λ p u. Settles own go.earlier start depth at s p u × AreWaiting at base p.0 u.bindings) (λ x u. AreWaiting at base x u.bindings) (settle_item go.earlier at depth d t s) (expand_body.perform_settled go depth)
-      (gave-both (Settles own go.earlier start depth at s) (λ p u. AreWaiting at base p.0 u.bindings) (settle_item go.earlier at depth d t s) (settle-takes own go.earlier start depth s.uses_left at d t s h.0 low k)
-      (settle-waits own go.earlier start base depth deep (not-deep depth e) s.uses_left at d t s h low k w))
+      gave-if (λ e u. AreWaiting at base e u.bindings) (nat_lt most_round depth) _ (after (expand_item_uses go.earlier at depth d t s) (expand_body.perform_settled go depth)) (λ e. tt)
+      (λ e. gave-after (λ p u. Settles own go.earlier start depth at s p u × AreWaiting at base p.0 u.bindings) (λ x u. AreWaiting at base x u.bindings) (expand_item_uses go.earlier at depth d t s) (expand_body.perform_settled go depth)
+      (gave-both (Settles own go.earlier start depth at s) (λ p u. AreWaiting at base p.0 u.bindings) (expand_item_uses go.earlier at depth d t s) (expand_uses-takes own go.earlier start depth s.uses_left at d t s h.0 low k)
+      (expand_uses-waits own go.earlier start base depth deep (not-deep depth e) s.uses_left at d t s h low k w))
       (λ p u j.
       subst (λ (other : BodyAt). Gave (λ x v. AreWaiting at base x v.bindings) (perform_item go other depth p.0 p.1.form p.1.item u)) (sym j.0.1.1)
       (gave-less (λ x v. AreWaiting (record at { place = j.0.1.0 }) base x v.bindings) (λ x v. AreWaiting at base x v.bindings) (perform_item go (record at { place = j.0.1.0 }) depth p.0 p.1.form p.1.item u)
@@ -441,7 +441,7 @@ module _ (own : LibName) (go : Inside) (nests : Nests own go) where
       (λ x v q. record { deep = q.deep; labels = q.labels }))))
 
 -- So it is inside forms, however deep they may nest.
-pub inside-nests : (own : LibName) (rs : List LibRecord) (room : ℕ) → Nests own (inside rs room)
+pub inside-nests : (own : LibName) (rs : List CompiledLibrary) (room : ℕ) → Nests own (inside rs room)
 unfolding inside
 inside-nests own rs zero = record {
   moves = inside-moves own rs zero;

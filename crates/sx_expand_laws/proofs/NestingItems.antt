@@ -6,7 +6,7 @@ use Rattle.sx_base.specs.declared.fault.FaultKind.TheVariants as kind
 use Rattle.sx_base.specs.declared.library.LibName.{LibName}
 use Rattle.sx_base.specs.declared.name.Label.{Label}
 use Rattle.sx_tree.specs.Tree.{Tree}
-use Rattle.sx_core.specs.declared.record.LibRecord.{LibRecord}
+use Rattle.sx_core.specs.declared.record.CompiledLibrary.{CompiledLibrary}
 use Rattle.sx_core_laws.specs.Words.{Each}
 use Rattle.sx_shapes.specs.At.{place_of}
 use Rattle.sx_shapes.specs.declared.shape.Shape.{Shape}
@@ -23,11 +23,11 @@ use Rattle.sx_heads.specs.declared.taken.Taken.{Taken}
 use Rattle.sx_heads.specs.declared.taken.Waiting.{Waiting}
 use Rattle.sx_heads.specs.declared.taken.Waits.{Waits}
 use Rattle.sx_heads.specs.declared.taken.Waits.TheVariants as waits
-use Rattle.sx_expand.specs.Settle as settle
-use Rattle.sx_expand.specs.Settle.{next_form, too_many, at_use, set_item_step, item_step_of, item_step, settle_item_to}
-use Rattle.sx_expand.specs.declared.settle.ItemStep.{ItemStep}
-use Rattle.sx_expand.specs.declared.settle.ItemStep.TheVariants as item_steps
-use Rattle.sx_expand.specs.declared.settle.SettledItem.{SettledItem}
+use Rattle.sx_expand.specs.ExpandUses as expand_uses
+use Rattle.sx_expand.specs.ExpandUses.{next_form, too_many, at_use, set_item_step, item_step_of, item_step, expand_item_uses_to}
+use Rattle.sx_expand.specs.declared.expand_uses.ItemOrUse.{ItemOrUse}
+use Rattle.sx_expand.specs.declared.expand_uses.ItemOrUse.TheVariants as item_steps
+use Rattle.sx_expand.specs.declared.expand_uses.PlannedItem.{PlannedItem}
 use Rattle.sx_expand_laws.specs.States.{Later}
 use Rattle.sx_expand_laws.proofs.Acts.{Gave, gave-after, gave-both, gave-less, gave-if}
 use Rattle.sx_expand_laws.proofs.Fresh.{each-append, each-map}
@@ -121,70 +121,70 @@ module _ (own : LibName) (start : State) (at : BodyAt) (base depth : ℕ) (deep 
         (λ e x y j. gave-after W Item-waits (define_item at depth e x y s) (λ z. give (z, items.Nothing)) (definition-item e x y j) (λ z u k. k))
         (λ e i j. j) d t h
 
-  module _ (rs : List LibRecord) where
+  module _ (rs : List CompiledLibrary) where
     abbrev Step-waits : {A : Type 0} → Taken × A → State → Type 0
     Step-waits p u = W p.0 u
 
-    set-waits : (d : Taken) (t : Tree) (l : Label) (b : Bool) (u : State) → W d u → Gave (Step-waits {A = ItemStep}) (set_item_step at depth d t l b u)
+    set-waits : (d : Taken) (t : Tree) (l : Label) (b : Bool) (u : State) → W d u → Gave (Step-waits {A = ItemOrUse}) (set_item_step at depth d t l b u)
     set-waits d t l true u h = h
     set-waits d t l false u h = expression-waits d t u h
 
-    steps-wait : (t : Tree) (d : Taken) (i : Item) (u : State) → u.names.library ≡ own → W d u → Gave (Step-waits {A = ItemStep}) (item_step_of rs at depth t d i u)
+    steps-wait : (t : Tree) (d : Taken) (i : Item) (u : State) → u.names.library ≡ own → W d u → Gave (Step-waits {A = ItemOrUse}) (item_step_of rs at depth t d i u)
     steps-wait t d items.Nothing u n h = h
     steps-wait t d (items.Forms forms) u n h = h
     steps-wait t d (items.Keyword b) u n h = h
     steps-wait t d (items.Keywords recursive bs forms) u n h = h
     steps-wait t d (items.Use l) u n h = h
     steps-wait t d (items.SetUse l) u n h =
-        gave-after (λ b v. Later own u v) (Step-waits {A = ItemStep}) (asks_variable rs (place_of t at.place) l u) (set_item_step at depth d t l) (asks-later own rs (place_of t at.place) l u n)
+        gave-after (λ b v. Later own u v) (Step-waits {A = ItemOrUse}) (asks_variable rs (place_of t at.place) l u) (set_item_step at depth d t l) (asks-later own rs (place_of t at.place) l u n)
         (λ b v k. set-waits d t l b v (waiting-grown at base d u.bindings v.bindings k.grows.bound h))
 
     -- with what was taken, and a later state
     abbrev pub Step-both : {A : Type 0} → State → Taken × A → State → Type 0
     Step-both s p u = Takes own at.frame (is_top at.kind) start s p.0 u × W p.0 u
 
-    step-waits : (d : Taken) (t : Tree) (s : State) → Here own s → (is_top at.kind ≡ true → at.level ≡ 0) → Took own (is_top at.kind) start d s → W d s → Gave (Step-waits {A = ItemStep}) (item_step rs at depth d t s)
+    step-waits : (d : Taken) (t : Tree) (s : State) → Here own s → (is_top at.kind ≡ true → at.level ≡ 0) → Took own (is_top at.kind) start d s → W d s → Gave (Step-waits {A = ItemOrUse}) (item_step rs at depth d t s)
     unfolding item_step
     step-waits d t s here low k h =
-        gave-after (λ p u. Comes own start at s p u × W p.0 u) (Step-waits {A = ItemStep}) (item_plan at depth d t s) (λ p. item_step_of rs at depth t p.0 p.1)
+        gave-after (λ p u. Comes own start at s p u × W p.0 u) (Step-waits {A = ItemOrUse}) (item_plan at depth d t s) (λ p. item_step_of rs at depth t p.0 p.1)
         (gave-both (Comes own start at s) (λ p u. W p.0 u) (item_plan at depth d t s) (takes-item own start at s here.0 low depth d t k) (item-waits s here low d t h))
         (λ p u j. steps-wait t p.0 p.1 u j.0.later.next j.1)
 
-    pub step-both : (d : Taken) (t : Tree) (s : State) → Here own s → (is_top at.kind ≡ true → at.level ≡ 0) → Took own (is_top at.kind) start d s → W d s → Gave (Step-both {A = ItemStep} s) (item_step rs at depth d t s)
+    pub step-both : (d : Taken) (t : Tree) (s : State) → Here own s → (is_top at.kind ≡ true → at.level ≡ 0) → Took own (is_top at.kind) start d s → W d s → Gave (Step-both {A = ItemOrUse} s) (item_step rs at depth d t s)
     step-both d t s here low k h =
-        gave-both (Steps own rs start {A = ItemStep} at s) (Step-waits {A = ItemStep}) (item_step rs at depth d t s) (step-takes own rs start depth at d t s here.0 low k) (step-waits d t s here low k h)
+        gave-both (Steps own rs start {A = ItemOrUse} at s) (Step-waits {A = ItemOrUse}) (item_step rs at depth d t s) (step-takes own rs start depth at d t s here.0 low k) (step-waits d t s here low k h)
 
 -- Forms of a body are settled.
 
-module _ (own : LibName) (rs : List LibRecord) (start : State) (base depth : ℕ) (deep : base ≤ depth) (room : depth ≤ most_round) where
-  abbrev pub SettlesWaiting : BodyAt → State → Taken × SettledItem → State → Type 0
+module _ (own : LibName) (rs : List CompiledLibrary) (start : State) (base depth : ℕ) (deep : base ≤ depth) (room : depth ≤ most_round) where
+  abbrev pub SettlesWaiting : BodyAt → State → Taken × PlannedItem → State → Type 0
   SettlesWaiting at s p u = AreWaiting at base p.0 u.bindings
 
   abbrev Both : {A : Type 0} → BodyAt → State → Taken × A → State → Type 0
   Both {A} at s p u = Step-both own start at base depth deep room rs {A = A} s p u
 
-  pub settle-waits : (left : ℕ) (at : BodyAt) (d : Taken) (t : Tree) (s : State) → Here own s → (is_top at.kind ≡ true → at.level ≡ 0) → Took own (is_top at.kind) start d s → AreWaiting at base d s.bindings
-      → Gave (SettlesWaiting at s) (settle_item_to rs left at depth d t s)
-  unfolding settle_item_to
-  settle-waits zero at d t s here low k h =
-      gave-after (Both {A = ItemStep} at s) (SettlesWaiting at s) (item_step rs at depth d t s) (settle.item_by (λ done l. too_many t at.place) at t) (step-both own start at base depth deep room rs d t s here low k h) by
+  pub expand_uses-waits : (left : ℕ) (at : BodyAt) (d : Taken) (t : Tree) (s : State) → Here own s → (is_top at.kind ≡ true → at.level ≡ 0) → Took own (is_top at.kind) start d s → AreWaiting at base d s.bindings
+      → Gave (SettlesWaiting at s) (expand_item_uses_to rs left at depth d t s)
+  unfolding expand_item_uses_to
+  expand_uses-waits zero at d t s here low k h =
+      gave-after (Both {A = ItemOrUse} at s) (SettlesWaiting at s) (item_step rs at depth d t s) (expand_uses.item_by (λ done l. too_many t at.place) at t) (step-both own start at base depth deep room rs d t s here low k h) by
     where
-      by : (p : Taken × ItemStep) (u : State) → Both {A = ItemStep} at s p u → Gave (SettlesWaiting at s) (settle.item_by (λ done l. too_many t at.place) at t p u)
+      by : (p : Taken × ItemOrUse) (u : State) → Both {A = ItemOrUse} at s p u → Gave (SettlesWaiting at s) (expand_uses.item_by (λ done l. too_many t at.place) at t p u)
       by (e, item_steps.Item i) u j = j.1
       by (e, item_steps.Use l) u j = tt
-  settle-waits (suc left) at d t s here low k h =
-      gave-after (Both {A = ItemStep} at s) (SettlesWaiting at s) (item_step rs at depth d t s) (settle.item_by (λ taken l s'. after (next_form rs left at.place t l (Some at.frame) s') (settle_item_to rs left (at_use at t) depth taken)) at t)
+  expand_uses-waits (suc left) at d t s here low k h =
+      gave-after (Both {A = ItemOrUse} at s) (SettlesWaiting at s) (item_step rs at depth d t s) (expand_uses.item_by (λ taken l s'. after (next_form rs left at.place t l (Some at.frame) s') (expand_item_uses_to rs left (at_use at t) depth taken)) at t)
       (step-both own start at base depth deep room rs d t s here low k h)
-      (λ p u j. by p u j (λ e x v m q w. settle-waits left (at_use at t) e x v m low q w))
+      (λ p u j. by p u j (λ e x v m q w. expand_uses-waits left (at_use at t) e x v m low q w))
     where
-      by : (p : Taken × ItemStep) (u : State) → Both {A = ItemStep} at s p u
-          → ((e : Taken) (x : Tree) (v : State) → Here own v → Took own (is_top at.kind) start e v → AreWaiting (at_use at t) base e v.bindings → Gave (SettlesWaiting (at_use at t) v) (settle_item_to rs left (at_use at t) depth e x v))
-          → Gave (SettlesWaiting at s) (settle.item_by (λ taken l s'. after (next_form rs left at.place t l (Some at.frame) s') (settle_item_to rs left (at_use at t) depth taken)) at t p u)
+      by : (p : Taken × ItemOrUse) (u : State) → Both {A = ItemOrUse} at s p u
+          → ((e : Taken) (x : Tree) (v : State) → Here own v → Took own (is_top at.kind) start e v → AreWaiting (at_use at t) base e v.bindings → Gave (SettlesWaiting (at_use at t) v) (expand_item_uses_to rs left (at_use at t) depth e x v))
+          → Gave (SettlesWaiting at s) (expand_uses.item_by (λ taken l s'. after (next_form rs left at.place t l (Some at.frame) s') (expand_item_uses_to rs left (at_use at t) depth taken)) at t p u)
       by (e, item_steps.Item i) u j next = j.1
       by (e, item_steps.Use l) u j next =
-          gave-after (λ x v. Later own u v) (SettlesWaiting at s) (next_form rs left at.place t l (Some at.frame) u) (settle_item_to rs left (at_use at t) depth e) (next-later own rs left at.place t l (Some at.frame) u j.0.later.next)
+          gave-after (λ x v. Later own u v) (SettlesWaiting at s) (next_form rs left at.place t l (Some at.frame) u) (expand_item_uses_to rs left (at_use at t) depth e) (next-later own rs left at.place t l (Some at.frame) u j.0.later.next)
           (λ x v i. let g = takes-moved own rs start at s u v e j.0 i in
           let w = waiting-grown at base e u.bindings v.bindings i.grows.bound j.1 in
-          gave-less (SettlesWaiting (at_use at t) v) (SettlesWaiting at s) (settle_item_to rs left (at_use at t) depth e x v)
+          gave-less (SettlesWaiting (at_use at t) v) (SettlesWaiting at s) (expand_item_uses_to rs left (at_use at t) depth e x v)
           (next e x v (here-but own at.frame s v here g.later) g.took (record { deep = w.deep; labels = w.labels }))
           (λ y z q. record { deep = q.deep; labels = q.labels }))

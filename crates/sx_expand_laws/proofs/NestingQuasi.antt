@@ -23,7 +23,7 @@ use Rattle.sx_quasi_code.specs.Inserted.{insert_variables, inserts_pattern, list
 use Rattle.sx_quasi_code.specs.Parts.{part, with_made, quasi_parts, all_quasi_parts, insert_part, inserts_parts}
 use Rattle.sx_quasi_code.specs.declared.form.QuasiForm.{QuasiForm}
 use Rattle.sx_quasi_code.specs.declared.form.QuasiForm.TheVariants as forms
-use Rattle.sx_quasi_code.specs.declared.parts.Part.{Part}
+use Rattle.sx_quasi_code.specs.declared.parts.PartForm.{PartForm}
 use Rattle.sx_shapes.specs.At.{place_of}
 use Rattle.sx_standing.specs.Patterns.{template_of}
 use Rattle.sx_standing.specs.State.{State, fresh_frame}
@@ -46,11 +46,11 @@ use Rattle.sx_expand_laws.proofs.QuasiLater.{form-same}
 -- Parts and their codes.
 
 -- the code of a part
-abbrev pub PartWithin : Bindings → ℕ → Part → PlainCore → Type 0
+abbrev pub PartWithin : Bindings → ℕ → PartForm → PlainCore → Type 0
 PartWithin bs level p c = Within bs level p.depth deepest c
 
 -- the first codes are those of these parts
-abbrev pub Codes : Bindings → ℕ → List Part → List PlainCore → Type 0
+abbrev pub Codes : Bindings → ℕ → List PartForm → List PlainCore → Type 0
 Codes bs level [] cs = Unit {0}
 Codes bs level (p ∷ ps) [] = ⊥
 Codes bs level (p ∷ ps) (c ∷ cs) = PartWithin bs level p c × Codes bs level ps cs
@@ -60,14 +60,14 @@ part-room : (bs : Bindings) (level depth : ℕ) (c : PlainCore) → Within bs le
 part-room bs level depth c h = let low = h.low in let some = some-height c in omega (arith, low, some)
 
 -- what is made is a part where it is too deep
-made-parts : (t : Tree) (depth : ℕ) (done : List Part) → with_made t depth done ≡ done ++ with_made t depth []
+made-parts : (t : Tree) (depth : ℕ) (done : List PartForm) → with_made t depth done ≡ done ++ with_made t depth []
 made-parts t depth done = by (nat_lt most_round depth)
   where
     by : (b : Bool) → (if b then done ++ part t depth ∷ [] else done) ≡ done ++ (if b then [] ++ part t depth ∷ [] else [])
     by true = refl
     by false = sym (append-nil done)
 
-made-room : (bs : Bindings) (level : ℕ) (t : Tree) (depth : ℕ) (rest : List Part) (cs : List PlainCore) → Codes bs level (with_made t depth [] ++ rest) cs → (depth ≤ most_round) × Codes bs level rest cs
+made-room : (bs : Bindings) (level : ℕ) (t : Tree) (depth : ℕ) (rest : List PartForm) (cs : List PlainCore) → Codes bs level (with_made t depth [] ++ rest) cs → (depth ≤ most_round) × Codes bs level rest cs
 made-room bs level t depth rest cs h = by (nat_lt most_round depth) refl cs h
   where
     by : (b : Bool) → nat_lt most_round depth ≡ b → (ds : List PlainCore) → Codes bs level ((if b then [] ++ part t depth ∷ [] else []) ++ rest) ds → (depth ≤ most_round) × Codes bs level rest ds
@@ -76,7 +76,7 @@ made-room bs level t depth rest cs h = by (nat_lt most_round depth) refl cs h
     by false e ds k = (not-deep depth e, k)
 
 mutual
-  more-parts : (t : Tree) (depth : ℕ) (done : List Part) (q : PlainQuasi) → quasi_parts t depth done q ≡ done ++ quasi_parts t depth [] q
+  more-parts : (t : Tree) (depth : ℕ) (done : List PartForm) (q : PlainQuasi) → quasi_parts t depth done q ≡ done ++ quasi_parts t depth [] q
   more-parts t depth done (constant c) = made-parts t depth done
   more-parts t depth done (expression e) = refl
   more-parts t depth done (quasi.call m qs) =
@@ -85,7 +85,7 @@ mutual
       ∙ append_assoc done (with_made t (deeper depth) []) (all_quasi_parts t (deeper depth) [] qs)
       ∙ ap (λ ps. done ++ ps) (sym (more-all t (deeper depth) (with_made t (deeper depth) []) qs))
 
-  pub more-all : (t : Tree) (depth : ℕ) (done : List Part) (qs : PlainQuasis) → all_quasi_parts t depth done qs ≡ done ++ all_quasi_parts t depth [] qs
+  pub more-all : (t : Tree) (depth : ℕ) (done : List PartForm) (qs : PlainQuasis) → all_quasi_parts t depth done qs ≡ done ++ all_quasi_parts t depth [] qs
   more-all t depth done none = sym (append-nil done)
   more-all t depth done (more q qs) =
       more-all t depth (quasi_parts t depth done q) qs
@@ -97,13 +97,13 @@ mutual
 
 module _ (bs : Bindings) (level : ℕ) (t : Tree) where
   -- the code that comes, and the codes of the parts behind
-  abbrev Comes : ℕ → List Part → PlainCore × List PlainCore → Type 0
+  abbrev Comes : ℕ → List PartForm → PlainCore × List PlainCore → Type 0
   Comes depth rest p = Within bs level depth deepest p.0 × Codes bs level rest p.1
 
-  abbrev AllCome : ℕ → List Part → List PlainCore × List PlainCore → Type 0
+  abbrev AllCome : ℕ → List PartForm → List PlainCore × List PlainCore → Type 0
   AllCome depth rest p = Each (Within bs level depth deepest) p.0 × Codes bs level rest p.1
 
-  next-nests : (x : Tree) (depth : ℕ) (rest : List Part) (cs : List PlainCore) → Codes bs level (part x depth ∷ rest) cs → Comes depth rest (next_code x cs)
+  next-nests : (x : Tree) (depth : ℕ) (rest : List PartForm) (cs : List PlainCore) → Codes bs level (part x depth ∷ rest) cs → Comes depth rest (next_code x cs)
   next-nests x depth rest [] h = elim h [ ]
   next-nests x depth rest (c ∷ cs) h = h
 
@@ -115,7 +115,7 @@ module _ (bs : Bindings) (level : ℕ) (t : Tree) where
       (call-within bs level (deeper depth) deepest (deepest + 1) (omega arith) (omega (arith, room)) (primitive o) cs (alone-within bs level (deeper depth) deepest (primitive o) tt (omega (arith, room))) h)
 
   mutual
-    filled-nests : (q : PlainQuasi) (depth : ℕ) (rest : List Part) (cs : List PlainCore) → Codes bs level (quasi_parts t depth [] q ++ rest) cs → Comes depth rest (filled q cs)
+    filled-nests : (q : PlainQuasi) (depth : ℕ) (rest : List PartForm) (cs : List PlainCore) → Codes bs level (quasi_parts t depth [] q ++ rest) cs → Comes depth rest (filled q cs)
     filled-nests (constant c) depth rest cs h =
         let k = made-room bs level t depth rest cs h in
         (quoted-within bs level depth deepest (strip c) (let room = k.0 in omega (arith, room)), k.1)
@@ -123,20 +123,20 @@ module _ (bs : Bindings) (level : ℕ) (t : Tree) where
     filled-nests (quasi.call m qs) depth rest cs h =
         let inner = all_quasi_parts t (deeper depth) [] qs in
         let k = made-room bs level t (deeper depth) (inner ++ rest) cs
-        (subst (λ (ps : List Part). Codes bs level ps cs) (ap (λ ps. ps ++ rest) (more-all t (deeper depth) (with_made t (deeper depth) []) qs) ∙ append_assoc (with_made t (deeper depth) []) inner rest) h) in
+        (subst (λ (ps : List PartForm). Codes bs level ps cs) (ap (λ ps. ps ++ rest) (more-all t (deeper depth) (with_made t (deeper depth) []) qs) ∙ append_assoc (with_made t (deeper depth) []) inner rest) h) in
         let j = all-nest qs (deeper depth) [] rest cs k.1 tt in
         (calls (op_of m) depth (all_filled [] qs cs).0 k.0 j.0, j.1)
 
-    all-nest : (qs : PlainQuasis) (depth : ℕ) (done : List PlainCore) (rest : List Part) (cs : List PlainCore) → Codes bs level (all_quasi_parts t depth [] qs ++ rest) cs → Each (Within bs level depth deepest) done
+    all-nest : (qs : PlainQuasis) (depth : ℕ) (done : List PlainCore) (rest : List PartForm) (cs : List PlainCore) → Codes bs level (all_quasi_parts t depth [] qs ++ rest) cs → Each (Within bs level depth deepest) done
         → AllCome depth rest (all_filled done qs cs)
     all-nest none depth done rest cs h k = (k, h)
     all-nest (more q qs) depth done rest cs h k =
         let inner = all_quasi_parts t depth [] qs in
         let j = filled-nests q depth (inner ++ rest) cs
-        (subst (λ (ps : List Part). Codes bs level ps cs) (ap (λ ps. ps ++ rest) (more-all t depth (quasi_parts t depth [] q) qs) ∙ append_assoc (quasi_parts t depth [] q) inner rest) h) in
+        (subst (λ (ps : List PartForm). Codes bs level ps cs) (ap (λ ps. ps ++ rest) (more-all t depth (quasi_parts t depth [] q) qs) ∙ append_assoc (quasi_parts t depth [] q) inner rest) h) in
         all-nest qs depth (done ++ (filled q cs).0 ∷ []) rest (filled q cs).1 j.1 (each-append (Within bs level depth deepest) done ((filled q cs).0 ∷ []) k (j.0, tt))
 
-pairs-codes : (bs : Bindings) (level : ℕ) (ps : List Part) (cs : List PlainCore) → Pairs (PartWithin bs level) ps cs → Codes bs level ps cs
+pairs-codes : (bs : Bindings) (level : ℕ) (ps : List PartForm) (cs : List PlainCore) → Pairs (PartWithin bs level) ps cs → Codes bs level ps cs
 pairs-codes bs level [] cs h = tt
 pairs-codes bs level (p ∷ ps) [] h = elim h [ ]
 pairs-codes bs level (p ∷ ps) (c ∷ cs) h = (h.0, pairs-codes bs level ps cs h.1)
@@ -149,10 +149,10 @@ inserts-each bs level depth (i ∷ is) [] h = tt
 inserts-each bs level depth (i ∷ is) (c ∷ cs) h = (h.0, inserts-each bs level depth is cs h.1)
 
 module _ (own : LibName) (go : Inside) (nests : Nests own go) (place : Span) (level : ℕ) (t : Tree) where
-  abbrev Had : List Part → State → List PlainCore → Type 0
+  abbrev Had : List PartForm → State → List PlainCore → Type 0
   Had ps s cs = Pairs (PartWithin s.bindings level) ps cs
 
-  parts-nest : (ps : List Part) (s : State) → Here own s → Gave (λ cs u. Later own s u × Had ps u cs) (parts_in_order go place level ps s)
+  parts-nest : (ps : List PartForm) (s : State) → Here own s → Gave (λ cs u. Later own s u × Had ps u cs) (parts_in_order go place level ps s)
   parts-nest ps s h =
       gave-pairs own (part_core go place level) (λ p. Unit {0}) (λ bs. PartWithin bs level) (λ bs cs ext p c k. within-grown bs cs ext level p.depth deepest c k)
       (λ p u q k. gave-both (λ c v. Later own u v) (λ c v. Within v.bindings level p.depth deepest c) (go.form place level p.depth p.form u) (nests.moves.form place level p.depth p.form u k.0) (nests.form place level p.depth p.form u k))
@@ -184,7 +184,7 @@ module _ (own : LibName) (go : Inside) (nests : Nests own go) (place : Span) (le
       (λ y u k. alone-within u.bindings level depth deepest (instance y (place_of t place)) tt (omega (arith, room)))
 
   syntax-nests : (q : QuasiSyntax) (is : List Insert) (depth : ℕ) (cs : List PlainCore) (s : State) → Here own s → Had (inserts_parts t depth is) s cs → Gave (λ c u. Within u.bindings level depth deepest c) (syntax_code place level t q cs is s)
-  syntax-nests q [] depth cs s h k = plain-nests q depth s (made-room s.bindings level t depth [] cs (subst (λ (ps : List Part). Codes s.bindings level ps cs) (sym (append-nil (with_made t depth []))) (pairs-codes s.bindings level (with_made t depth []) cs k))).0
+  syntax-nests q [] depth cs s h k = plain-nests q depth s (made-room s.bindings level t depth [] cs (subst (λ (ps : List PartForm). Codes s.bindings level ps cs) (sym (append-nil (with_made t depth []))) (pairs-codes s.bindings level (with_made t depth []) cs k))).0
   syntax-nests q (i ∷ is) depth cs s h k =
       let two = deeper (deeper depth) in
       let some = map (insert_part two) (i ∷ is) in
@@ -195,13 +195,13 @@ module _ (own : LibName) (go : Inside) (nests : Nests own go) (place : Span) (le
       let is_two : two ≡ depth + 2 = omega (arith, first, second) in
       inserted-nests q depth cs s h (omega (arith, room, is_two)) (subst (λ d. Each (Within s.bindings level d deepest) cs) is_two (inserts-each s.bindings level two (i ∷ is) cs (unmade two some (nat_lt most_round two) refl room k)))
     where
-      unmade : (two : ℕ) (some : List Part) (b : Bool) → nat_lt most_round two ≡ b → two ≤ most_round → Had ((if b then [] ++ part t two ∷ [] else []) ++ some) s cs → Had some s cs
+      unmade : (two : ℕ) (some : List PartForm) (b : Bool) → nat_lt most_round two ≡ b → two ≤ most_round → Had ((if b then [] ++ part t two ∷ [] else []) ++ some) s cs → Had some s cs
       unmade two some true e room h = absurd (too-deep two e room)
       unmade two some false e room h = h
 
   code-nests : (q : QuasiForm) (depth : ℕ) (cs : List PlainCore) (s : State) → Here own s → Had (parts_of t depth q) s cs → Gave (λ c u. Within u.bindings level depth deepest c) (code_of place level t q cs s)
   code-nests (forms.Quote q) depth cs s h k =
-      (filled-nests s.bindings level t q depth [] cs (subst (λ (ps : List Part). Codes s.bindings level ps cs) (sym (append-nil (quasi_parts t depth [] q))) (pairs-codes s.bindings level (quasi_parts t depth [] q) cs k))).0
+      (filled-nests s.bindings level t q depth [] cs (subst (λ (ps : List PartForm). Codes s.bindings level ps cs) (sym (append-nil (quasi_parts t depth [] q))) (pairs-codes s.bindings level (quasi_parts t depth [] q) cs k))).0
   code-nests (forms.Syntax q) depth cs s h k = syntax-nests q q.inserts depth cs s h k
 
   pub quasi-nests : (depth : ℕ) (which : Family) (template : Tree) (s : State) → Here own s → Gave (λ c u. Within u.bindings level depth deepest c) (quasi_form go place level depth t which template s)

@@ -28,7 +28,7 @@ use Rattle.sx_quasi_code.specs.Form.{form_of, parts_of, code_of}
 use Rattle.sx_quasi_code.specs.Inserted.{insert_variables, inserts_pattern, list_op, match_of, bind_inserts, inserted_in, inserted, plain_instance, syntax_code}
 use Rattle.sx_quasi_code.specs.declared.form.QuasiForm.{QuasiForm}
 use Rattle.sx_quasi_code.specs.declared.form.QuasiForm.TheVariants as forms
-use Rattle.sx_quasi_code.specs.declared.parts.Part.{Part}
+use Rattle.sx_quasi_code.specs.declared.parts.PartForm.{PartForm}
 use Rattle.sx_shapes.specs.At.{place_of}
 use Rattle.sx_standing.specs.Patterns.{template_of}
 use Rattle.sx_standing.specs.State.{State, fresh_frame}
@@ -182,7 +182,7 @@ module _ (own : LibName) (given : List Label) (place : Span) (level : ℕ) (t : 
     abbrev GivesAll : State → List PlainCore → State → Type 0
     GivesAll s cs u = Later own s u × Had s.names.number cs u
 
-    gives-parts : (ps : List Part) (s : State) → S s → Gave (GivesAll s) (parts_in_order go place level ps s)
+    gives-parts : (ps : List PartForm) (s : State) → S s → Gave (GivesAll s) (parts_in_order go place level ps s)
     gives-parts ps s h = gave-each (part_core go place level) (λ p u c v. Gives own given go safe place level p.depth vs ls u c v) (λ qs u cs v. GivesAll u cs v) S (λ u k. (later-self own u k.0.next, omega arith))
         (λ p u k. gives own given go safe place level p.depth vs ls p.form u k)
         (λ p u v c k j. starts-later own given vs level ls u v k j.0)

@@ -17,7 +17,7 @@ use Rattle.sx_core.specs.Bindings.{bound_to}
 use Rattle.sx_core.specs.declared.binding.Binding.{Binding}
 use Rattle.sx_core.specs.declared.binding.Binding.TheVariants as binding
 use Rattle.sx_core.specs.declared.binding.VarInfo.{VarInfo}
-use Rattle.sx_core.specs.declared.record.LibRecord.{LibRecord}
+use Rattle.sx_core.specs.declared.record.CompiledLibrary.{CompiledLibrary}
 use Rattle.sx_core.specs.declared.record.Line.{Line}
 use Rattle.sx_core_laws.specs.Words.{Each, Among, Once}
 use Rattle.sx_core_laws.specs.Parts.{code_numbers}
@@ -33,13 +33,13 @@ use Rattle.sx_expand.specs.Body.{splice, finish_all}
 use Rattle.sx_expand.specs.Expanding.{ready, body_of, library_record}
 use Rattle.sx_expand.specs.Expression.{inside, full_room}
 use Rattle.sx_expand.specs.Inside.{Inside}
-use Rattle.sx_expand.specs.Top.{exports, refs_of, give_record, record_in, body_at, kind_of, finished, first_pass, top}
+use Rattle.sx_expand.specs.Top.{exports, refs_of, give_record, record_in, body_at, kind_of, second_pass, first_pass, top}
 use Rattle.sx_expand.specs.declared.top.TopAt.{TopAt}
 use Rattle.sx_expand_laws.specs.Good.{RecordsAreGood}
 use Rattle.sx_expand_laws.specs.Indices.{bound_index}
 use Rattle.sx_expand_laws.proofs.Indices.{indices-once}
 use Rattle.sx_expand_laws.specs.Ready.{IsReady}
-use Rattle.sx_expand_laws.specs.States.{IsOwn, IsForeign, IsTop, Sound, Keeps, Grows, Adds, Reach, Later}
+use Rattle.sx_expand_laws.specs.States.{IsOwn, IsForeign, IsTop, Sound, Keeps, Grows, Adds, ReachOfCode, Later}
 use Rattle.sx_expand_laws.specs.Shallow.{deepest}
 use Rattle.sx_expand_laws.proofs.Acts.{Gave, gave-after, gave-both, gave-less}
 use Rattle.sx_expand_laws.proofs.Fresh.{Made, FreshLabels, each-map, among-parts, among-first, among-second}
@@ -63,7 +63,7 @@ use Rattle.sx_expand_laws.proofs.Forms.{inside-safe}
 use Rattle.sx_expand_laws.proofs.Started.{started-sound, started-scope, started-foreign, started-indices}
 
 -- the run lines of a record of this library, behind these variables, and the state that its expansion ended in
-pub record Runs (own : LibName) (given : List Label) (start : State) (r : LibRecord) : Type 0 where
+pub record Runs (own : LibName) (given : List Label) (start : State) (r : CompiledLibrary) : Type 0 where
   pub first : ℕ
   pub middle : ℕ
   pub last : ℕ
@@ -134,7 +134,7 @@ module _ (own : LibName) (given : List Label) (go : Inside) (safe : Safe own giv
   no-top l v o b = none l (binding.Variable v) b.0 o
 
   -- nothing was in scope
-  blank-reach : Reach own given [] 0 start given
+  blank-reach : ReachOfCode own given [] 0 start given
   blank-reach = record {
     scope = subst (Each (Among given)) (sym blank) tt;
     top = λ l v o b. absurd (no-top l v o b);
@@ -192,8 +192,8 @@ module _ (own : LibName) (given : List Label) (go : Inside) (safe : Safe own giv
         labels = subst (Each (IsDefined v.bindings 0 true)) is (each-map (IsDefined t.bindings 0 true) (IsDefined v.bindings 0 true) labels h.labels (λ l j. defined-grown t.bindings v.bindings k.later.grows.bound 0 true l j));
       })
 
-  gives-finished : (at : TopAt) (es : List (List ℕ × Tree)) (d : Taken) (s : State) → Done d s → Gave (λ r v. Runs own given start r) (finished go at es d s)
-  unfolding finished
+  gives-finished : (at : TopAt) (es : List (List ℕ × Tree)) (d : Taken) (s : State) → Done d s → Gave (λ r v. Runs own given start r) (second_pass go at es d s)
+  unfolding second_pass
   gives-finished at es d s h =
       gave-after (λ ls t. SameScope s t × AreShown s.frames ls) (λ r v. Runs own given start r) (exports at es s) (λ ls t. after (finish_all go 0 d.waiting t) (λ lines. give_record at ls lines)) (same-exports at es s)
       (λ ls t k. gives-record at ls d t (took-same d s t k.0 h) (subst (λ (fs : Scope). AreShown fs ls) (sym k.0.frames) k.1))
@@ -201,7 +201,7 @@ module _ (own : LibName) (given : List Label) (go : Inside) (safe : Safe own giv
   pub gives-top : (at : TopAt) (es : List (List ℕ × Tree)) (forms : List Tree) → Gave (λ r v. Runs own given start r) (top go at es forms start)
   unfolding top first_pass
   gives-top at es forms =
-      gave-after Done (λ r v. Runs own given start r) (splice go (body_at at start.library) 0 begun (map (stamp at.frame) forms) start) (finished go at es)
+      gave-after Done (λ r v. Runs own given start r) (splice go (body_at at start.library) 0 begun (map (stamp at.frame) forms) start) (second_pass go at es)
       (gave-less (Splices own go safe.nests (body_at at start.library) 0 start start) Done (splice go (body_at at start.library) 0 begun (map (stamp at.frame) forms) start)
       (first-nests own go safe.nests (body_at at start.library) 0 (map (stamp at.frame) forms) start (sound.next, sound.numbered) (λ e. refl))
       (λ d t k. record {
@@ -215,11 +215,11 @@ module _ (own : LibName) (given : List Label) (go : Inside) (safe : Safe own giv
       }))
       (λ d t k. gives-finished at es d t k)
 
-in-record : (P : LibRecord → Type 0) (x : Result (LibRecord × State) Fault) (r : LibRecord) → Gave (λ y v. P y) x → record_in x ≡ Ok r → P r
+in-record : (P : CompiledLibrary → Type 0) (x : Result (CompiledLibrary × State) Fault) (r : CompiledLibrary) → Gave (λ y v. P y) x → record_in x ≡ Ok r → P r
 in-record P (Ok p) r h e = let is : p.0 ≡ r = cc in subst P is h
 in-record P (Err f) r h e = absurd (cc)
 
-pub record-runs : (own : LibName) (path : List ℕ) (records : List LibRecord) (imports : List (List ℕ × Label)) (version : List ℕ) (place : Span) (exports : List (List ℕ × Tree)) (forms : List Tree) (codes : Codes) (r : LibRecord)
+pub record-runs : (own : LibName) (path : List ℕ) (records : List CompiledLibrary) (imports : List (List ℕ × Label)) (version : List ℕ) (place : Span) (exports : List (List ℕ × Tree)) (forms : List Tree) (codes : Codes) (r : CompiledLibrary)
     → IsReady own records → library_record (ready own path records imports codes) records version place exports forms ≡ Ok r → Runs own (flat_map defined records) (started own records imports codes) r
 record-runs own path records imports version place exports forms codes r h e =
     let given = flat_map defined records in

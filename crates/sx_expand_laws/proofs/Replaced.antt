@@ -13,7 +13,7 @@ use Rattle.sx_tree.specs.Changes.{enter, leave}
 use Rattle.sx_tree.specs.Tree.{Tree, atom, leaf, pair, vector}
 use Rattle.sx_core.specs.Bindings.{bound_to}
 use Rattle.sx_core.specs.declared.core_form.CoreForm.{CoreForm}
-use Rattle.sx_core.specs.declared.record.LibRecord.{LibRecord}
+use Rattle.sx_core.specs.declared.record.CompiledLibrary.{CompiledLibrary}
 use Rattle.sx_shapes.specs.At.{place_of}
 use Rattle.sx_stage.specs.Stage.{PlainStage}
 use Rattle.sx_stage.specs.Uses.{used}
@@ -38,8 +38,8 @@ use Rattle.sx_expand.specs.Body.{item}
 use Rattle.sx_expand.specs.Body as body
 use Rattle.sx_expand.specs.Expression.{perform_settled, form_at, inside}
 use Rattle.sx_expand.specs.Inside.{Inside}
-use Rattle.sx_expand.specs.Settle.{used_form, next_form, step_of, step, settled_by, settle_to, settle, at_use, item_step_of, item_step, settle_item_to, settle_item}
-use Rattle.sx_expand.specs.Settle as settling
+use Rattle.sx_expand.specs.ExpandUses.{used_form, next_form, step_of, step, planned_by, expand_uses_to, expand_uses, at_use, item_step_of, item_step, expand_item_uses_to, expand_item_uses}
+use Rattle.sx_expand.specs.ExpandUses as settling
 use Rattle.sx_expand.proofs.Steps.{earlier_inside}
 use Rattle.sx_expand_laws.proofs.Acts.{Gave, gave-after}
 use Rattle.sx_expand_laws.specs.Uses.{IsUseOf, UsesAreReplaced, with_head_of, BodyUsesAreReplaced, IsFormOf, RecordFormsAreReplaced, IsOfRecords, BodyRecordFormsAreReplaced}
@@ -90,45 +90,45 @@ marked-leaves place t f frame m s = by (defines_type f)
     by false = gave-after (Leaves s.uses_left) (Leaves s.uses_left) (record_tree place (enter m t) f s.record_types s) (λ u. give (leave m frame u))
         (tree-leaves place (enter m t) f s.record_types s) (λ a u k. k)
 
-form-leaves : (rs : List LibRecord) (place : Span) (t : Tree) (k : KeywordUse) (frame : Option FrameNo) (s : State) → Gave (Leaves s.uses_left) (used_form rs place t k frame s)
+form-leaves : (rs : List CompiledLibrary) (place : Span) (t : Tree) (k : KeywordUse) (frame : Option FrameNo) (s : State) → Gave (Leaves s.uses_left) (used_form rs place t k frame s)
 unfolding use_keyword use_record fresh
 form-leaves rs place t (keyword_use.Macro l) frame s = stage-leaves s (used place rs t l (macro_expression (bound_to s.bindings l)) frame (stage_of s))
 form-leaves rs place t (keyword_use.Record f) frame s =
     let m : Mark = record { 0 = s.names } in
     marked-leaves place t f frame m (record s { names = record { library = s.names.library; number = s.names.number + 1 } })
 
-next-leaves : (rs : List LibRecord) (left : ℕ) (place : Span) (t : Tree) (k : KeywordUse) (frame : Option FrameNo) (s : State) → Gave (Leaves left) (next_form rs left place t k frame s)
+next-leaves : (rs : List CompiledLibrary) (left : ℕ) (place : Span) (t : Tree) (k : KeywordUse) (frame : Option FrameNo) (s : State) → Gave (Leaves left) (next_form rs left place t k frame s)
 unfolding next_form
 next-leaves rs left place t k frame s = form-leaves rs (place_of t place) t k frame (record s { uses_left = left })
 
 module _ (go : Inside) (left : ℕ) (place : Span) (level depth : ℕ) (t : Tree) (k : KeywordUse) (s : State) where
-  next-settled : plan_of place level t s ≡ Ok (plans.Use k, s) → settle_to go.earlier (suc left) place level t s ≡ after (next_form go.earlier left place t k None s) (settle_to go.earlier left (place_of t place) level)
-  unfolding settle_to step
-  next-settled h = ap (λ r. after (after r (step_of go.earlier place t)) (settled_by (λ m s'. after (next_form go.earlier left place t m None s') (settle_to go.earlier left (place_of t place) level)) place t)) h
+  next-settled : plan_of place level t s ≡ Ok (plans.Use k, s) → expand_uses_to go.earlier (suc left) place level t s ≡ after (next_form go.earlier left place t k None s) (expand_uses_to go.earlier left (place_of t place) level)
+  unfolding expand_uses_to step
+  next-settled h = ap (λ r. after (after r (step_of go.earlier place t)) (planned_by (λ m s'. after (next_form go.earlier left place t m None s') (expand_uses_to go.earlier left (place_of t place) level)) place t)) h
 
   -- what comes of the form that was given
   behind : nat_lt most_round depth ≡ false → (r : Result (Tree × State) Fault) → Gave (Leaves left) r
-      → after (after r (settle_to go.earlier left (place_of t place) level)) (perform_settled go level depth) ≡ after r (form_at go (place_of t place) level depth)
+      → after (after r (expand_uses_to go.earlier left (place_of t place) level)) (perform_settled go level depth) ≡ after r (form_at go (place_of t place) level depth)
   unfolding form_at
   behind few (Err e) h = refl
   behind few (Ok p) h =
-      ap (λ n. after (settle_to go.earlier n (place_of t place) level p.0 p.1) (perform_settled go level depth)) (sym h)
-      ∙ sym (ap (λ b. if b then fault_form kind.TooDeep p.0 (place_of t place) p.1 else after (settle go.earlier (place_of t place) level p.0 p.1) (perform_settled go level depth)) few)
+      ap (λ n. after (expand_uses_to go.earlier n (place_of t place) level p.0 p.1) (perform_settled go level depth)) (sym h)
+      ∙ sym (ap (λ b. if b then fault_form kind.TooDeep p.0 (place_of t place) p.1 else after (expand_uses go.earlier (place_of t place) level p.0 p.1) (perform_settled go level depth)) few)
 
   replaced : plan_of place level t s ≡ Ok (plans.Use k, s) → s.uses_left ≡ suc left → nat_lt most_round depth ≡ false → form_at go place level depth t s ≡ after (next_form go.earlier left place t k None s) (form_at go (place_of t place) level depth)
   unfolding form_at
   replaced h uses few =
-      ap (λ b. if b then fault_form kind.TooDeep t place s else after (settle go.earlier place level t s) (perform_settled go level depth)) few
-      ∙ ap (λ n. after (settle_to go.earlier n place level t s) (perform_settled go level depth)) uses
+      ap (λ b. if b then fault_form kind.TooDeep t place s else after (expand_uses go.earlier place level t s) (perform_settled go level depth)) few
+      ∙ ap (λ n. after (expand_uses_to go.earlier n place level t s) (perform_settled go level depth)) uses
       ∙ ap (λ r. after r (perform_settled go level depth)) (next-settled h)
       ∙ behind few (next_form go.earlier left place t k None s) (next-leaves go.earlier left place t k None s)
 
-form-replaced : (rs : List LibRecord) (room left : ℕ) (place : Span) (level depth : ℕ) (t : Tree) (k : KeywordUse) (s : State) → plan_of place level t s ≡ Ok (plans.Use k, s) → s.uses_left ≡ suc left → depth ≤ most_round
+form-replaced : (rs : List CompiledLibrary) (room left : ℕ) (place : Span) (level depth : ℕ) (t : Tree) (k : KeywordUse) (s : State) → plan_of place level t s ≡ Ok (plans.Use k, s) → s.uses_left ≡ suc left → depth ≤ most_round
     → (inside rs (suc room)).form place level depth t s ≡ after (next_form rs left place t k None s) ((inside rs (suc room)).form (place_of t place) level depth)
 unfolding inside
 form-replaced rs room left place level depth t k s h uses le =
     let few : nat_lt most_round depth ≡ false = grind (arith, nat_tests) in
-    subst (λ (xs : List LibRecord). form_at (inside rs room) place level depth t s ≡ after (next_form xs left place t k None s) (form_at (inside rs room) (place_of t place) level depth)) (earlier_inside rs room)
+    subst (λ (xs : List CompiledLibrary). form_at (inside rs room) place level depth t s ≡ after (next_form xs left place t k None s) (form_at (inside rs room) (place_of t place) level depth)) (earlier_inside rs room)
     (replaced (inside rs room) left place level depth t k s h uses few)
 
 pub uses-replaced : UsesAreReplaced
@@ -173,32 +173,32 @@ module _ (go : Inside) (left : ℕ) (at : BodyAt) (depth : ℕ) (done : Taken) (
   kept = with_head_of s done t
 
   item-settled : item_plan at depth done t s ≡ Ok ((kept, items.Use k), s)
-      → settle_item_to go.earlier (suc left) at depth done t s ≡ after (next_form go.earlier left at.place t k (Some at.frame) s) (settle_item_to go.earlier left (at_use at t) depth kept)
-  unfolding settle_item_to item_step
-  item-settled h = ap (λ r. after (after r (λ p. item_step_of go.earlier at depth t p.0 p.1)) (settling.item_by (λ taken m s'. after (next_form go.earlier left at.place t m (Some at.frame) s') (settle_item_to go.earlier left (at_use at t) depth taken)) at t)) h
+      → expand_item_uses_to go.earlier (suc left) at depth done t s ≡ after (next_form go.earlier left at.place t k (Some at.frame) s) (expand_item_uses_to go.earlier left (at_use at t) depth kept)
+  unfolding expand_item_uses_to item_step
+  item-settled h = ap (λ r. after (after r (λ p. item_step_of go.earlier at depth t p.0 p.1)) (settling.item_by (λ taken m s'. after (next_form go.earlier left at.place t m (Some at.frame) s') (expand_item_uses_to go.earlier left (at_use at t) depth taken)) at t)) h
 
   item-behind : nat_lt most_round depth ≡ false → (r : Result (Tree × State) Fault) → Gave (Leaves left) r
-      → after (after r (settle_item_to go.earlier left (at_use at t) depth kept)) (body.perform_settled go depth) ≡ after r (item go (at_use at t) depth kept)
+      → after (after r (expand_item_uses_to go.earlier left (at_use at t) depth kept)) (body.perform_settled go depth) ≡ after r (item go (at_use at t) depth kept)
   unfolding item
   item-behind few (Err e) h = refl
   item-behind few (Ok p) h =
-      ap (λ n. after (settle_item_to go.earlier n (at_use at t) depth kept p.0 p.1) (body.perform_settled go depth)) (sym h)
-      ∙ sym (ap (λ b. if b then fault_form kind.TooDeep p.0 (at_use at t).place p.1 else after (settle_item go.earlier (at_use at t) depth kept p.0 p.1) (body.perform_settled go depth)) few)
+      ap (λ n. after (expand_item_uses_to go.earlier n (at_use at t) depth kept p.0 p.1) (body.perform_settled go depth)) (sym h)
+      ∙ sym (ap (λ b. if b then fault_form kind.TooDeep p.0 (at_use at t).place p.1 else after (expand_item_uses go.earlier (at_use at t) depth kept p.0 p.1) (body.perform_settled go depth)) few)
 
   item-replaced : item_plan at depth done t s ≡ Ok ((kept, items.Use k), s) → s.uses_left ≡ suc left → nat_lt most_round depth ≡ false → item go at depth done t s ≡ after (next_form go.earlier left at.place t k (Some at.frame) s) (item go (at_use at t) depth kept)
   unfolding item
   item-replaced h uses few =
-      ap (λ b. if b then fault_form kind.TooDeep t at.place s else after (settle_item go.earlier at depth done t s) (body.perform_settled go depth)) few
-      ∙ ap (λ n. after (settle_item_to go.earlier n at depth done t s) (body.perform_settled go depth)) uses
+      ap (λ b. if b then fault_form kind.TooDeep t at.place s else after (expand_item_uses go.earlier at depth done t s) (body.perform_settled go depth)) few
+      ∙ ap (λ n. after (expand_item_uses_to go.earlier n at depth done t s) (body.perform_settled go depth)) uses
       ∙ ap (λ r. after r (body.perform_settled go depth)) (item-settled h)
       ∙ item-behind few (next_form go.earlier left at.place t k (Some at.frame) s) (next-leaves go.earlier left at.place t k (Some at.frame) s)
 
-body-form-replaced : (rs : List LibRecord) (room left : ℕ) (at : BodyAt) (depth : ℕ) (done : Taken) (t : Tree) (k : KeywordUse) (s : State) → item_plan at depth done t s ≡ Ok ((with_head_of s done t, items.Use k), s)
+body-form-replaced : (rs : List CompiledLibrary) (room left : ℕ) (at : BodyAt) (depth : ℕ) (done : Taken) (t : Tree) (k : KeywordUse) (s : State) → item_plan at depth done t s ≡ Ok ((with_head_of s done t, items.Use k), s)
     → s.uses_left ≡ suc left → depth ≤ most_round → (inside rs (suc room)).item at depth done t s ≡ after (next_form rs left at.place t k (Some at.frame) s) ((inside rs (suc room)).item (at_use at t) depth (with_head_of s done t))
 unfolding inside
 body-form-replaced rs room left at depth done t k s h uses le =
     let few : nat_lt most_round depth ≡ false = grind (arith, nat_tests) in
-    subst (λ (xs : List LibRecord). item (inside rs room) at depth done t s ≡ after (next_form xs left at.place t k (Some at.frame) s) (item (inside rs room) (at_use at t) depth (with_head_of s done t))) (earlier_inside rs room)
+    subst (λ (xs : List CompiledLibrary). item (inside rs room) at depth done t s ≡ after (next_form xs left at.place t k (Some at.frame) s) (item (inside rs room) (at_use at t) depth (with_head_of s done t))) (earlier_inside rs room)
     (item-replaced (inside rs room) left at depth done t k s h uses few)
 
 pub body-uses-replaced : BodyUsesAreReplaced

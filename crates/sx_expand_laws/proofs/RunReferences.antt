@@ -9,7 +9,7 @@ use Rattle.sx_base.specs.declared.name.Label.{Label}
 use Rattle.sx_core.specs.Core.{PlainCore}
 use Rattle.sx_core.specs.Labels.{has_label, with_label, with_labels, without}
 use Rattle.sx_core.specs.References.{binders, mentions, references}
-use Rattle.sx_core.specs.declared.record.LibRecord.{LibRecord}
+use Rattle.sx_core.specs.declared.record.CompiledLibrary.{CompiledLibrary}
 use Rattle.sx_core.specs.declared.record.Line.{Line}
 use Rattle.sx_core.specs.declared.record.Line.TheVariants as line
 use Rattle.sx_core_laws.specs.Follows.{names_of, keywords, line_cores, library_of, mentioned, joined, others, run_references, IsOwn, all_binders}
@@ -29,10 +29,10 @@ module _ (own : LibName) where
   labels-append done (x ∷ xs) ys = labels-append (with_label_of own done x) xs ys
 
   -- a label whose library is the record's own or is there already adds nothing
-  abbrev Settled : List LibName → Label → Type 0
-  Settled done l = (same_library l.0.library own ≡ true) ⊎ (has_library done l.0.library ≡ true)
+  abbrev PlannedForm : List LibName → Label → Type 0
+  PlannedForm done l = (same_library l.0.library own ≡ true) ⊎ (has_library done l.0.library ≡ true)
 
-  settled-is : (done : List LibName) (l : Label) → Settled done l → with_label_of own done l ≡ done
+  settled-is : (done : List LibName) (l : Label) → PlannedForm done l → with_label_of own done l ≡ done
   settled-is done l (inl e) = ap (λ (b : Bool). if b then done else with_library done l.0.library) e
   settled-is done l (inr e) = by (same_library l.0.library own)
     where
@@ -73,14 +73,14 @@ module _ (own : LibName) where
       by true = h
       by false = has-more done (j ∷ []) k h
 
-  settled-put : (done : List LibName) (l : Label) → Settled (with_label_of own done l) l
+  settled-put : (done : List LibName) (l : Label) → PlannedForm (with_label_of own done l) l
   settled-put done l = by (same_library l.0.library own) refl
     where
       by : (b : Bool) → same_library l.0.library own ≡ b → (same_library l.0.library own ≡ true) ⊎ (has_library (if b then done else with_library done l.0.library) l.0.library ≡ true)
       by true e = inl e
       by false e = inr (has-put done l.0.library)
 
-  settled-kept : (done : List LibName) (m l : Label) → Settled done l → Settled (with_label_of own done m) l
+  settled-kept : (done : List LibName) (m l : Label) → PlannedForm done l → PlannedForm (with_label_of own done m) l
   settled-kept done m l (inl e) = inl e
   settled-kept done m l (inr e) = inr (by (same_library m.0.library own))
     where
@@ -88,13 +88,13 @@ module _ (own : LibName) where
       by true = e
       by false = has-kept done m.0.library l.0.library e
 
-  settled-all : (done : List LibName) (ls : List Label) (l : Label) → Settled done l → Settled (with_labels_of own done ls) l
+  settled-all : (done : List LibName) (ls : List Label) (l : Label) → PlannedForm done l → PlannedForm (with_labels_of own done ls) l
   settled-all done [] l h = h
   settled-all done (m ∷ ls) l h = settled-all (with_label_of own done m) ls l (settled-kept done m l h)
 
-  settled-among : (done : List LibName) (ls : List Label) (l : Label) → Among ls l → Settled (with_labels_of own done ls) l
+  settled-among : (done : List LibName) (ls : List Label) (l : Label) → Among ls l → PlannedForm (with_labels_of own done ls) l
   settled-among done [] l a = elim a [ ]
-  settled-among done (m ∷ ls) l (inl e) = settled-all (with_label_of own done m) ls l (subst (Settled (with_label_of own done m)) (sym e) (settled-put done m))
+  settled-among done (m ∷ ls) l (inl e) = settled-all (with_label_of own done m) ls l (subst (PlannedForm (with_label_of own done m)) (sym e) (settled-put done m))
   settled-among done (m ∷ ls) l (inr a) = settled-among (with_label_of own done m) ls l a
 
   -- a label that came before adds nothing
@@ -163,7 +163,7 @@ module _ (own : LibName) where
           ∙ ap (λ (b : Bool). if b then joined done (others own (map library_of ms)) else joined (done ++ k ∷ []) (others own (map library_of ms))) (has-among done k)
 
 -- the references that a record has are those that it owes
-pub references-owed : (r : LibRecord) → ((l : Label) → Among (run_binders r) l → l.0.library ≡ r.name) → refs_of r.name r.run ≡ run_references r
+pub references-owed : (r : CompiledLibrary) → ((l : Label) → Among (run_binders r) l → l.0.library ≡ r.name) → refs_of r.name r.run ≡ run_references r
 references-owed r mine = of-lines r.name [] r.run mine ∙ of-mentions r.name [] (flat_map mentions (line_cores r))
 
 -- They are those of earlier records.
@@ -262,7 +262,7 @@ label-bound (x ∷ xs) l b = one (among-parts (line_labels x) (flat_map line_lab
     one (inr c) rest = among-second (line_binders x) (flat_map line_binders xs) l (rest c)
 
 -- what a record that follows defines is named by it
-follower-names : (earlier rs : List LibRecord) → AllFollow earlier rs → (l : Label) → Among (flat_map defined rs) l → Among (names_of rs) l.0.library
+follower-names : (earlier rs : List CompiledLibrary) → AllFollow earlier rs → (l : Label) → Among (flat_map defined rs) l → Among (names_of rs) l.0.library
 follower-names earlier [] h l a = elim a [ ]
 follower-names earlier (r ∷ rs) h l a = by (among-parts (defined r) (flat_map defined rs) l a) (follower-names (earlier ++ r ∷ []) rs h.1 l)
   where
@@ -270,7 +270,7 @@ follower-names earlier (r ∷ rs) h l a = by (among-parts (defined r) (flat_map 
     by (inl b) rest = inl (each-at (λ (m : Label). IsOwn r m.0) (all_binders r) l h.0.own.own_binders (among-first (run_binders r) (flat_map binders (keywords r)) l (label-bound r.run l b)))
     by (inr b) rest = inr (rest b)
 
-pub references-known : (r : LibRecord) (records : List LibRecord) → AllFollow [] records → ((l : Label) → Among (run_binders r) l → l.0.library ≡ r.name)
+pub references-known : (r : CompiledLibrary) (records : List CompiledLibrary) → AllFollow [] records → ((l : Label) → Among (run_binders r) l → l.0.library ≡ r.name)
     → Each (λ c. Closed (flat_map defined records ++ defined r) c) (line_cores r) → Each (Among (names_of records)) (run_references r)
 references-known r records follow mine closed = each-of (Among (names_of records)) (run_references r) known
   where

@@ -15,7 +15,7 @@ use Rattle.sx_core.specs.Bindings.{bound_to}
 use Rattle.sx_core.specs.declared.binding.Binding.{Binding}
 use Rattle.sx_core.specs.declared.binding.Binding.TheVariants as binding
 use Rattle.sx_core.specs.declared.binding.VarInfo.{VarInfo}
-use Rattle.sx_core.specs.declared.record.LibRecord.{LibRecord}
+use Rattle.sx_core.specs.declared.record.CompiledLibrary.{CompiledLibrary}
 use Rattle.sx_core_laws.specs.Words.{Each, Among}
 use Rattle.sx_core_laws.specs.Records.{defined}
 use Rattle.sx_core_laws.specs.Follows.{IsOwn, IsRecorded, IsKnown, Follows, names_of, bound_labels, row_labels, export_labels, top_label}
@@ -37,10 +37,10 @@ use Rattle.sx_expand_laws.proofs.Records.{Runs, record-runs}
 -- Records that follow one another.
 
 -- the labels that earlier records bind are named by them
-abbrev AreNamed : List LibRecord → Type 0
+abbrev AreNamed : List CompiledLibrary → Type 0
 AreNamed rs = (l : Label) → Among (flat_map bound_labels rs) l → Among (names_of rs) l.0.library
 
-follower-serves : (earlier : List LibRecord) (r : LibRecord) → AreNamed earlier → Follows r earlier → Serves earlier r
+follower-serves : (earlier : List CompiledLibrary) (r : CompiledLibrary) → AreNamed earlier → Follows r earlier → Serves earlier r
 follower-serves earlier r named h = record {
   own_bindings = h.own.own_bindings;
   kinds = h.bindings.kinds;
@@ -58,7 +58,7 @@ follower-serves earlier r named h = record {
     known l (inl a) = bound l (among-parts (bound_labels r) (flat_map bound_labels earlier) l a)
     known l (inr g) = inr (inr (inl g.0))
 
-named-more : (earlier : List LibRecord) (r : LibRecord) → AreNamed earlier → Each (λ (l : Label). IsOwn r l.0) (bound_labels r) → AreNamed (earlier ++ r ∷ [])
+named-more : (earlier : List CompiledLibrary) (r : CompiledLibrary) → AreNamed earlier → Each (λ (l : Label). IsOwn r l.0) (bound_labels r) → AreNamed (earlier ++ r ∷ [])
 named-more earlier r named own l a =
     subst (λ (ns : List LibName). Among ns l.0.library) (sym (names-append earlier r))
     (by (among-parts (flat_map bound_labels earlier) (bound_labels r ++ []) l (subst (λ (ls : List Label). Among ls l) (flat_map-append bound_labels earlier (r ∷ [])) a)))
@@ -71,7 +71,7 @@ named-more earlier r named own l a =
     by (inl b) = among-first (names_of earlier) (r.name ∷ []) l.0.library (named l b)
     by (inr b) = last (among-parts (bound_labels r) [] l b)
 
-all-serve : (earlier rs : List LibRecord) → AreNamed earlier → AllFollow earlier rs → AllServe earlier rs
+all-serve : (earlier rs : List CompiledLibrary) → AreNamed earlier → AllFollow earlier rs → AllServe earlier rs
 all-serve earlier [] named h = tt
 all-serve earlier (r ∷ rs) named h = (follower-serves earlier r named h.0, all-serve (earlier ++ r ∷ []) rs (named-more earlier r named h.0.own.own_bindings) h.1)
 
@@ -108,7 +108,7 @@ module _ (v : State) (P : Label × Binding → Type 0) (holds : (n : ℕ) (b : B
 
 -- The record that expansion gives.
 
-module _ (own : LibName) (records : List LibRecord) (imports : List (List ℕ × Label)) (codes : Codes) (r : LibRecord) (ready : IsReady own records) (runs : Runs own (flat_map defined records) (started own records imports codes) r) where
+module _ (own : LibName) (records : List CompiledLibrary) (imports : List (List ℕ × Label)) (codes : Codes) (r : CompiledLibrary) (ready : IsReady own records) (runs : Runs own (flat_map defined records) (started own records imports codes) r) where
   abbrev l : ℕ → Label
   l n = own_label runs.ended n
 

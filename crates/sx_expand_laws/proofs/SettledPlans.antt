@@ -5,7 +5,7 @@ use Rattle.sx_base.specs.declared.library.LibName.{LibName}
 use Rattle.sx_base.specs.declared.name.Label.{Label}
 use Rattle.sx_base.specs.declared.span.Span.{Span}
 use Rattle.sx_tree.specs.Tree.{Tree}
-use Rattle.sx_core.specs.declared.record.LibRecord.{LibRecord}
+use Rattle.sx_core.specs.declared.record.CompiledLibrary.{CompiledLibrary}
 use Rattle.sx_core_laws.specs.Templates.{Depths}
 use Rattle.sx_shapes.specs.At.{place_of}
 use Rattle.sx_standing.specs.State.{State}
@@ -13,10 +13,10 @@ use Rattle.sx_standing.specs.Uses.{asks_variable}
 use Rattle.sx_heads.specs.Plan.{plan_of}
 use Rattle.sx_heads.specs.declared.plan.Plan.{Plan}
 use Rattle.sx_heads.specs.declared.plan.Plan.TheVariants as plans
-use Rattle.sx_expand.specs.Settle.{next_form, too_many, set_step, step_of, step, settled_by, settle_to}
-use Rattle.sx_expand.specs.declared.settle.Settled.{Settled}
-use Rattle.sx_expand.specs.declared.settle.Step.{Step}
-use Rattle.sx_expand.specs.declared.settle.Step.TheVariants as steps
+use Rattle.sx_expand.specs.ExpandUses.{next_form, too_many, set_step, step_of, step, planned_by, expand_uses_to}
+use Rattle.sx_expand.specs.declared.expand_uses.PlannedForm.{PlannedForm}
+use Rattle.sx_expand.specs.declared.expand_uses.PlanOrUse.{PlanOrUse}
+use Rattle.sx_expand.specs.declared.expand_uses.PlanOrUse.TheVariants as steps
 use Rattle.sx_expand.proofs.Linked.{linked-keeps}
 use Rattle.sx_expand_laws.specs.States.{Later}
 use Rattle.sx_expand_laws.proofs.Acts.{Gave, gave-after, gave-less, gave-both}
@@ -26,15 +26,15 @@ use Rattle.sx_expand_laws.proofs.Meanings.{Planned, planned-of}
 use Rattle.sx_expand_laws.proofs.Plans.{plan-later}
 use Rattle.sx_expand_laws.proofs.Uses.{asks-later, next-later}
 
-module _ (own : LibName) (given : List Label) (rs : List LibRecord) (vs : Depths) (level : ℕ) (ls : List Label) where
-  abbrev pub SettlesTo : State → Settled → State → Type 0
+module _ (own : LibName) (given : List Label) (rs : List CompiledLibrary) (vs : Depths) (level : ℕ) (ls : List Label) where
+  abbrev pub SettlesTo : State → PlannedForm → State → Type 0
   SettlesTo s d u = Later own s u × Planned own u.bindings vs ls u.names.number d.plan
 
-  abbrev StepPlanned : Step → State → Type 0
+  abbrev StepPlanned : PlanOrUse → State → Type 0
   StepPlanned (steps.Plan p) u = Planned own u.bindings vs ls u.names.number p
   StepPlanned (steps.Use l) u = Unit {0}
 
-  abbrev StepsTo : State → Step → State → Type 0
+  abbrev StepsTo : State → PlanOrUse → State → Type 0
   StepsTo s x u = Later own s u × StepPlanned x u
 
   abbrev S : State → Type 0
@@ -67,21 +67,21 @@ module _ (own : LibName) (given : List Label) (rs : List LibRecord) (vs : Depths
       (gave-both (λ p u. Later own s u) (λ p u. Planned own u.bindings vs ls u.names.number p) (plan_of place level t s) (plan-later own place level s h.0.next t) (planned-of own given vs level ls s h.0 h.1 place t))
       (λ p u k. steps-planned place t p s u k.0 k.1)
 
-  pub settle-planned : (left : ℕ) (place : Span) (t : Tree) (s : State) → S s → Gave (SettlesTo s) (settle_to rs left place level t s)
-  unfolding settle_to
-  settle-planned zero place t s h = gave-after (StepsTo s) (SettlesTo s) (step rs place level t s) (settled_by (λ l. too_many t place) place t) (step-planned place t s h) by
+  pub expand_uses-planned : (left : ℕ) (place : Span) (t : Tree) (s : State) → S s → Gave (SettlesTo s) (expand_uses_to rs left place level t s)
+  unfolding expand_uses_to
+  expand_uses-planned zero place t s h = gave-after (StepsTo s) (SettlesTo s) (step rs place level t s) (planned_by (λ l. too_many t place) place t) (step-planned place t s h) by
     where
-      by : (x : Step) (u : State) → StepsTo s x u → Gave (SettlesTo s) (settled_by (λ l. too_many t place) place t x u)
+      by : (x : PlanOrUse) (u : State) → StepsTo s x u → Gave (SettlesTo s) (planned_by (λ l. too_many t place) place t x u)
       by (steps.Plan p) u k = linked-keeps (λ v. Later own s v × Planned own v.bindings vs ls v.names.number p) t u (λ ks. (later-then own s u (record u { links = ks }) k.0 (later-links own u ks k.0.next), k.1)) p
       by (steps.Use l) u k = tt
-  settle-planned (suc left) place t s h =
-      gave-after (StepsTo s) (SettlesTo s) (step rs place level t s) (settled_by (λ l s'. after (next_form rs left place t l None s') (settle_to rs left (place_of t place) level)) place t) (step-planned place t s h)
-      (λ x u k. by x u k (λ y v j. settle-planned left (place_of t place) y v j))
+  expand_uses-planned (suc left) place t s h =
+      gave-after (StepsTo s) (SettlesTo s) (step rs place level t s) (planned_by (λ l s'. after (next_form rs left place t l None s') (expand_uses_to rs left (place_of t place) level)) place t) (step-planned place t s h)
+      (λ x u k. by x u k (λ y v j. expand_uses-planned left (place_of t place) y v j))
     where
-      by : (x : Step) (u : State) → StepsTo s x u → ((y : Tree) (v : State) → S v → Gave (SettlesTo v) (settle_to rs left (place_of t place) level y v))
-          → Gave (SettlesTo s) (settled_by (λ l s'. after (next_form rs left place t l None s') (settle_to rs left (place_of t place) level)) place t x u)
+      by : (x : PlanOrUse) (u : State) → StepsTo s x u → ((y : Tree) (v : State) → S v → Gave (SettlesTo v) (expand_uses_to rs left (place_of t place) level y v))
+          → Gave (SettlesTo s) (planned_by (λ l s'. after (next_form rs left place t l None s') (expand_uses_to rs left (place_of t place) level)) place t x u)
       by (steps.Plan p) u k next = linked-keeps (λ v. Later own s v × Planned own v.bindings vs ls v.names.number p) t u (λ ks. (later-then own s u (record u { links = ks }) k.0 (later-links own u ks k.0.next), k.1)) p
       by (steps.Use l) u k next =
-          gave-after (λ y v. Later own u v) (SettlesTo s) (next_form rs left place t l None u) (settle_to rs left (place_of t place) level) (next-later own rs left place t l None u k.0.next)
+          gave-after (λ y v. Later own u v) (SettlesTo s) (next_form rs left place t l None u) (expand_uses_to rs left (place_of t place) level) (next-later own rs left place t l None u k.0.next)
           (λ y v j. let i = later-then own s u v k.0 j in
-          gave-less (SettlesTo v) (SettlesTo s) (settle_to rs left (place_of t place) level y v) (next y v (starts-later own given vs level ls s v h i)) (λ d w m. (later-then own s v w i m.0, m.1)))
+          gave-less (SettlesTo v) (SettlesTo s) (expand_uses_to rs left (place_of t place) level y v) (next y v (starts-later own given vs level ls s v h i)) (λ d w m. (later-then own s v w i m.0, m.1)))

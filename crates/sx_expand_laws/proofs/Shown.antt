@@ -16,24 +16,24 @@ use Rattle.sx_frames.proofs.ScopeLemmas.{same_frame-self}
 use Rattle.sx_scope.specs.Stands.{stands, symbol_of}
 use Rattle.sx_core_laws.specs.Words.{Among}
 use Rattle.sx_standing.specs.State.{State}
-use Rattle.sx_expand_laws.specs.States.{Shows, Grows}
+use Rattle.sx_expand_laws.specs.States.{RowsShow, Grows}
 use Rattle.sx_expand_laws.proofs.Grows.{shows-more}
 use Rattle.sx_base.specs.declared.library.LibName.{LibName}
 
 -- some frame shows the label
 abbrev pub IsShown : Scope → Label → Type 0
-IsShown fs l = (f : FrameNo) × Shows (rows_at f fs) l
+IsShown fs l = (f : FrameNo) × RowsShow (rows_at f fs) l
 
 pub shown-later : (own : LibName) (s t : State) (l : Label) → Grows own s t → IsShown s.frames l → IsShown t.frames l
 shown-later own s t l h (f, k) = (f, shows-more (rows_at f s.frames) (rows_at f t.frames) l (h.kept f) k)
 
 -- What a leaf stands for.
 
-label-shown : (rs : List Row) (x : List ℕ) (ms : List Mark) (l : Label) → label_in rs x ms ≡ Some l → Shows rs l
+label-shown : (rs : List Row) (x : List ℕ) (ms : List Mark) (l : Label) → label_in rs x ms ≡ Some l → RowsShow rs l
 label-shown [] x ms l e = absurd (cc)
 label-shown (r ∷ rs) x ms l e = by (is_of x ms r) (label-shown rs x ms l) e
   where
-    by : (b : Bool) → (label_in rs x ms ≡ Some l → Shows rs l) → (if b then Some r.label else label_in rs x ms) ≡ Some l → Shows (r ∷ rs) l
+    by : (b : Bool) → (label_in rs x ms ≡ Some l → RowsShow rs l) → (if b then Some r.label else label_in rs x ms) ≡ Some l → RowsShow (r ∷ rs) l
     by true later k = let is : r.label ≡ l = cc in record { row = r; there = inl refl; label = is }
     by false later k = shows-more rs (r ∷ rs) l (λ y a. inr a) (later k)
 
@@ -60,7 +60,7 @@ among-filter {A} p (y ∷ xs) x h a = by (p y) refl a (among-filter p xs x h)
     by false e (inl is) later = let same = ap p is in absurd (cc)
     by false e (inr c) later = later c
 
-from-shown : (f : FrameNo) (rs : List Row) (x : FrameRow) → Among (rows_from f rs) x → Shows rs x.label
+from-shown : (f : FrameNo) (rs : List Row) (x : FrameRow) → Among (rows_from f rs) x → RowsShow rs x.label
 from-shown f [] x a = elim a [ ]
 from-shown f (r ∷ rs) x (inl e) = record { row = r; there = inl refl; label = ap (λ (y : FrameRow). y.label) (sym e) }
 from-shown f (r ∷ rs) x (inr a) = shows-more rs (r ∷ rs) x.label (λ y b. inr b) (from-shown f rs x a)

@@ -20,7 +20,7 @@ use Rattle.sx_shapes.specs.declared.shape.BindingSpec.{BindingSpec}
 use Rattle.sx_shapes.specs.declared.shape.FormalIds.{FormalIds}
 use Rattle.sx_standing.specs.InScope.{cut, within, apart, restoring}
 use Rattle.sx_standing.specs.State.{State, Does, fresh_frame}
-use Rattle.sx_standing.specs.Uses.{bind_keywords, finish_keyword}
+use Rattle.sx_standing.specs.Uses.{bind_keywords, evaluate_transformer}
 use Rattle.sx_standing.specs.declared.binders.BoundSpec.{BoundSpec}
 use Rattle.sx_heads.specs.declared.taken.BodyAt.{BodyAt}
 use Rattle.sx_heads.specs.declared.taken.Taken.{Taken}
@@ -28,9 +28,9 @@ use Rattle.sx_heads.specs.Items.{is_top}
 use Rattle.sx_expand.specs.Body.{sequence_of}
 use Rattle.sx_expand.specs.Expression.{in_order, application, alternate, conditional, set, in_sequence}
 use Rattle.sx_expand.specs.Inside.{Inside}
-use Rattle.sx_expand.specs.Keywords.{keyword, seen_in, keyword_in, all_keywords, keywords, with_keywords}
+use Rattle.sx_expand.specs.Keywords.{expand_transformer, seen_in, expand_transformer_in, expand_transformers, keywords, with_keywords}
 use Rattle.sx_expand_laws.specs.Shallow.{deepest, IsShallow}
-use Rattle.sx_expand_laws.specs.States.{IsOwn, Reach, Later}
+use Rattle.sx_expand_laws.specs.States.{IsOwn, ReachOfCode, Later}
 use Rattle.sx_expand_laws.proofs.Acts.{Gave, gave-after, gave-less, gave-both, gave-each, gave-within}
 use Rattle.sx_expand_laws.proofs.BindingKeywords.{BindsKeywords, binds-keywords}
 use Rattle.sx_expand_laws.proofs.Expand.{GivesGood, Safe}
@@ -155,7 +155,7 @@ module _ (own : LibName) (given : List Label) where
       kept = (kept-less own given s (record s { scope = [] }) (omega arith) (λ k c o e. e) b.kept).0;
     }
 
-    nothing-reached : (level : ℕ) (s : State) → B s → Reach own given [] (level + 1) (record s { scope = [] }) given
+    nothing-reached : (level : ℕ) (s : State) → B s → ReachOfCode own given [] (level + 1) (record s { scope = [] }) given
     nothing-reached level s b = record {
       scope = tt;
       top = λ l v o t. (b.level l v o t, (λ e. absurd (omega (arith, e))));
@@ -230,20 +230,20 @@ module _ (own : LibName) (given : List Label) where
     abbrev pub N : {A : Type 0} → State → A → Type 0
     N u a = Unit {0}
 
-    pub spares-keyword : (place : Span) (level depth : ℕ) (b : BoundSpec) (s : State) → B s → Gave (Gives (N {A = Unit {0}}) s) (keyword go place level depth b s)
-    unfolding keyword
+    pub spares-keyword : (place : Span) (level depth : ℕ) (b : BoundSpec) (s : State) → B s → Gave (Gives (N {A = Unit {0}}) s) (expand_transformer go place level depth b s)
+    unfolding expand_transformer
     spares-keyword place level depth b s h =
-        gave-after (Expressed s) (Gives (N {A = Unit {0}}) s) (apart (go.form place (level + 1) depth b.init) s) (finish_keyword go.earlier (place_of b.init place) b.label) (expresses place level depth b.init s h)
-        (λ c w x. gave-less (λ a v. Later own w v × TellsBut b.label c w.keywords v.keywords) (Gives (N {A = Unit {0}}) s) (finish_keyword go.earlier (place_of b.init place) b.label c w)
-        (gave-both (λ a v. Later own w v) (λ a v. TellsBut b.label c w.keywords v.keywords) (finish_keyword go.earlier (place_of b.init place) b.label c w)
+        gave-after (Expressed s) (Gives (N {A = Unit {0}}) s) (apart (go.form place (level + 1) depth b.init) s) (evaluate_transformer go.earlier (place_of b.init place) b.label) (expresses place level depth b.init s h)
+        (λ c w x. gave-less (λ a v. Later own w v × TellsBut b.label c w.keywords v.keywords) (Gives (N {A = Unit {0}}) s) (evaluate_transformer go.earlier (place_of b.init place) b.label c w)
+        (gave-both (λ a v. Later own w v) (λ a v. TellsBut b.label c w.keywords v.keywords) (evaluate_transformer go.earlier (place_of b.init place) b.label c w)
         (finish-later own go.earlier (place_of b.init place) b.label c w x.0.0.sound.next) (finish-told go.earlier (place_of b.init place) b.label c w))
         (λ a v k. (finished s w v b.label c x k.0 k.1, tt)))
 
-    spares-all : (place : Span) (level depth : ℕ) (recursive : Bool) (f : FrameNo) (bs : List BoundSpec) (s : State) → B s → Gave (Gives (N {A = Unit {0}}) s) (all_keywords go place level depth recursive f bs s)
+    spares-all : (place : Span) (level depth : ℕ) (recursive : Bool) (f : FrameNo) (bs : List BoundSpec) (s : State) → B s → Gave (Gives (N {A = Unit {0}}) s) (expand_transformers go place level depth recursive f bs s)
     unfolding gather
     spares-all place level depth recursive f [] s h = (onward-self own given s h, tt)
     spares-all place level depth recursive f (b ∷ bs) s h =
-        goes N N s (keyword_in go place level depth recursive f tt b s) (λ e. gather (keyword_in go place level depth recursive f) e bs) (spares-keyword place level depth (seen_in recursive f b) s h)
+        goes N N s (expand_transformer_in go place level depth recursive f tt b s) (λ e. gather (expand_transformer_in go place level depth recursive f) e bs) (spares-keyword place level depth (seen_in recursive f b) s h)
         (λ e u o w. spares-all place level depth recursive f bs u o.0)
 
     pub spares-keywords : (place : Span) (level depth : ℕ) (recursive : Bool) (bs : List BindingSpec) (forms : List Tree) (s : State) → B s → Gave (Gives (N {A = List Tree}) s) (with_keywords go place level depth recursive bs forms s)
@@ -254,10 +254,10 @@ module _ (own : LibName) (given : List Label) where
         let start = onward-counted own given s h in
         gave-less (Gives (N {A = List Tree}) z) (Gives (N {A = List Tree}) s) (after (keywords go place level depth recursive bs f z) (λ _. give (map (stamp f) forms)))
         (goes (N {A = Unit {0}}) N z (keywords go place level depth recursive bs f z) (λ _. give (map (stamp f) forms))
-        (gave-after (λ xs u. BindsKeywords own f z xs u × Tells z.keywords u.keywords) (Gives N z) (bind_keywords f place level bs z) (all_keywords go place level depth recursive f)
+        (gave-after (λ xs u. BindsKeywords own f z xs u × Tells z.keywords u.keywords) (Gives N z) (bind_keywords f place level bs z) (expand_transformers go place level depth recursive f)
         (gave-both (BindsKeywords own f z) (λ xs u. Tells z.keywords u.keywords) (bind_keywords f place level bs z) (binds-keywords own f place level bs z h.sound.next) (keywords-told f place level bs z))
         (λ xs u k.
         let o = onward-but own given f false [] [] z u k.0.later (k.0.adds false) k.1 start.0 in
-        gave-less (Gives N u) (Gives N z) (all_keywords go place level depth recursive f xs u) (spares-all place level depth recursive f xs u o.0) (λ a v j. (onward-then own given z u v o j.0, tt))))
+        gave-less (Gives N u) (Gives N z) (expand_transformers go place level depth recursive f xs u) (spares-all place level depth recursive f xs u o.0) (λ a v j. (onward-then own given z u v o j.0, tt))))
         (λ a u o w. (onward-self own given u o.0, tt)))
         (λ a u j. (onward-then own given s z u start j.0, tt))

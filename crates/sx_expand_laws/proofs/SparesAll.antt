@@ -7,7 +7,7 @@ use Rattle.sx_base.specs.declared.name.Label.{Label}
 use Rattle.sx_base.specs.declared.span.Span.{Span}
 use Rattle.sx_tree.specs.Tree.{Tree}
 use Rattle.sx_core.specs.Core.{instance}
-use Rattle.sx_core.specs.declared.record.LibRecord.{LibRecord}
+use Rattle.sx_core.specs.declared.record.CompiledLibrary.{CompiledLibrary}
 use Rattle.sx_core.specs.declared.link.Link.{Link}
 use Rattle.sx_shapes.specs.At.{place_of}
 use Rattle.sx_standing.specs.Patterns.{template_of}
@@ -22,10 +22,10 @@ use Rattle.sx_heads.specs.declared.plan.Plan.{Plan}
 use Rattle.sx_heads.specs.declared.plan.Plan.TheVariants as plans
 use Rattle.sx_expand.specs.Expression.{perform_settled, form_at, inside}
 use Rattle.sx_expand.specs.Inside.{Inside}
-use Rattle.sx_expand.specs.Settle.{next_form, too_many, set_step, step_of, step, settled_by, settle_to, settle}
-use Rattle.sx_expand.specs.declared.settle.Settled.{Settled}
-use Rattle.sx_expand.specs.declared.settle.Step.{Step}
-use Rattle.sx_expand.specs.declared.settle.Step.TheVariants as steps
+use Rattle.sx_expand.specs.ExpandUses.{next_form, too_many, set_step, step_of, step, planned_by, expand_uses_to, expand_uses}
+use Rattle.sx_expand.specs.declared.expand_uses.PlannedForm.{PlannedForm}
+use Rattle.sx_expand.specs.declared.expand_uses.PlanOrUse.{PlanOrUse}
+use Rattle.sx_expand.specs.declared.expand_uses.PlanOrUse.TheVariants as steps
 use Rattle.sx_expand.proofs.Linked.{linked-keeps}
 use Rattle.sx_expand_laws.specs.States.{Later}
 use Rattle.sx_expand_laws.proofs.Acts.{Gave, gave-after, gave-less, gave-both, gave-if}
@@ -102,8 +102,8 @@ module _ (own : LibName) (given : List Label) (go : Inside) (spares : Spares own
 
   -- Forms are settled.
 
-  module _ (rs : List LibRecord) (level : ℕ) where
-    abbrev StepAway : State → Step → Type 0
+  module _ (rs : List CompiledLibrary) (level : ℕ) where
+    abbrev StepAway : State → PlanOrUse → Type 0
     StepAway u (steps.Plan p) = W u p
     StepAway u (steps.Use l) = Unit {0}
 
@@ -134,7 +134,7 @@ module _ (own : LibName) (given : List Label) (go : Inside) (spares : Spares own
     unfolding step
     step-spares place t s b = goes own given W StepAway s (plan_of place level t s) (step_of rs place t) (plan-goes place level t s b) (λ p u o w. steps-spare place t p u o.0 w)
 
-    abbrev SettledAway : State → Settled → Type 0
+    abbrev SettledAway : State → PlannedForm → Type 0
     SettledAway u d = W u d.plan
 
     plan-lift : (t u : State) (p : Plan) → Tracks own t u → W t p → W u p
@@ -158,37 +158,37 @@ module _ (own : LibName) (given : List Label) (go : Inside) (spares : Spares own
         let o = onward-later own given u (record u { links = ls }) (later-links own u ls b.sound.next) (λ l c e. e) b in
         (o, plan-lift u (record u { links = ls }) p o.1 w)
 
-    settle-spares : (left : ℕ) (place : Span) (t : Tree) (s : State) → B s → Gave (Gives own given SettledAway s) (settle_to rs left place level t s)
-    unfolding settle_to
-    settle-spares zero place t s b = goes own given StepAway SettledAway s (step rs place level t s) (settled_by (λ l. too_many t place) place t) (step-spares place t s b) by
+    expand_uses-spares : (left : ℕ) (place : Span) (t : Tree) (s : State) → B s → Gave (Gives own given SettledAway s) (expand_uses_to rs left place level t s)
+    unfolding expand_uses_to
+    expand_uses-spares zero place t s b = goes own given StepAway SettledAway s (step rs place level t s) (planned_by (λ l. too_many t place) place t) (step-spares place t s b) by
       where
-        by : (x : Step) (u : State) → O s u → StepAway u x → Gave (Gives own given SettledAway u) (settled_by (λ l. too_many t place) place t x u)
+        by : (x : PlanOrUse) (u : State) → O s u → StepAway u x → Gave (Gives own given SettledAway u) (planned_by (λ l. too_many t place) place t x u)
         by (steps.Plan p) u o w = linked-keeps (λ v. Gives own given SettledAway u (record { place = place; form = t; plan = p }) v) t u (λ ls. links-spare u ls p o.0 w) p
         by (steps.Use l) u o w = tt
-    settle-spares (suc left) place t s b =
-        goes own given StepAway SettledAway s (step rs place level t s) (settled_by (λ l s'. after (next_form rs left place t l None s') (settle_to rs left (place_of t place) level)) place t) (step-spares place t s b)
-        (λ x u o w. by x u o w (λ y v j. settle-spares left (place_of t place) y v j))
+    expand_uses-spares (suc left) place t s b =
+        goes own given StepAway SettledAway s (step rs place level t s) (planned_by (λ l s'. after (next_form rs left place t l None s') (expand_uses_to rs left (place_of t place) level)) place t) (step-spares place t s b)
+        (λ x u o w. by x u o w (λ y v j. expand_uses-spares left (place_of t place) y v j))
       where
-        by : (x : Step) (u : State) → O s u → StepAway u x → ((y : Tree) (v : State) → B v → Gave (Gives own given SettledAway v) (settle_to rs left (place_of t place) level y v))
-            → Gave (Gives own given SettledAway u) (settled_by (λ l s'. after (next_form rs left place t l None s') (settle_to rs left (place_of t place) level)) place t x u)
+        by : (x : PlanOrUse) (u : State) → O s u → StepAway u x → ((y : Tree) (v : State) → B v → Gave (Gives own given SettledAway v) (expand_uses_to rs left (place_of t place) level y v))
+            → Gave (Gives own given SettledAway u) (planned_by (λ l s'. after (next_form rs left place t l None s') (expand_uses_to rs left (place_of t place) level)) place t x u)
         by (steps.Plan p) u o w next = linked-keeps (λ v. Gives own given SettledAway u (record { place = place; form = t; plan = p }) v) t u (λ ls. links-spare u ls p o.0 w) p
         by (steps.Use l) u o w next =
-            gave-after (λ y v. Later own u v × Tells u.keywords v.keywords) (Gives own given SettledAway u) (next_form rs left place t l None u) (settle_to rs left (place_of t place) level)
+            gave-after (λ y v. Later own u v × Tells u.keywords v.keywords) (Gives own given SettledAway u) (next_form rs left place t l None u) (expand_uses_to rs left (place_of t place) level)
             (gave-both (λ y v. Later own u v) (λ y v. Tells u.keywords v.keywords) (next_form rs left place t l None u) (next-later own rs left place t l None u o.0.sound.next) (next-told rs left place t l None u))
             (λ y v j. let n = onward-later own given u v j.0 j.1 o.0 in
-            gave-less (Gives own given SettledAway v) (Gives own given SettledAway u) (settle_to rs left (place_of t place) level y v) (next y v n.0) (λ d z g. (onward-then own given u v z n g.0, g.1)))
+            gave-less (Gives own given SettledAway v) (Gives own given SettledAway u) (expand_uses_to rs left (place_of t place) level y v) (next y v n.0) (λ d z g. (onward-then own given u v z n g.0, g.1)))
 
   -- A form.
 
   pub spares-form : (place : Span) (level depth : ℕ) (t : Tree) (s : State) → B s → Gave (Gives own given (C own given) s) (form_at go place level depth t s)
   unfolding form_at
   spares-form place level depth t s b =
-      gave-if (Gives own given (C own given) s) (nat_lt most_round depth) _ (after (settle go.earlier place level t s) (perform_settled go level depth)) (λ e. tt)
-      (λ e. goes own given (SettledAway go.earlier level) (C own given) s (settle go.earlier place level t s) (perform_settled go level depth) (settle-spares go.earlier level s.uses_left place t s b)
+      gave-if (Gives own given (C own given) s) (nat_lt most_round depth) _ (after (expand_uses go.earlier place level t s) (perform_settled go level depth)) (λ e. tt)
+      (λ e. goes own given (SettledAway go.earlier level) (C own given) s (expand_uses go.earlier place level t s) (perform_settled go level depth) (expand_uses-spares go.earlier level s.uses_left place t s b)
       (λ d u o w. spares-perform own given go spares d.place level depth d.form d.plan u o.0 w))
 
 -- So it is inside forms.
-pub inside-spares : (own : LibName) (given : List Label) (rs : List LibRecord) (room : ℕ) → Spares own given (inside rs room)
+pub inside-spares : (own : LibName) (given : List Label) (rs : List CompiledLibrary) (room : ℕ) → Spares own given (inside rs room)
 unfolding inside
 inside-spares own given rs zero = record {
   safe = inside-safe own given rs zero;

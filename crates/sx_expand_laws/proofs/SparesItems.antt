@@ -6,7 +6,7 @@ use Rattle.sx_base.specs.declared.fault.FaultKind.TheVariants as kind
 use Rattle.sx_base.specs.declared.library.LibName.{LibName}
 use Rattle.sx_base.specs.declared.name.Label.{Label}
 use Rattle.sx_tree.specs.Tree.{Tree}
-use Rattle.sx_core.specs.declared.record.LibRecord.{LibRecord}
+use Rattle.sx_core.specs.declared.record.CompiledLibrary.{CompiledLibrary}
 use Rattle.sx_shapes.specs.At.{place_of}
 use Rattle.sx_shapes.specs.declared.shape.BindingSpec.{BindingSpec}
 use Rattle.sx_shapes.specs.declared.shape.Shape.{Shape}
@@ -28,12 +28,12 @@ use Rattle.sx_expand.specs.Body.{splice, perform_item, item}
 use Rattle.sx_expand.specs.Body as expand_body
 use Rattle.sx_heads.specs.Depth.{deeper, most_round}
 use Rattle.sx_expand.specs.Inside.{Inside}
-use Rattle.sx_expand.specs.Keywords.{keyword, with_keywords, define_syntax}
-use Rattle.sx_expand.specs.Settle.{next_form, too_many, at_use, set_item_step, item_step_of, item_step, settle_item_to, settle_item}
-use Rattle.sx_expand.specs.Settle as settle
-use Rattle.sx_expand.specs.declared.settle.ItemStep.{ItemStep}
-use Rattle.sx_expand.specs.declared.settle.ItemStep.TheVariants as item_steps
-use Rattle.sx_expand.specs.declared.settle.SettledItem.{SettledItem}
+use Rattle.sx_expand.specs.Keywords.{expand_transformer, with_keywords, define_syntax}
+use Rattle.sx_expand.specs.ExpandUses.{next_form, too_many, at_use, set_item_step, item_step_of, item_step, expand_item_uses_to, expand_item_uses}
+use Rattle.sx_expand.specs.ExpandUses as expand_uses
+use Rattle.sx_expand.specs.declared.expand_uses.ItemOrUse.{ItemOrUse}
+use Rattle.sx_expand.specs.declared.expand_uses.ItemOrUse.TheVariants as item_steps
+use Rattle.sx_expand.specs.declared.expand_uses.PlannedItem.{PlannedItem}
 use Rattle.sx_expand_laws.specs.States.{Later}
 use Rattle.sx_expand_laws.proofs.Acts.{Gave, gave-after, gave-less, gave-both, gave-if}
 use Rattle.sx_expand_laws.proofs.BindingKeywords.{BindsKeywords}
@@ -145,12 +145,12 @@ module _ (own : LibName) (given : List Label) where
       spares-keyword-item : (depth : ℕ) (d : Taken) (t : Tree) (b : BindingSpec) (s : State) → B s → W s d → Gave (Gives own given W s) (after (define_syntax go at depth d t b s) (λ _. give d))
       unfolding define_syntax
       spares-keyword-item depth d t b s h k =
-          gave-after (λ x u. O s u) (Gives own given W s) (after (define_keyword at d t b s) (keyword go at.place at.level depth)) (λ _. give d)
-          (gave-after (λ x u. BindsKeywords own at.frame s (x ∷ []) u × Tells s.keywords u.keywords) (λ x u. O s u) (define_keyword at d t b s) (keyword go at.place at.level depth)
+          gave-after (λ x u. O s u) (Gives own given W s) (after (define_keyword at d t b s) (expand_transformer go at.place at.level depth)) (λ _. give d)
+          (gave-after (λ x u. BindsKeywords own at.frame s (x ∷ []) u × Tells s.keywords u.keywords) (λ x u. O s u) (define_keyword at d t b s) (expand_transformer go at.place at.level depth)
           (gave-both (λ x u. BindsKeywords own at.frame s (x ∷ []) u) (λ x u. Tells s.keywords u.keywords) (define_keyword at d t b s) (defines-keyword own s at s h.sound.next low d t b) (defined-told d t b s))
           (λ x u j.
           let o = onward-but own given at.frame (is_top at.kind) [] [] s u j.0.later (j.0.adds (is_top at.kind)) j.1 h in
-          gave-less (Gives own given (N own given go spares) u) (λ y v. O s v) (keyword go at.place at.level depth x u) (spares-keyword own given go spares at.place at.level depth x u o.0) (λ y v g. onward-then own given s u v o g.0)))
+          gave-less (Gives own given (N own given go spares) u) (λ y v. O s v) (expand_transformer go at.place at.level depth x u) (spares-keyword own given go spares at.place at.level depth x u o.0) (λ y v g. onward-then own given s u v o g.0)))
           (λ x u o. (o, unspent-all own s u (taken_labels d) o.1 k))
 
       spares-performs : (depth : ℕ) (d : Taken) (t : Tree) (i : Item) (s : State) → B s → W s d → Gave (Gives own given W s) (perform_item go at depth d t i s)
@@ -166,60 +166,60 @@ module _ (own : LibName) (given : List Label) where
 
   -- Forms of a body are settled.
 
-  module _ (rs : List LibRecord) (depth : ℕ) where
-    set-spares : (at : BodyAt) (d : Taken) (t : Tree) (l : Label) (b : Bool) (s : State) → (is_top at.kind ≡ true → at.level ≡ 0) → B s → W s d → Gave (Gives own given (λ u (p : Taken × ItemStep). W u p.0) s) (set_item_step at depth d t l b s)
+  module _ (rs : List CompiledLibrary) (depth : ℕ) where
+    set-spares : (at : BodyAt) (d : Taken) (t : Tree) (l : Label) (b : Bool) (s : State) → (is_top at.kind ≡ true → at.level ≡ 0) → B s → W s d → Gave (Gives own given (λ u (p : Taken × ItemOrUse). W u p.0) s) (set_item_step at depth d t l b s)
     set-spares at d t l true s low h k = (onward-self own given s h, k)
     set-spares at d t l false s low h k = (onward-self own given s h, waits-so at low depth d t s k)
 
-    steps-spare : (at : BodyAt) (t : Tree) (d : Taken) (i : Item) (s : State) → (is_top at.kind ≡ true → at.level ≡ 0) → B s → W s d → Gave (Gives own given (λ u (p : Taken × ItemStep). W u p.0) s) (item_step_of rs at depth t d i s)
+    steps-spare : (at : BodyAt) (t : Tree) (d : Taken) (i : Item) (s : State) → (is_top at.kind ≡ true → at.level ≡ 0) → B s → W s d → Gave (Gives own given (λ u (p : Taken × ItemOrUse). W u p.0) s) (item_step_of rs at depth t d i s)
     steps-spare at t d items.Nothing s low h k = (onward-self own given s h, k)
     steps-spare at t d (items.Forms forms) s low h k = (onward-self own given s h, k)
     steps-spare at t d (items.Keyword b) s low h k = (onward-self own given s h, k)
     steps-spare at t d (items.Keywords recursive bs forms) s low h k = (onward-self own given s h, k)
     steps-spare at t d (items.Use l) s low h k = (onward-self own given s h, k)
     steps-spare at t d (items.SetUse l) s low h k =
-        gave-after (λ b u. Later own s u × Tells s.keywords u.keywords) (Gives own given (λ u (p : Taken × ItemStep). W u p.0) s) (asks_variable rs (place_of t at.place) l s) (set_item_step at depth d t l)
+        gave-after (λ b u. Later own s u × Tells s.keywords u.keywords) (Gives own given (λ u (p : Taken × ItemOrUse). W u p.0) s) (asks_variable rs (place_of t at.place) l s) (set_item_step at depth d t l)
         (gave-both (λ b u. Later own s u) (λ b u. Tells s.keywords u.keywords) (asks_variable rs (place_of t at.place) l s) (asks-later own rs (place_of t at.place) l s h.sound.next) (variable-told rs (place_of t at.place) l s))
         (λ b u j. let o = onward-later own given s u j.0 j.1 h in
-        gave-less (Gives own given (λ v (p : Taken × ItemStep). W v p.0) u) (Gives own given (λ v (p : Taken × ItemStep). W v p.0) s) (set_item_step at depth d t l b u)
+        gave-less (Gives own given (λ v (p : Taken × ItemOrUse). W v p.0) u) (Gives own given (λ v (p : Taken × ItemOrUse). W v p.0) s) (set_item_step at depth d t l b u)
         (set-spares at d t l b u low o.0 (unspent-all own s u (taken_labels d) o.1 k)) (λ p v g. (onward-then own given s u v o g.0, g.1)))
 
-    pub step-spares : (at : BodyAt) (d : Taken) (t : Tree) (s : State) → (is_top at.kind ≡ true → at.level ≡ 0) → B s → W s d → Gave (Gives own given (λ u (p : Taken × ItemStep). W u p.0) s) (item_step rs at depth d t s)
+    pub step-spares : (at : BodyAt) (d : Taken) (t : Tree) (s : State) → (is_top at.kind ≡ true → at.level ≡ 0) → B s → W s d → Gave (Gives own given (λ u (p : Taken × ItemOrUse). W u p.0) s) (item_step rs at depth d t s)
     unfolding item_step
     step-spares at d t s low h k =
-        goes own given (λ u (p : Taken × Item). W u p.0) (λ u (p : Taken × ItemStep). W u p.0) s (item_plan at depth d t s) (λ p. item_step_of rs at depth t p.0 p.1) (spares-plan at low depth d t s h k)
+        goes own given (λ u (p : Taken × Item). W u p.0) (λ u (p : Taken × ItemOrUse). W u p.0) s (item_plan at depth d t s) (λ p. item_step_of rs at depth t p.0 p.1) (spares-plan at low depth d t s h k)
         (λ p u o w. steps-spare at t p.0 p.1 u low o.0 w)
 
     -- where the form stands is the same body
-    abbrev pub Settles : BodyAt → State → Taken × SettledItem → Type 0
+    abbrev pub Settles : BodyAt → State → Taken × PlannedItem → Type 0
     Settles at u p = W u p.0 × IsPlaced at p.1.at
 
-    pub settle-spares : (left : ℕ) (at : BodyAt) (d : Taken) (t : Tree) (s : State) → (is_top at.kind ≡ true → at.level ≡ 0) → B s → W s d → Gave (Gives own given (Settles at) s) (settle_item_to rs left at depth d t s)
-    unfolding settle_item_to
-    settle-spares zero at d t s low h k =
-        goes own given (λ u (p : Taken × ItemStep). W u p.0) (Settles at) s (item_step rs at depth d t s) (settle.item_by (λ done l. too_many t at.place) at t) (step-spares at d t s low h k) by
+    pub expand_uses-spares : (left : ℕ) (at : BodyAt) (d : Taken) (t : Tree) (s : State) → (is_top at.kind ≡ true → at.level ≡ 0) → B s → W s d → Gave (Gives own given (Settles at) s) (expand_item_uses_to rs left at depth d t s)
+    unfolding expand_item_uses_to
+    expand_uses-spares zero at d t s low h k =
+        goes own given (λ u (p : Taken × ItemOrUse). W u p.0) (Settles at) s (item_step rs at depth d t s) (expand_uses.item_by (λ done l. too_many t at.place) at t) (step-spares at d t s low h k) by
       where
-        by : (p : Taken × ItemStep) (u : State) → O s u → W u p.0 → Gave (Gives own given (Settles at) u) (settle.item_by (λ done l. too_many t at.place) at t p u)
+        by : (p : Taken × ItemOrUse) (u : State) → O s u → W u p.0 → Gave (Gives own given (Settles at) u) (expand_uses.item_by (λ done l. too_many t at.place) at t p u)
         by (e, item_steps.Item i) u o w = (onward-self own given u o.0, (w, (at.place, refl)))
         by (e, item_steps.Use l) u o w = tt
-    settle-spares (suc left) at d t s low h k =
-        goes own given (λ u (p : Taken × ItemStep). W u p.0) (Settles at) s (item_step rs at depth d t s) (settle.item_by (λ taken l s'. after (next_form rs left at.place t l (Some at.frame) s') (settle_item_to rs left (at_use at t) depth taken)) at t) (step-spares at d t s low h k)
-        (λ p u o w. by p u o w (λ e x v b j. settle-spares left (at_use at t) e x v low b j))
+    expand_uses-spares (suc left) at d t s low h k =
+        goes own given (λ u (p : Taken × ItemOrUse). W u p.0) (Settles at) s (item_step rs at depth d t s) (expand_uses.item_by (λ taken l s'. after (next_form rs left at.place t l (Some at.frame) s') (expand_item_uses_to rs left (at_use at t) depth taken)) at t) (step-spares at d t s low h k)
+        (λ p u o w. by p u o w (λ e x v b j. expand_uses-spares left (at_use at t) e x v low b j))
       where
-        by : (p : Taken × ItemStep) (u : State) → O s u → W u p.0 → ((e : Taken) (x : Tree) (v : State) → B v → W v e → Gave (Gives own given (Settles (at_use at t)) v) (settle_item_to rs left (at_use at t) depth e x v))
-            → Gave (Gives own given (Settles at) u) (settle.item_by (λ taken l s'. after (next_form rs left at.place t l (Some at.frame) s') (settle_item_to rs left (at_use at t) depth taken)) at t p u)
+        by : (p : Taken × ItemOrUse) (u : State) → O s u → W u p.0 → ((e : Taken) (x : Tree) (v : State) → B v → W v e → Gave (Gives own given (Settles (at_use at t)) v) (expand_item_uses_to rs left (at_use at t) depth e x v))
+            → Gave (Gives own given (Settles at) u) (expand_uses.item_by (λ taken l s'. after (next_form rs left at.place t l (Some at.frame) s') (expand_item_uses_to rs left (at_use at t) depth taken)) at t p u)
         by (e, item_steps.Item i) u o w next = (onward-self own given u o.0, (w, (at.place, refl)))
         by (e, item_steps.Use l) u o w next =
-            gave-after (λ x v. Later own u v × Tells u.keywords v.keywords) (Gives own given (Settles at) u) (next_form rs left at.place t l (Some at.frame) u) (settle_item_to rs left (at_use at t) depth e)
+            gave-after (λ x v. Later own u v × Tells u.keywords v.keywords) (Gives own given (Settles at) u) (next_form rs left at.place t l (Some at.frame) u) (expand_item_uses_to rs left (at_use at t) depth e)
             (gave-both (λ x v. Later own u v) (λ x v. Tells u.keywords v.keywords) (next_form rs left at.place t l (Some at.frame) u) (next-later own rs left at.place t l (Some at.frame) u o.0.sound.next) (next-told rs left at.place t l (Some at.frame) u))
             (λ x v j. let n = onward-later own given u v j.0 j.1 o.0 in
-            gave-less (Gives own given (Settles (at_use at t)) v) (Gives own given (Settles at) u) (settle_item_to rs left (at_use at t) depth e x v) (next e x v n.0 (unspent-all own u v (taken_labels e) n.1 w))
+            gave-less (Gives own given (Settles (at_use at t)) v) (Gives own given (Settles at) u) (expand_item_uses_to rs left (at_use at t) depth e x v) (next e x v n.0 (unspent-all own u v (taken_labels e) n.1 w))
             (λ y z g. (onward-then own given u v z n g.0, (g.1.0, (g.1.1.0, g.1.1.1)))))
 
   module _ (go : Inside) (spares : Spares own given go) where
     pub spares-item : (at : BodyAt) (depth : ℕ) (d : Taken) (t : Tree) (s : State) → (is_top at.kind ≡ true → at.level ≡ 0) → B s → W s d → Gave (Gives own given W s) (item go at depth d t s)
     unfolding item
     spares-item at depth d t s low h k =
-        gave-if (Gives own given W s) (nat_lt most_round depth) _ (after (settle_item go.earlier at depth d t s) (expand_body.perform_settled go depth)) (λ e. tt)
-        (λ e. goes own given (Settles go.earlier depth at) W s (settle_item go.earlier at depth d t s) (expand_body.perform_settled go depth) (settle-spares go.earlier depth s.uses_left at d t s low h k)
+        gave-if (Gives own given W s) (nat_lt most_round depth) _ (after (expand_item_uses go.earlier at depth d t s) (expand_body.perform_settled go depth)) (λ e. tt)
+        (λ e. goes own given (Settles go.earlier depth at) W s (expand_item_uses go.earlier at depth d t s) (expand_body.perform_settled go depth) (expand_uses-spares go.earlier depth s.uses_left at d t s low h k)
         (λ p u o w. subst (λ (other : BodyAt). Gave (Gives own given W u) (perform_item go other depth p.0 p.1.form p.1.item u)) (sym w.1.1) (spares-performs (record at { place = w.1.0 }) low go spares depth p.0 p.1.form p.1.item u o.0 w.0)))

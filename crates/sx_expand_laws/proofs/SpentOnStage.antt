@@ -16,7 +16,7 @@ use Rattle.sx_core.specs.Bindings.{bound_to}
 use Rattle.sx_core.specs.Core.{PlainCore}
 use Rattle.sx_core.specs.Labels.{same_label}
 use Rattle.sx_core.specs.declared.core_form.CoreForm.{CoreForm}
-use Rattle.sx_core.specs.declared.record.LibRecord.{LibRecord}
+use Rattle.sx_core.specs.declared.record.CompiledLibrary.{CompiledLibrary}
 use Rattle.sx_core_laws.proofs.Decisions.{label_decides}
 use Rattle.sx_value.specs.ToSyntax.{Reading, to_syntax}
 use Rattle.sx_value.specs.declared.value.Value.{Value}
@@ -25,7 +25,7 @@ use Rattle.sx_eval.specs.State.{Outcome, done, faulted, unfit}
 use Rattle.sx_stage.specs.Libraries.{has_library, has_all, libraries_of, wanted}
 use Rattle.sx_stage.specs.Running.{ended_at, with_codes_of, outcome_of, evaluate, outcome_of_call, call, outcome_of_lines, library_ended, evaluate_library, evaluate_wanted, evaluate_all, need}
 use Rattle.sx_stage.specs.Stage.{PlainStage, fresh_mark, keyword_at, with_keyword, expression_in}
-use Rattle.sx_stage.specs.Transformers.{is_transformer, transformer_only, transformer, value_in, import_keyword, value_or, keyword_value, is_variable, is_variable_transformer, finish_keyword}
+use Rattle.sx_stage.specs.Transformers.{is_transformer, transformer_only, transformer, value_in, import_keyword, value_or, keyword_value, is_variable, is_variable_transformer, evaluate_transformer}
 use Rattle.sx_stage.specs.Uses.{procedure_in, call_procedure, tree_at, read_answer, transform, cut, transform_and_cut, transform_marked, used}
 use Rattle.sx_stage.specs.declared.keyword.Keyword.{Keyword}
 use Rattle.sx_stage.specs.declared.keyword.Keyword.TheVariants as keyword
@@ -37,7 +37,7 @@ use Rattle.sx_standing.specs.RecordUses.{at_state, defines_type, count_record_ty
 use Rattle.sx_standing.specs.Uses.{use_keyword, asks_variable, macro_expression}
 use Rattle.sx_heads.specs.declared.plan.KeywordUse.{KeywordUse}
 use Rattle.sx_heads.specs.declared.plan.KeywordUse.TheVariants as keyword_use
-use Rattle.sx_expand.specs.Settle.{used_form, next_form}
+use Rattle.sx_expand.specs.ExpandUses.{used_form, next_form}
 use Rattle.sx_shapes.specs.At.{place_of}
 use Rattle.sx_expand_laws.proofs.Acts.{Gave, gave-after}
 use Rattle.sx_expand_laws.proofs.Kept.{found-same, found-other}
@@ -83,7 +83,7 @@ evaluate-told place c s = by (outcome_of c s)
     by (faulted f t n) = tt
     by unfit = tt
 
-library-told : (place : Span) (r : LibRecord) (s : PlainStage) → EndsTold s (evaluate_library place r s)
+library-told : (place : Span) (r : CompiledLibrary) (s : PlainStage) → EndsTold s (evaluate_library place r s)
 unfolding evaluate_library
 library-told place r s = by (outcome_of_lines r.run s)
   where
@@ -92,23 +92,23 @@ library-told place r s = by (outcome_of_lines r.run s)
     by (faulted f t n) = tt
     by unfit = tt
 
-wanted-told : (place : Span) (ks : List LibName) (r : LibRecord) (s : PlainStage) → EndsTold s (evaluate_wanted place ks r s)
+wanted-told : (place : Span) (ks : List LibName) (r : CompiledLibrary) (s : PlainStage) → EndsTold s (evaluate_wanted place ks r s)
 unfolding evaluate_wanted
 wanted-told place ks r s = if-told s (has_library ks r.name) _ _ (if-told s (has_library s.evaluated r.name) _ _ (λ k c e. e) (library-told place r s)) (λ k c e. e)
 
-all-told : (place : Span) (ks : List LibName) (rs : List LibRecord) (s : PlainStage) → EndsTold s (evaluate_all place ks rs s)
+all-told : (place : Span) (ks : List LibName) (rs : List CompiledLibrary) (s : PlainStage) → EndsTold s (evaluate_all place ks rs s)
 unfolding evaluate_all
 all-told place ks [] s = λ k c e. e
 all-told place ks (r ∷ rs) s = then-told s (evaluate_wanted place ks r s) (λ _. evaluate_all place ks rs) (wanted-told place ks r s) (λ _ t. all-told place ks rs t)
 
-need-told : (place : Span) (rs : List LibRecord) (c : PlainCore) (s : PlainStage) → EndsTold s (need place rs c s)
+need-told : (place : Span) (rs : List CompiledLibrary) (c : PlainCore) (s : PlainStage) → EndsTold s (need place rs c s)
 unfolding need
 need-told place rs c s = if-told s (has_all s.evaluated (libraries_of c)) _ _ (λ k d e. e) (all-told place (wanted rs (libraries_of c)) rs s)
 
 only-told : (place : Span) (v : Value) (s : PlainStage) → EndsTold s (transformer_only place v s)
 only-told place v s = if-told s (is_transformer v) _ _ (λ k c e. e) tt
 
-transformer-told : (place : Span) (rs : List LibRecord) (c : PlainCore) (s : PlainStage) → EndsTold s (transformer place rs c s)
+transformer-told : (place : Span) (rs : List CompiledLibrary) (c : PlainCore) (s : PlainStage) → EndsTold s (transformer place rs c s)
 unfolding transformer
 transformer-told place rs c s =
     then-told s (need place rs c s) (λ _ t. after (evaluate place c t) (λ p. transformer_only place p.0)) (need-told place rs c s)
@@ -134,12 +134,12 @@ kept-told l s (Ok p) h = λ k c e. by k c (put-told p.1.keywords l (keyword.Kept
     by k c (inr x) = let bad = x.1 in absurd (cc)
 kept-told l s (Err f) h = tt
 
-import-told : (place : Span) (rs : List LibRecord) (l : Label) (e : Option PlainCore) (s : PlainStage) → EndsTold s (import_keyword place rs l e s)
+import-told : (place : Span) (rs : List CompiledLibrary) (l : Label) (e : Option PlainCore) (s : PlainStage) → EndsTold s (import_keyword place rs l e s)
 unfolding import_keyword
 import-told place rs l None s = tt
 import-told place rs l (Some c) s = kept-told l s (transformer place rs c s) (transformer-told place rs c s)
 
-value-told : (place : Span) (rs : List LibRecord) (l : Label) (e : Option PlainCore) (s : PlainStage) → EndsTold s (keyword_value place rs l e s)
+value-told : (place : Span) (rs : List CompiledLibrary) (l : Label) (e : Option PlainCore) (s : PlainStage) → EndsTold s (keyword_value place rs l e s)
 unfolding keyword_value
 value-told place rs l e s = by (keyword_at s.keywords l)
   where
@@ -148,7 +148,7 @@ value-told place rs l e s = by (keyword_at s.keywords l)
     by (Some (keyword.Waiting at)) = tt
     by (Some (keyword.Kept x v)) = λ k c e. e
 
-asks-told : (place : Span) (rs : List LibRecord) (l : Label) (e : Option PlainCore) (s : PlainStage) → EndsTold s (is_variable_transformer place rs l e s)
+asks-told : (place : Span) (rs : List CompiledLibrary) (l : Label) (e : Option PlainCore) (s : PlainStage) → EndsTold s (is_variable_transformer place rs l e s)
 unfolding is_variable_transformer
 asks-told place rs l e s = then-told s (keyword_value place rs l e s) (λ v. give (is_variable v)) (value-told place rs l e s) (λ v t k c x. x)
 
@@ -179,7 +179,7 @@ marked-told : (place : Span) (v : Value) (form : Tree) (frame : Option FrameNo) 
 unfolding transform_marked
 marked-told place v form frame m s = then-told s (transform_and_cut place v (enter m form) s) (λ t. give (leave m frame t)) (cut-told place v (enter m form) s) (λ t u k c e. e)
 
-used-told : (place : Span) (rs : List LibRecord) (form : Tree) (l : Label) (e : Option PlainCore) (frame : Option FrameNo) (s : PlainStage) → EndsTold s (used place rs form l e frame s)
+used-told : (place : Span) (rs : List CompiledLibrary) (form : Tree) (l : Label) (e : Option PlainCore) (frame : Option FrameNo) (s : PlainStage) → EndsTold s (used place rs form l e frame s)
 unfolding used
 used-told place rs form l e frame s =
     then-told s (keyword_value place rs l e s) (λ v t. after (fresh_mark t) (transform_marked place v form frame)) (value-told place rs l e s)
@@ -191,7 +191,7 @@ on-stage : {A : Type 0} (s : State) (r : Result (A × PlainStage) Fault) → End
 on-stage s (Ok p) h = h
 on-stage s (Err f) h = tt
 
-pub use-told : (rs : List LibRecord) (place : Span) (t : Tree) (l : Label) (frame : Option FrameNo) (s : State) → Gave (λ a u. Tells s.keywords u.keywords) (use_keyword rs place t l frame s)
+pub use-told : (rs : List CompiledLibrary) (place : Span) (t : Tree) (l : Label) (frame : Option FrameNo) (s : State) → Gave (λ a u. Tells s.keywords u.keywords) (use_keyword rs place t l frame s)
 unfolding use_keyword
 use-told rs place t l frame s = on-stage s (used place rs t l (macro_expression (bound_to s.bindings l)) frame (stage_of s)) (used-told place rs t l (macro_expression (bound_to s.bindings l)) frame (stage_of s))
 
@@ -219,21 +219,21 @@ record-kept place t f frame s =
     let m : Mark = record { 0 = s.names } in
     marked-kept place t f frame m (record s { names = record { library = s.names.library; number = s.names.number + 1 } })
 
-form-told : (rs : List LibRecord) (place : Span) (t : Tree) (k : KeywordUse) (frame : Option FrameNo) (s : State) → Gave (λ a u. Tells s.keywords u.keywords) (used_form rs place t k frame s)
+form-told : (rs : List CompiledLibrary) (place : Span) (t : Tree) (k : KeywordUse) (frame : Option FrameNo) (s : State) → Gave (λ a u. Tells s.keywords u.keywords) (used_form rs place t k frame s)
 form-told rs place t (keyword_use.Macro l) frame s = use-told rs place t l frame s
 form-told rs place t (keyword_use.Record f) frame s = record-kept place t f frame s
 
-pub next-told : (rs : List LibRecord) (left : ℕ) (place : Span) (t : Tree) (k : KeywordUse) (frame : Option FrameNo) (s : State) → Gave (λ a u. Tells s.keywords u.keywords) (next_form rs left place t k frame s)
+pub next-told : (rs : List CompiledLibrary) (left : ℕ) (place : Span) (t : Tree) (k : KeywordUse) (frame : Option FrameNo) (s : State) → Gave (λ a u. Tells s.keywords u.keywords) (next_form rs left place t k frame s)
 unfolding next_form
 next-told rs left place t k frame s = form-told rs (place_of t place) t k frame (record s { uses_left = left })
 
-pub variable-told : (rs : List LibRecord) (place : Span) (l : Label) (s : State) → Gave (λ a u. Tells s.keywords u.keywords) (asks_variable rs place l s)
+pub variable-told : (rs : List CompiledLibrary) (place : Span) (l : Label) (s : State) → Gave (λ a u. Tells s.keywords u.keywords) (asks_variable rs place l s)
 unfolding asks_variable
 variable-told rs place l s = on-stage s (is_variable_transformer place rs l (macro_expression (bound_to s.bindings l)) (stage_of s)) (asks-told place rs l (macro_expression (bound_to s.bindings l)) (stage_of s))
 
 -- a keyword that is finished
-pub finish-told : (rs : List LibRecord) (place : Span) (l : Label) (c : PlainCore) (s : State) → Gave (λ a u. TellsBut l c s.keywords u.keywords) (standing.finish_keyword rs place l c s)
-unfolding standing.finish_keyword finish_keyword
+pub finish-told : (rs : List CompiledLibrary) (place : Span) (l : Label) (c : PlainCore) (s : State) → Gave (λ a u. TellsBut l c s.keywords u.keywords) (standing.evaluate_transformer rs place l c s)
+unfolding standing.evaluate_transformer evaluate_transformer
 finish-told rs place l c s = by (transformer place rs c (stage_of s)) (transformer-told place rs c (stage_of s))
   where
     by : (r : Result (Value × PlainStage) Fault) → EndsTold (stage_of s) r → Gave (λ a u. TellsBut l c s.keywords u.keywords) (staged s (after r (λ v t. give (tt {0}) (with_keyword l (keyword.Kept (Some c) v) t))))

@@ -8,17 +8,17 @@ use Rattle.sx_core.specs.Labels.{same_label}
 use Rattle.sx_core_laws.proofs.Decisions.{label_decides}
 use Rattle.sx_value.specs.declared.value.Value.{Value}
 use Rattle.sx_stage.specs.Stage.{PlainStage, keyword_at, with_keyword, expression_in, expression_of}
-use Rattle.sx_stage.specs.Transformers.{transformer, finish_keyword}
+use Rattle.sx_stage.specs.Transformers.{transformer, evaluate_transformer}
 use Rattle.sx_stage.specs.declared.keyword.Keyword.{Keyword}
 use Rattle.sx_stage.specs.declared.keyword.Keyword.TheVariants as keyword
-use Rattle.sx_stage_laws.specs.Grows.{Grows, By, GrowsBy}
+use Rattle.sx_stage_laws.specs.Grows.{StageGrowth, By, GrowsBy}
 use Rattle.sx_stage_laws.proofs.Growing.{Stays, stays_transformer, variable_grows}
 use Rattle.sx_stage_laws.proofs.Calling.{use_grows}
 use Rattle.sx_expand_laws.specs.Stages.{IsKeptOn, StageLater, EndsLater, EndsKept, StageGrows}
 use Rattle.sx_expand_laws.proofs.Kept.{found-same, found-other}
 
 -- an expression is that of a keyword that is kept
-kept : (s t : PlainStage) → Grows s t → (l : Label) → IsKeptOn l s → IsKeptOn l t
+kept : (s t : PlainStage) → StageGrowth s t → (l : Label) → IsKeptOn l s → IsKeptOn l t
 kept s t h l k = by (keyword_at s.keywords l) refl k.1
   where
     by : (o : Option Keyword) → keyword_at s.keywords l ≡ o → expression_in o ≡ Some k.0 → IsKeptOn l t
@@ -26,7 +26,7 @@ kept s t h l k = by (keyword_at s.keywords l) refl k.1
     by (Some (keyword.Waiting place)) e x = absurd (cc)
     by (Some (keyword.Kept c v)) e x = (k.0, ap expression_in (h.kept l c v e) ∙ x)
 
-grown : (s t : PlainStage) → Grows s t → StageLater s t
+grown : (s t : PlainStage) → StageGrowth s t → StageLater s t
 grown s t h = record { frames = h.frames; library = h.library; up = h.names; kept = kept s t h }
 
 ends : {A : Type 0} (s : PlainStage) (r : Result (A × PlainStage) Fault) → GrowsBy s r → EndsLater s r
@@ -54,7 +54,7 @@ keeps l c (Ok p) = (c, here l c p.0 p.1)
 keeps l c (Err f) = tt
 
 pub stage-grows : StageGrows
-unfolding finish_keyword
+unfolding evaluate_transformer
 stage-grows = record {
   uses = λ place rs t l e frame s. ends s _ (use_grows place rs t l e frame s);
   asks = λ place rs l e s. ends s _ (variable_grows place rs l e s);

@@ -15,7 +15,7 @@ use Rattle.sx_core.specs.Bindings.{bound_to}
 use Rattle.sx_core.specs.Labels.{same_label}
 use Rattle.sx_core.specs.declared.binding.Binding.{Binding}
 use Rattle.sx_core.specs.declared.binding.Binding.TheVariants as binding
-use Rattle.sx_core.specs.declared.record.LibRecord.{LibRecord}
+use Rattle.sx_core.specs.declared.record.CompiledLibrary.{CompiledLibrary}
 use Rattle.sx_core_laws.specs.Words.{Each, Among}
 use Rattle.sx_core_laws.specs.Records.{defined}
 use Rattle.sx_core_laws.specs.Follows.{IsOwn, IsRecorded, names_of, bound_labels, top_label, tops}
@@ -35,7 +35,7 @@ Told own given (l, binding.Macro level expression) = IsForeign own l.0
 Told own given (l, binding.Core form) = ⊥
 Told own given (l, binding.Primitive o) = ⊥
 
-pub names-append : (rs : List LibRecord) (r : LibRecord) → names_of (rs ++ r ∷ []) ≡ names_of rs ++ r.name ∷ []
+pub names-append : (rs : List CompiledLibrary) (r : CompiledLibrary) → names_of (rs ++ r ∷ []) ≡ names_of rs ++ r.name ∷ []
 names-append [] r = refl
 names-append (x ∷ rs) r = ap (λ ns. x.name ∷ ns) (names-append rs r)
 
@@ -64,7 +64,7 @@ module _ (own : LibName) (given : List Label) where
   tops-told ((l, binding.Primitive o) ∷ bs) k t f = elim k.0 [ ]
 
   -- behind records that don't have this name, those that follow bind what is told
-  bindings-told : (earlier rs : List LibRecord) → AllServe earlier rs → (Among (names_of rs) own → ⊥) → ((l : Label) → Among (flat_map defined rs) l → Among given l) → Each (Told own given) (bindings_of rs)
+  bindings-told : (earlier rs : List CompiledLibrary) → AllServe earlier rs → (Among (names_of rs) own → ⊥) → ((l : Label) → Among (flat_map defined rs) l → Among given l) → Each (Told own given) (bindings_of rs)
   bindings-told earlier [] h new w = tt
   bindings-told earlier (r ∷ rs) h new w = each-append (Told own given) r.bindings (bindings_of rs)
       (tops-told r.bindings h.0.kinds (λ l a. w l (among-first (defined r) (flat_map defined rs) l (each-at (Among (defined r)) (tops r) l h.0.tops_defined a)))
@@ -86,7 +86,7 @@ module _ (own : LibName) (given : List Label) where
 -- What the library begins with.
 
 -- what is bound is told
-started-told : (own : LibName) (records : List LibRecord) (imports : List (List ℕ × Label)) (codes : Codes) → IsReady own records
+started-told : (own : LibName) (records : List CompiledLibrary) (imports : List (List ℕ × Label)) (codes : Codes) → IsReady own records
     → (l : Label) (b : Binding) → bound_to (started own records imports codes).bindings l ≡ Some b → Told own (flat_map defined records) (l, b)
 unfolding started
 started-told own records imports codes h l b e =
@@ -100,11 +100,11 @@ told-foreign own given l (binding.Macro level expression) h = h
 told-foreign own given l (binding.Core form) h = elim h [ ]
 told-foreign own given l (binding.Primitive o) h = elim h [ ]
 
-pub started-foreign : (own : LibName) (records : List LibRecord) (imports : List (List ℕ × Label)) (codes : Codes) → IsReady own records
+pub started-foreign : (own : LibName) (records : List CompiledLibrary) (imports : List (List ℕ × Label)) (codes : Codes) → IsReady own records
     → (l : Label) (b : Binding) → bound_to (started own records imports codes).bindings l ≡ Some b → IsForeign own l.0
 started-foreign own records imports codes h l b e = told-foreign own (flat_map defined records) l b (started-told own records imports codes h l b e)
 
-pub started-sound : (own : LibName) (records : List LibRecord) (imports : List (List ℕ × Label)) (codes : Codes) → IsReady own records → Sound own (flat_map defined records) (started own records imports codes)
+pub started-sound : (own : LibName) (records : List CompiledLibrary) (imports : List (List ℕ × Label)) (codes : Codes) → IsReady own records → Sound own (flat_map defined records) (started own records imports codes)
 unfolding started
 started-sound own records imports codes h = record {
   here = refl;
@@ -115,12 +115,12 @@ started-sound own records imports codes h = record {
   numbered = λ l b o e. absurd (started-foreign own records imports codes h l b e o);
 }
 
-pub started-scope : (own : LibName) (records : List LibRecord) (imports : List (List ℕ × Label)) (codes : Codes) → (started own records imports codes).scope ≡ []
+pub started-scope : (own : LibName) (records : List CompiledLibrary) (imports : List (List ℕ × Label)) (codes : Codes) → (started own records imports codes).scope ≡ []
 unfolding started
 started-scope own records imports codes = refl
 
 -- there is no variable of the library yet
-pub started-indices : (own : LibName) (records : List LibRecord) (imports : List (List ℕ × Label)) (codes : Codes) → IsReady own records → IndicesApart own (started own records imports codes)
+pub started-indices : (own : LibName) (records : List CompiledLibrary) (imports : List (List ℕ × Label)) (codes : Codes) → IsReady own records → IndicesApart own (started own records imports codes)
 started-indices own records imports codes h = record {
   below = λ l v i o e k. absurd (started-foreign own records imports codes h l (binding.Variable v) e o);
   apart = λ l m v w i o q e d k r. absurd (started-foreign own records imports codes h l (binding.Variable v) e o);
@@ -129,7 +129,7 @@ started-indices own records imports codes h = record {
 -- Where what it imports is there.
 
 -- the rows of records that serve
-rows-there : (all earlier rs : List LibRecord) → AllServe earlier rs → ((k : LibName) → Among (names_of earlier) k → Among (names_of all) k) → ((k : LibName) → Among (names_of rs) k → Among (names_of all) k)
+rows-there : (all earlier rs : List CompiledLibrary) → AllServe earlier rs → ((k : LibName) → Among (names_of earlier) k → Among (names_of all) k) → ((k : LibName) → Among (names_of rs) k → Among (names_of all) k)
     → Each (λ (r : FrameRow). IsThere all r.label.0.library) (rows_of rs)
 rows-there all earlier [] h before these = tt
 rows-there all earlier (r ∷ rs) h before these = each-append (λ (f : FrameRow). IsThere all f.label.0.library) r.frames (rows_of rs)
@@ -150,20 +150,20 @@ rows-there all earlier (r ∷ rs) h before these = each-append (λ (f : FrameRow
     both k (inr (inl e)) = these k (inl e)
     both k (inr (inr a)) = elim a [ ]
 
-imports-there : (records : List LibRecord) (f : FrameNo) (es : List (List ℕ × Label)) → Each (λ (e : List ℕ × Label). IsThere records e.1.0.library) es → Each (λ (r : FrameRow). IsThere records r.label.0.library) (map (import_row f) es)
+imports-there : (records : List CompiledLibrary) (f : FrameNo) (es : List (List ℕ × Label)) → Each (λ (e : List ℕ × Label). IsThere records e.1.0.library) es → Each (λ (r : FrameRow). IsThere records r.label.0.library) (map (import_row f) es)
 imports-there records f [] h = tt
 imports-there records f (e ∷ es) h = (h.0, imports-there records f es h.1)
 
 -- the names of the implementation are there everywhere
-numbers-there : (records : List LibRecord) (ns : List ℕ) → Each (λ (r : FrameRow). IsThere records r.label.0.library) (map core_row ns)
+numbers-there : (records : List CompiledLibrary) (ns : List ℕ) → Each (λ (r : FrameRow). IsThere records r.label.0.library) (map core_row ns)
 numbers-there records [] = tt
 numbers-there records (n ∷ ns) = (inr (inl refl), numbers-there records ns)
 
-introduced-there : (records : List LibRecord) → Each (λ (r : FrameRow). IsThere records r.label.0.library) record_frame
+introduced-there : (records : List CompiledLibrary) → Each (λ (r : FrameRow). IsThere records r.label.0.library) record_frame
 unfolding record_frame rows_for
 introduced-there records = numbers-there records introduced_numbers
 
-pub started-there : (own : LibName) (records : List LibRecord) (imports : List (List ℕ × Label)) (codes : Codes) → AllServe [] records → Each (λ (e : List ℕ × Label). IsThere records e.1.0.library) imports
+pub started-there : (own : LibName) (records : List CompiledLibrary) (imports : List (List ℕ × Label)) (codes : Codes) → AllServe [] records → Each (λ (e : List ℕ × Label). IsThere records e.1.0.library) imports
     → (f : FrameNo) → Each (λ (r : Row). IsThere records r.label.0.library) (rows_at f (started own records imports codes).frames)
 unfolding started
 started-there own records imports codes h there f =

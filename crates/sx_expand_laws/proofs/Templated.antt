@@ -20,7 +20,7 @@ use Rattle.sx_core_laws.specs.Templates.{Depths, HasDepth, ItemHasDepth, Suits, 
 use Rattle.sx_core_laws.specs.Words.{Each, Among}
 use Rattle.sx_shapes.specs.Lists.{is_nil, tail_of}
 use Rattle.sx_standing.specs.Patterns.{has_variables, has_item_variables}
-use Rattle.sx_template.specs.Compile.{Context, variable_made, bound_made, label_made, is_special, leaf_made, Element, dots_behind, reach, with_ellipses, fitted, item_made, Walked, step, walked, constant_of, template_of, items_of, reaches, is_fixed, rebuilt, placed, fixed_list, list_joined, fixed_vector, vector_joined, escape_of, unescaped, list_parts, list_made, vector_made, template, elements_made, tail_made, compiled}
+use Rattle.sx_template.specs.Compile.{TemplateScope, variable_made, bound_made, label_made, is_special, leaf_made, TemplateElement, dots_behind, reach, with_ellipses, fitted, item_made, Walked, step, walked, constant_of, template_of, items_of, reaches, is_fixed, rebuilt, placed, fixed_list, list_joined, fixed_vector, vector_joined, escape_of, unescaped, list_parts, list_made, vector_made, template, elements_made, tail_made, compiled}
 use Rattle.sx_pattern.specs.Keywords.{is_ellipsis}
 use Rattle.sx_expand_laws.proofs.Compiled.{Given}
 use Rattle.sx_expand_laws.proofs.Fresh.{each-append}
@@ -192,10 +192,10 @@ module _ (Is : Label → ℕ → Type 0) where
 
   -- Forms.
 
-  abbrev IsElement : Element → Type 0
+  abbrev IsElement : TemplateElement → Type 0
   IsElement x = (escaped : Bool) (under : ℕ) → IfGood (MadeFits under) (x.1 escaped under)
 
-  module _ (c : Context) (bound : (l : Label) (depth : ℕ) → bound_to c.bindings l ≡ Some (binding.PatternVariable c.level depth) → Is l depth) where
+  module _ (c : TemplateScope) (bound : (l : Label) (depth : ℕ) → bound_to c.bindings l ≡ Some (binding.PatternVariable c.level depth) → Is l depth) where
     variable-fits : (under : ℕ) (x : List ℕ) (t : Tree) (l : Label) (level depth : ℕ) → bound_to c.bindings l ≡ Some (binding.PatternVariable level depth) → IfGood (MadeFits under) (variable_made c under x t l level depth)
     variable-fits under x t l level depth e =
         good-if (MadeFits under) (nat_eq level c.level) _ _
@@ -237,32 +237,32 @@ module _ (Is : Label → ℕ → Type 0) where
         by None e = record { made = h; reached = none-left es (reach m) e }
         by (Some x) e = tt
 
-    item-fits : (escaped : Bool) (under : ℕ) (x : Element) (es : List Tree) → IsElement x → IfGood (ItemFits under) (item_made c escaped under x es)
+    item-fits : (escaped : Bool) (under : ℕ) (x : TemplateElement) (es : List Tree) → IsElement x → IfGood (ItemFits under) (item_made c escaped under x es)
     item-fits escaped under x es one = good-then (MadeFits (under + length es)) (ItemFits under) (x.1 escaped (under + length es)) (fitted c.place es) (one escaped (under + length es)) (λ m h. fitted-fits under c.place es m h)
 
     abbrev AllFit : ℕ → List MadeItem → Type 0
     AllFit under is = Each (ItemFits under) is
 
-    step-fits : (escaped : Bool) (under skips : ℕ) (x : Element) (es : List Tree) (is : List MadeItem) → IsElement x → AllFit under is → IfGood (λ (w : Walked). AllFit under w.1) (step c escaped under skips x es is)
+    step-fits : (escaped : Bool) (under skips : ℕ) (x : TemplateElement) (es : List Tree) (is : List MadeItem) → IsElement x → AllFit under is → IfGood (λ (w : Walked). AllFit under w.1) (step c escaped under skips x es is)
     step-fits escaped under (suc skips) x es is one h = h
     step-fits escaped under zero x es is one h = good-then (ItemFits under) (λ (w : Walked). AllFit under w.1) (item_made c escaped under x es) (λ i. Ok (length es, is ++ i ∷ [])) (item-fits escaped under x es one) (λ i k. each-append (ItemFits under) is (i ∷ []) h (k, tt))
 
-    walked-fits : (escaped : Bool) (under skips : ℕ) (is : List MadeItem) (xs : List Element) → Each IsElement xs → AllFit under is → IfGood (AllFit under) (walked c escaped under skips is xs)
+    walked-fits : (escaped : Bool) (under skips : ℕ) (is : List MadeItem) (xs : List TemplateElement) → Each IsElement xs → AllFit under is → IfGood (AllFit under) (walked c escaped under skips is xs)
     walked-fits escaped under skips is [] all h = h
     walked-fits escaped under skips is (x ∷ xs) all h =
         good-then (λ (w : Walked). AllFit under w.1) (AllFit under) (step c escaped under skips x (dots_behind c.frames escaped xs) is) (λ w. walked c escaped under w.0 w.1 xs)
         (step-fits escaped under skips x (dots_behind c.frames escaped xs) is all.0 h) (λ w k. walked-fits escaped under w.0 w.1 xs all.1 k)
 
-    parts-fit : (escaped : Bool) (t : Tree) (xs : List Element) (tail : Bool → ℕ → Result Made Fault) (under : ℕ) → Each IsElement xs → ((e : Bool) (n : ℕ) → IfGood (MadeFits n) (tail e n)) → IfGood (MadeFits under) (list_parts c escaped t xs tail under)
+    parts-fit : (escaped : Bool) (t : Tree) (xs : List TemplateElement) (tail : Bool → ℕ → Result Made Fault) (under : ℕ) → Each IsElement xs → ((e : Bool) (n : ℕ) → IfGood (MadeFits n) (tail e n)) → IfGood (MadeFits under) (list_parts c escaped t xs tail under)
     parts-fit escaped t xs tail under all last =
         good-then (AllFit under) (MadeFits under) (walked c escaped under 0 [] xs) (λ items. tail escaped under >>= list_joined c.place t items) (walked-fits escaped under 0 [] xs all tt)
         (λ is h. good-then (MadeFits under) (MadeFits under) (tail escaped under) (list_joined c.place t is) (last escaped under) (λ m k. list-joins under c.place t is m h k))
 
-    abbrev IsEscape : Option Element → Type 0
+    abbrev IsEscape : Option TemplateElement → Type 0
     IsEscape None = Unit {0}
     IsEscape (Some y) = IsElement y
 
-    escape-is : (escaped : Bool) (xs : List Element) (ends : Bool) → Each IsElement xs → IsEscape (escape_of c.frames escaped xs ends)
+    escape-is : (escaped : Bool) (xs : List TemplateElement) (ends : Bool) → Each IsElement xs → IsEscape (escape_of c.frames escaped xs ends)
     escape-is false (x ∷ (y ∷ [])) true all = by (is_ellipsis c.frames x.0)
       where
         by : (b : Bool) → IsEscape (if b then Some y else None)
@@ -274,12 +274,12 @@ module _ (Is : Label → ℕ → Type 0) where
     escape-is false (x ∷ (y ∷ (z ∷ xs))) ends all = tt
     escape-is true xs ends all = tt
 
-    list-fits : (escaped : Bool) (t : Tree) (xs : List Element) (tail : Bool → ℕ → Result Made Fault) (under : ℕ) (o : Option Element) → Each IsElement xs → ((e : Bool) (n : ℕ) → IfGood (MadeFits n) (tail e n)) → IsEscape o
+    list-fits : (escaped : Bool) (t : Tree) (xs : List TemplateElement) (tail : Bool → ℕ → Result Made Fault) (under : ℕ) (o : Option TemplateElement) → Each IsElement xs → ((e : Bool) (n : ℕ) → IfGood (MadeFits n) (tail e n)) → IsEscape o
         → IfGood (MadeFits under) (list_made c escaped t xs tail under o)
     list-fits escaped t xs tail under None all last esc = parts-fit escaped t xs tail under all last
     list-fits escaped t xs tail under (Some y) all last esc = good-then (MadeFits under) (MadeFits under) (y.1 true under) (λ m. Ok (unescaped m)) (esc true under) (λ m h. unescaped-fits under m h)
 
-    vector-fits : (escaped : Bool) (t : Tree) (xs : List Element) (under : ℕ) → Each IsElement xs → IfGood (MadeFits under) (vector_made c escaped t xs under)
+    vector-fits : (escaped : Bool) (t : Tree) (xs : List TemplateElement) (under : ℕ) → Each IsElement xs → IfGood (MadeFits under) (vector_made c escaped t xs under)
     vector-fits escaped t xs under all = good-then (AllFit under) (MadeFits under) (walked c escaped under 0 [] xs) (vector_joined c.place t) (walked-fits escaped under 0 [] xs all tt) (λ is h. vector-joins under c.place t is h)
 
     mutual

@@ -14,7 +14,7 @@ use Rattle.sx_frames.specs.Scope.{rows_at}
 use Rattle.sx_core.specs.Bindings.{bound_to}
 use Rattle.sx_core.specs.Core.{PlainCore}
 use Rattle.sx_core.specs.declared.core_form.CoreForm.{CoreForm}
-use Rattle.sx_core.specs.declared.record.LibRecord.{LibRecord}
+use Rattle.sx_core.specs.declared.record.CompiledLibrary.{CompiledLibrary}
 use Rattle.sx_pattern.specs.Compile as patterns
 use Rattle.sx_pattern.specs.declared.compile.Compiled.{Compiled}
 use Rattle.sx_shapes.specs.At.{place_of}
@@ -28,10 +28,10 @@ use Rattle.sx_records.specs.Forms.{record_forms}
 use Rattle.sx_records.specs.Names.{record_uid}
 use Rattle.sx_standing.specs.RecordUses.{at_state, defines_type, count_record_type, record_tree, record_marked, use_record}
 use Rattle.sx_standing.specs.State.{State, Does, stage_of, with_stage, staged, fresh}
-use Rattle.sx_standing.specs.Uses.{use_keyword, asks_variable, macro_expression, finish_keyword}
+use Rattle.sx_standing.specs.Uses.{use_keyword, asks_variable, macro_expression, evaluate_transformer}
 use Rattle.sx_heads.specs.declared.plan.KeywordUse.{KeywordUse}
 use Rattle.sx_heads.specs.declared.plan.KeywordUse.TheVariants as keyword_use
-use Rattle.sx_expand.specs.Settle.{used_form, next_form}
+use Rattle.sx_expand.specs.ExpandUses.{used_form, next_form}
 use Rattle.sx_expand_laws.specs.Stages.{StageLater, EndsLater, EndsKept}
 use Rattle.sx_expand_laws.specs.States.{IsKept, IndicesApart, Later}
 use Rattle.sx_expand_laws.proofs.Acts.{Gave, gave-after, gave-less}
@@ -59,22 +59,22 @@ module _ (own : LibName) where
   staged-later s (Ok p) n h = stage-later s p.1 n h
   staged-later s (Err f) n h = tt
 
-  pub use-later : (rs : List LibRecord) (place : Span) (t : Tree) (l : Label) (frame : Option FrameNo) (s : State) → Names own s → Gave (Moved own s) (use_keyword rs place t l frame s)
+  pub use-later : (rs : List CompiledLibrary) (place : Span) (t : Tree) (l : Label) (frame : Option FrameNo) (s : State) → Names own s → Gave (Moved own s) (use_keyword rs place t l frame s)
   unfolding use_keyword
   use-later rs place t l frame s n = staged-later s (used place rs t l (macro_expression (bound_to s.bindings l)) frame (stage_of s)) n (stage-grows.uses place rs t l (macro_expression (bound_to s.bindings l)) frame (stage_of s))
 
-  pub asks-later : (rs : List LibRecord) (place : Span) (l : Label) (s : State) → Names own s → Gave (Moved own s) (asks_variable rs place l s)
+  pub asks-later : (rs : List CompiledLibrary) (place : Span) (l : Label) (s : State) → Names own s → Gave (Moved own s) (asks_variable rs place l s)
   unfolding asks_variable
   asks-later rs place l s n = staged-later s (stage.is_variable_transformer place rs l (macro_expression (bound_to s.bindings l)) (stage_of s)) n (stage-grows.asks place rs l (macro_expression (bound_to s.bindings l)) (stage_of s))
 
-  pub finish-later : (rs : List LibRecord) (place : Span) (l : Label) (c : PlainCore) (s : State) → Names own s → Gave (Moved own s) (finish_keyword rs place l c s)
-  unfolding finish_keyword
-  finish-later rs place l c s n = staged-later s (stage.finish_keyword place rs l c (stage_of s)) n (stage-grows.finishes place rs l c (stage_of s))
+  pub finish-later : (rs : List CompiledLibrary) (place : Span) (l : Label) (c : PlainCore) (s : State) → Names own s → Gave (Moved own s) (evaluate_transformer rs place l c s)
+  unfolding evaluate_transformer
+  finish-later rs place l c s n = staged-later s (stage.evaluate_transformer place rs l c (stage_of s)) n (stage-grows.finishes place rs l c (stage_of s))
 
   -- the expression of a keyword is kept then
-  pub finish-kept : (rs : List LibRecord) (place : Span) (l : Label) (c : PlainCore) (s : State) → Gave (λ x u. IsKept u l) (finish_keyword rs place l c s)
-  unfolding finish_keyword
-  finish-kept rs place l c s = by (stage.finish_keyword place rs l c (stage_of s)) (stage-grows.keeps place rs l c (stage_of s))
+  pub finish-kept : (rs : List CompiledLibrary) (place : Span) (l : Label) (c : PlainCore) (s : State) → Gave (λ x u. IsKept u l) (evaluate_transformer rs place l c s)
+  unfolding evaluate_transformer
+  finish-kept rs place l c s = by (stage.evaluate_transformer place rs l c (stage_of s)) (stage-grows.keeps place rs l c (stage_of s))
     where
       by : (r : Result (Unit {0} × PlainStage) Fault) → EndsKept l r → Gave (λ x u. IsKept u l) (staged s r)
       by (Ok p) h = h
@@ -116,11 +116,11 @@ module _ (own : LibName) where
       let m : Mark = record { 0 = s.names } in
       moved-counted own s (record_marked place t f frame m (counted s)) n (marked-later place t f frame m (counted s) n)
 
-  form-later : (rs : List LibRecord) (place : Span) (t : Tree) (k : KeywordUse) (frame : Option FrameNo) (s : State) → Names own s → Gave (Moved own s) (used_form rs place t k frame s)
+  form-later : (rs : List CompiledLibrary) (place : Span) (t : Tree) (k : KeywordUse) (frame : Option FrameNo) (s : State) → Names own s → Gave (Moved own s) (used_form rs place t k frame s)
   form-later rs place t (keyword_use.Macro l) frame s n = use-later rs place t l frame s n
   form-later rs place t (keyword_use.Record f) frame s n = record-later place t f frame s n
 
-  pub next-later : (rs : List LibRecord) (left : ℕ) (place : Span) (t : Tree) (k : KeywordUse) (frame : Option FrameNo) (s : State) → Names own s → Gave (Moved own s) (next_form rs left place t k frame s)
+  pub next-later : (rs : List CompiledLibrary) (left : ℕ) (place : Span) (t : Tree) (k : KeywordUse) (frame : Option FrameNo) (s : State) → Names own s → Gave (Moved own s) (next_form rs left place t k frame s)
   unfolding next_form
   next-later rs left place t k frame s n =
       let u : State = record s { uses_left = left } in

@@ -13,7 +13,7 @@ use Rattle.sx_core.specs.References.{binders}
 use Rattle.sx_core.specs.declared.binding.Binding.{Binding}
 use Rattle.sx_core.specs.declared.binding.Binding.TheVariants as binding
 use Rattle.sx_core.specs.declared.binding.VarInfo.{VarInfo}
-use Rattle.sx_core.specs.declared.record.LibRecord.{LibRecord}
+use Rattle.sx_core.specs.declared.record.CompiledLibrary.{CompiledLibrary}
 use Rattle.sx_core.specs.declared.record.Line.{Line}
 use Rattle.sx_core_laws.specs.Follows.{IsThere, bound_labels, index_in, index_of, line_variables, run_variables, top_label, tops}
 use Rattle.sx_core_laws.specs.Parts.{parts, own_variables, bound_variables}
@@ -141,7 +141,7 @@ run-within (x ∷ xs) =
     once-within (line_variables x) (flat_map line_variables xs) (line_binders x) (flat_map line_binders xs)
     (once-within (line_labels x) (bound_variables (line_core x)) (line_labels x) (binders (line_core x)) (same-within (line_labels x)) (variables-within (line_core x))) (run-within xs)
 
-module _ (own : LibName) (given : List Label) (start : State) (r : LibRecord) (runs : Runs own given start r) (numbered : IsNumbered own runs.ended) (apart : IndicesApart own runs.ended) (once : Once (run_binders r)) (mine : Each (λ l. l.0.library ≡ r.name) (run_binders r)) where
+module _ (own : LibName) (given : List Label) (start : State) (r : CompiledLibrary) (runs : Runs own given start r) (numbered : IsNumbered own runs.ended) (apart : IndicesApart own runs.ended) (once : Once (run_binders r)) (mine : Each (λ l. l.0.library ≡ r.name) (run_binders r)) where
   abbrev v : State
   v = runs.ended
 

@@ -6,7 +6,7 @@ use Rattle.sx_base.specs.declared.library.LibName.TheVariants as library
 use Rattle.sx_base.specs.declared.name.Label.{Label}
 use Rattle.sx_base.specs.declared.span.Span.{Span}
 use Rattle.sx_tree.specs.Tree.{Tree}
-use Rattle.sx_core.specs.declared.record.LibRecord.{LibRecord}
+use Rattle.sx_core.specs.declared.record.CompiledLibrary.{CompiledLibrary}
 use Rattle.sx_core_laws.specs.Follows.{names_of, bound_labels, IsGiven, Follows}
 use Rattle.sx_core_laws.specs.Following.{AllFollow}
 use Rattle.sx_core_laws.specs.Words.{Each, Among, Once}
@@ -14,12 +14,12 @@ use Rattle.sx_eval.specs.Codes.{Codes}
 use Rattle.sx_expand.specs.Expanding.{ready, library_record}
 
 -- bound in one of these records, or given with the implementation
-abbrev pub IsKnownBefore : List LibRecord → Label → Type 0
+abbrev pub IsKnownBefore : List CompiledLibrary → Label → Type 0
 IsKnownBefore records l = Among (flat_map bound_labels records) l ⊎ IsGiven l
 
 -- Records that follow one another, and a library with a new name, which is neither that of the core forms nor that of the prelude. What it
 -- imports is known, and no name is imported or exported twice; a form that is read has no other imports and exports.
-pub record IsFollower (own : LibName) (records : List LibRecord) (imports : List (List ℕ × Label)) (exports : List (List ℕ × Tree)) : Type 0 where
+pub record IsFollower (own : LibName) (records : List CompiledLibrary) (imports : List (List ℕ × Label)) (exports : List (List ℕ × Tree)) : Type 0 where
   pub earlier : AllFollow [] records
   pub new : Among (names_of records) own → ⊥
   pub no_core : own ≡ library.Core → ⊥
@@ -29,6 +29,6 @@ pub record IsFollower (own : LibName) (records : List LibRecord) (imports : List
   pub exported_once : Once (map (λ (e : List ℕ × Tree). e.0) exports)
 
 abbrev pub RecordsFollow : Type 0
-RecordsFollow = (own : LibName) (path : List ℕ) (records : List LibRecord) (imports : List (List ℕ × Label)) (version : List ℕ) (place : Span)
-    (exports : List (List ℕ × Tree)) (forms : List Tree) (codes : Codes) (r : LibRecord)
+RecordsFollow = (own : LibName) (path : List ℕ) (records : List CompiledLibrary) (imports : List (List ℕ × Label)) (version : List ℕ) (place : Span)
+    (exports : List (List ℕ × Tree)) (forms : List Tree) (codes : Codes) (r : CompiledLibrary)
     → IsFollower own records imports exports → library_record (ready own path records imports codes) records version place exports forms ≡ Ok r → Follows r records

@@ -6,7 +6,7 @@ use Rattle.sx_base.specs.declared.library.LibName.{LibName}
 use Rattle.sx_base.specs.declared.name.Label.{Label}
 use Rattle.sx_base.specs.declared.span.Span.{Span}
 use Rattle.sx_tree.specs.Tree.{Tree}
-use Rattle.sx_core.specs.declared.record.LibRecord.{LibRecord}
+use Rattle.sx_core.specs.declared.record.CompiledLibrary.{CompiledLibrary}
 use Rattle.sx_core_laws.specs.Words.{Each, Once}
 use Rattle.sx_core_laws.specs.Parts.{ops, code_numbers}
 use Rattle.sx_core_laws.specs.WellMade.{IsWellMade}
@@ -22,7 +22,7 @@ use Rattle.sx_expand_laws.specs.Ready.{IsReady}
 -- it, no two codes have one number, and no two variables one index, which ends their generated names. Binders and codes are
 -- named by its library. Each line is well made, and no primitive in it is a keyword. It refers to the other libraries whose variables
 -- its lines mention.
-pub record IsGood (records : List LibRecord) (r : LibRecord) : Type 0 where
+pub record IsGood (records : List CompiledLibrary) (r : CompiledLibrary) : Type 0 where
   pub closed : LinesClosed (flat_map defined records ++ defined r) r
   pub bound_once : Once (run_binders r)
   pub bound_here : Each (λ l. IsOwn r l.0) (run_binders r)
@@ -35,6 +35,6 @@ pub record IsGood (records : List LibRecord) (r : LibRecord) : Type 0 where
 
 -- and it has the name of the library
 abbrev pub RecordsAreGood : Type 0
-RecordsAreGood = (own : LibName) (path : List ℕ) (records : List LibRecord) (imports : List (List ℕ × Label)) (version : List ℕ) (place : Span)
-    (exports : List (List ℕ × Tree)) (forms : List Tree) (codes : Codes) (r : LibRecord)
+RecordsAreGood = (own : LibName) (path : List ℕ) (records : List CompiledLibrary) (imports : List (List ℕ × Label)) (version : List ℕ) (place : Span)
+    (exports : List (List ℕ × Tree)) (forms : List Tree) (codes : Codes) (r : CompiledLibrary)
     → IsReady own records → library_record (ready own path records imports codes) records version place exports forms ≡ Ok r → IsGood records r × (r.name ≡ own)

@@ -6,7 +6,7 @@ use Rattle.sx_base.specs.declared.library.LibName.{LibName}
 use Rattle.sx_base.specs.declared.name.Label.{Label}
 use Rattle.sx_base.specs.declared.span.Span.{Span}
 use Rattle.sx_tree.specs.Tree.{Tree}
-use Rattle.sx_core.specs.declared.record.LibRecord.{LibRecord}
+use Rattle.sx_core.specs.declared.record.CompiledLibrary.{CompiledLibrary}
 use Rattle.sx_core_laws.specs.Words.{Each, Once}
 use Rattle.sx_core_laws.specs.Parts.{ops}
 use Rattle.sx_core_laws.specs.Scope.{Closed}
@@ -19,7 +19,7 @@ use Rattle.sx_expand_laws.specs.Ready.{IsReady}
 
 -- Behind some records: each keyword has its expression, which is well made, names no keyword as a primitive, and is closed under the
 -- variables that these define. No label has two binders in its lines and keywords, and no two codes have one number.
-pub record HasGoodKeywords (records : List LibRecord) (r : LibRecord) : Type 0 where
+pub record HasGoodKeywords (records : List CompiledLibrary) (r : CompiledLibrary) : Type 0 where
   pub kinds : Each IsRecorded r.bindings
   pub well_made : Each (IsWellMade []) (keywords r)
   pub primitives : Each (λ o. is_keyword o ≡ false) (flat_map ops (keywords r))
@@ -30,6 +30,6 @@ pub record HasGoodKeywords (records : List LibRecord) (r : LibRecord) : Type 0 w
   pub numbered_here : Each (λ n. IsOwn r n.0) (all_numbers r)
 
 abbrev pub KeywordsAreGood : Type 0
-KeywordsAreGood = (own : LibName) (path : List ℕ) (records : List LibRecord) (imports : List (List ℕ × Label)) (version : List ℕ) (place : Span)
-    (exports : List (List ℕ × Tree)) (forms : List Tree) (codes : Codes) (r : LibRecord)
+KeywordsAreGood = (own : LibName) (path : List ℕ) (records : List CompiledLibrary) (imports : List (List ℕ × Label)) (version : List ℕ) (place : Span)
+    (exports : List (List ℕ × Tree)) (forms : List Tree) (codes : Codes) (r : CompiledLibrary)
     → IsReady own records → library_record (ready own path records imports codes) records version place exports forms ≡ Ok r → HasGoodKeywords records r

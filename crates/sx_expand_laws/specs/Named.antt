@@ -8,7 +8,7 @@ use Rattle.sx_tree.specs.Changes.{stamp}
 use Rattle.sx_tree.specs.Tree.{Tree}
 use Rattle.sx_scope.specs.Stands.{stands}
 use Rattle.sx_core.specs.Core.{PlainCore, variable, primitive}
-use Rattle.sx_core.specs.declared.record.LibRecord.{LibRecord}
+use Rattle.sx_core.specs.declared.record.CompiledLibrary.{CompiledLibrary}
 use Rattle.sx_shapes.specs.Lists.{is_leaf}
 use Rattle.sx_standing.specs.Binders.{bind_variable}
 use Rattle.sx_standing.specs.Standing.{label_standing, standing_of}
@@ -16,7 +16,7 @@ use Rattle.sx_standing.specs.State.{State}
 use Rattle.sx_standing.specs.declared.standing.Standing.TheVariants as standing
 use Rattle.sx_heads.specs.Plan.{target_by}
 use Rattle.sx_expand.specs.Expression.{inside}
-use Rattle.sx_expand.specs.Settle.{linked_code}
+use Rattle.sx_expand.specs.ExpandUses.{linked_code}
 use Rattle.sx_expand_laws.specs.States.{IsOld}
 use Rattle.sx_expand_laws.specs.Trees.{LeavesAre}
 
@@ -31,7 +31,7 @@ IsUse s t = (l : Label) × (standing_of s t ≡ standing.Keyword l)
 
 -- The core code of a leaf refers to what the leaf stands for, and the state gains its link alone, unless the leaf is a use of a keyword.
 abbrev pub ReferencesNameBinders : Type 0
-ReferencesNameBinders = (records : List LibRecord) (room : ℕ) (place : Span) (level depth : ℕ) (t : Tree) (s u : State) (c : PlainCore) → is_leaf t ≡ true
+ReferencesNameBinders = (records : List CompiledLibrary) (room : ℕ) (place : Span) (level depth : ℕ) (t : Tree) (s u : State) (c : PlainCore) → is_leaf t ≡ true
     → (inside records room).form place level depth t s ≡ Ok (c, u) → (RefersTo s (stands s.frames t) c × (u ≡ linked_code t c s)) ⊎ IsUse s t
 
 -- An assignment assigns what its target stands for.
@@ -45,5 +45,5 @@ BindersAreFound = (frame : FrameNo) (place : Span) (level : ℕ) (top : Bool) (i
 
 -- What an identifier stands for, whose stamps name frames that were made, stays as it is while a form is expanded.
 abbrev pub BindersStay : Type 0
-BindersStay = (records : List LibRecord) (room : ℕ) (place : Span) (level depth : ℕ) (t : Tree) (s u : State) (c : PlainCore) → (inside records room).form place level depth t s ≡ Ok (c, u)
+BindersStay = (records : List CompiledLibrary) (room : ℕ) (place : Span) (level depth : ℕ) (t : Tree) (s u : State) (c : PlainCore) → (inside records room).form place level depth t s ≡ Ok (c, u)
     → (id : Tree) → LeavesAre (IsOld s.names.library s) id → stands u.frames id ≡ stands s.frames id

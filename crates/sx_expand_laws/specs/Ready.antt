@@ -1,13 +1,13 @@
 -- What expansion of a library stands on.
 use Rattle.std.specs.Prelude.{List, []}
 use Rattle.sx_base.specs.declared.library.LibName.{LibName}
-use Rattle.sx_core.specs.declared.record.LibRecord.{LibRecord}
+use Rattle.sx_core.specs.declared.record.CompiledLibrary.{CompiledLibrary}
 use Rattle.sx_core_laws.specs.Words.{Among}
 use Rattle.sx_core_laws.specs.Follows.{names_of}
 use Rattle.sx_expand_laws.specs.Serves.{AllServe}
 
 -- A library has a new name, and each record before it serves those behind it. Nothing is asked of its imports and of its
 -- forms, whose stamps and marks may be any.
-pub record IsReady (own : LibName) (records : List LibRecord) : Type 0 where
+pub record IsReady (own : LibName) (records : List CompiledLibrary) : Type 0 where
   pub new : Among (names_of records) own → ⊥
   pub earlier : AllServe [] records

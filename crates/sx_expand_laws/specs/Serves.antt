@@ -4,7 +4,7 @@ use Rattle.sx_base.specs.declared.library.LibName.{LibName}
 use Rattle.sx_base.specs.declared.library.LibName.TheVariants as library
 use Rattle.sx_base.specs.declared.name.Label.{Label}
 use Rattle.sx_tree.specs.declared.frame_row.FrameRow.{FrameRow}
-use Rattle.sx_core.specs.declared.record.LibRecord.{LibRecord}
+use Rattle.sx_core.specs.declared.record.CompiledLibrary.{CompiledLibrary}
 use Rattle.sx_core_laws.specs.Words.{Each, Among}
 use Rattle.sx_core_laws.specs.Records.{defined}
 use Rattle.sx_core_laws.specs.Follows.{names_of, bound_labels, row_labels, export_labels, IsOwn, IsRecorded, tops}
@@ -14,17 +14,17 @@ abbrev pub IsOfImplementation : LibName → Type 0
 IsOfImplementation l = (l ≡ library.Core) ⊎ (l ≡ library.Derived)
 
 -- one of these records' libraries, or of the implementation
-abbrev pub IsThere : List LibRecord → LibName → Type 0
+abbrev pub IsThere : List CompiledLibrary → LibName → Type 0
 IsThere records l = Among (names_of records) l ⊎ IsOfImplementation l
 
 -- a label of the record's own library, or of one that is there
-abbrev pub IsLabelThere : List LibRecord → LibRecord → Label → Type 0
+abbrev pub IsLabelThere : List CompiledLibrary → CompiledLibrary → Label → Type 0
 IsLabelThere records r l = IsOwn r l.0 ⊎ IsThere records l.0.library
 
 -- Behind some records: it binds its own labels, to variables and keywords, and its run lines define those of the top. Its
 -- frames are its own, and what these give, and what it exports, is its own or was there: names of the implementation may be
 -- imported before any record binds them.
-pub record Serves (records : List LibRecord) (r : LibRecord) : Type 0 where
+pub record Serves (records : List CompiledLibrary) (r : CompiledLibrary) : Type 0 where
   pub own_bindings : Each (λ l. IsOwn r l.0) (bound_labels r)
   pub kinds : Each IsRecorded r.bindings
   pub tops_defined : Each (Among (defined r)) (tops r)
@@ -33,6 +33,6 @@ pub record Serves (records : List LibRecord) (r : LibRecord) : Type 0 where
   pub exports : Each (IsLabelThere records r) (export_labels r)
 
 -- behind some records, each of these serves
-abbrev pub AllServe : List LibRecord → List LibRecord → Type 0
+abbrev pub AllServe : List CompiledLibrary → List CompiledLibrary → Type 0
 AllServe earlier [] = Unit {0}
 AllServe earlier (r ∷ rs) = Serves earlier r × AllServe (earlier ++ r ∷ []) rs

@@ -4,7 +4,7 @@ use Rattle.sx_base.specs.declared.library.LibName.{LibName}
 use Rattle.sx_base.specs.declared.name.Label.{Label}
 use Rattle.sx_base.specs.declared.span.Span.{Span}
 use Rattle.sx_tree.specs.Tree.{Tree}
-use Rattle.sx_core.specs.declared.record.LibRecord.{LibRecord}
+use Rattle.sx_core.specs.declared.record.CompiledLibrary.{CompiledLibrary}
 use Rattle.sx_core_laws.specs.Words.{Each}
 use Rattle.sx_core_laws.specs.Following.{AllFollow}
 use Rattle.sx_eval.specs.Codes.{Codes}
@@ -13,11 +13,11 @@ use Rattle.sx_expand_laws.specs.Ready.{IsReady}
 use Rattle.sx_expand_laws.specs.Serves.{IsThere, Serves, AllServe}
 
 abbrev pub FollowersServe : Type 0
-FollowersServe = (rs : List LibRecord) → AllFollow [] rs → AllServe [] rs
+FollowersServe = (rs : List CompiledLibrary) → AllFollow [] rs → AllServe [] rs
 
 -- where what it imports is there
 abbrev pub RecordsServe : Type 0
-RecordsServe = (own : LibName) (path : List ℕ) (records : List LibRecord) (imports : List (List ℕ × Label)) (version : List ℕ) (place : Span)
-    (exports : List (List ℕ × Tree)) (forms : List Tree) (codes : Codes) (r : LibRecord)
+RecordsServe = (own : LibName) (path : List ℕ) (records : List CompiledLibrary) (imports : List (List ℕ × Label)) (version : List ℕ) (place : Span)
+    (exports : List (List ℕ × Tree)) (forms : List Tree) (codes : Codes) (r : CompiledLibrary)
     → IsReady own records → Each (λ (e : List ℕ × Label). IsThere records e.1.0.library) imports
     → library_record (ready own path records imports codes) records version place exports forms ≡ Ok r → Serves records r

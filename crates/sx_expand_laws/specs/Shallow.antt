@@ -6,7 +6,7 @@ use Rattle.sx_base.specs.declared.span.Span.{Span}
 use Rattle.sx_tree.specs.Tree.{Tree}
 use Rattle.sx_core.specs.Core.{PlainCore}
 use Rattle.sx_core.specs.Height.{height}
-use Rattle.sx_core.specs.declared.record.LibRecord.{LibRecord}
+use Rattle.sx_core.specs.declared.record.CompiledLibrary.{CompiledLibrary}
 use Rattle.sx_core_laws.specs.Follows.{all_cores}
 use Rattle.sx_core_laws.specs.Words.{Each}
 use Rattle.sx_eval.specs.Codes.{Codes}
@@ -24,6 +24,6 @@ IsShallow c = height c ≤ deepest
 
 -- each line, and each expression of a keyword
 abbrev pub RecordsAreShallow : Type 0
-RecordsAreShallow = (own : LibName) (path : List ℕ) (records : List LibRecord) (imports : List (List ℕ × Label)) (version : List ℕ) (place : Span)
-    (exports : List (List ℕ × Tree)) (forms : List Tree) (codes : Codes) (r : LibRecord)
+RecordsAreShallow = (own : LibName) (path : List ℕ) (records : List CompiledLibrary) (imports : List (List ℕ × Label)) (version : List ℕ) (place : Span)
+    (exports : List (List ℕ × Tree)) (forms : List Tree) (codes : Codes) (r : CompiledLibrary)
     → IsReady own records → library_record (ready own path records imports codes) records version place exports forms ≡ Ok r → Each IsShallow (all_cores r)

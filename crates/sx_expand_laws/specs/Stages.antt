@@ -6,9 +6,9 @@ use Rattle.sx_base.specs.declared.name.Label.{Label}
 use Rattle.sx_base.specs.declared.span.Span.{Span}
 use Rattle.sx_tree.specs.Tree.{Tree}
 use Rattle.sx_core.specs.Core.{PlainCore}
-use Rattle.sx_core.specs.declared.record.LibRecord.{LibRecord}
+use Rattle.sx_core.specs.declared.record.CompiledLibrary.{CompiledLibrary}
 use Rattle.sx_stage.specs.Stage.{PlainStage, expression_of}
-use Rattle.sx_stage.specs.Transformers.{is_variable_transformer, finish_keyword}
+use Rattle.sx_stage.specs.Transformers.{is_variable_transformer, evaluate_transformer}
 use Rattle.sx_stage.specs.Uses.{used}
 
 -- the expression of a keyword is kept
@@ -32,8 +32,8 @@ EndsKept l (Err f) = Unit {0}
 
 -- so it is where a keyword is used, where it is asked for its kind, and where its expression is evaluated
 pub record StageGrows : Type 0 where
-  pub uses : (place : Span) (rs : List LibRecord) (t : Tree) (l : Label) (e : Option PlainCore) (frame : Option FrameNo) (s : PlainStage) → EndsLater s (used place rs t l e frame s)
-  pub asks : (place : Span) (rs : List LibRecord) (l : Label) (e : Option PlainCore) (s : PlainStage) → EndsLater s (is_variable_transformer place rs l e s)
-  pub finishes : (place : Span) (rs : List LibRecord) (l : Label) (c : PlainCore) (s : PlainStage) → EndsLater s (finish_keyword place rs l c s)
+  pub uses : (place : Span) (rs : List CompiledLibrary) (t : Tree) (l : Label) (e : Option PlainCore) (frame : Option FrameNo) (s : PlainStage) → EndsLater s (used place rs t l e frame s)
+  pub asks : (place : Span) (rs : List CompiledLibrary) (l : Label) (e : Option PlainCore) (s : PlainStage) → EndsLater s (is_variable_transformer place rs l e s)
+  pub finishes : (place : Span) (rs : List CompiledLibrary) (l : Label) (c : PlainCore) (s : PlainStage) → EndsLater s (evaluate_transformer place rs l c s)
   -- and it is kept
-  pub keeps : (place : Span) (rs : List LibRecord) (l : Label) (c : PlainCore) (s : PlainStage) → EndsKept l (finish_keyword place rs l c s)
+  pub keeps : (place : Span) (rs : List CompiledLibrary) (l : Label) (c : PlainCore) (s : PlainStage) → EndsKept l (evaluate_transformer place rs l c s)

@@ -75,7 +75,7 @@ abbrev pub IsOld : LibName → State → FrameNo → Type 0
 IsOld own s f = IsOwn own f.0 → f.0.number < s.names.number
 
 -- some of these rows gives the label
-pub record Shows (rows : List Row) (l : Label) : Type 0 where
+pub record RowsShow (rows : List Row) (l : Label) : Type 0 where
   pub row : Row
   pub there : Among rows row
   pub label : row.label ≡ l
@@ -165,7 +165,7 @@ pub record LaterBut (own : LibName) (g : FrameNo) (s t : State) : Type 0 where
 -- What an expression of this level may refer to is among these labels: what is in scope, at level 0 the variables of the top of
 -- the library, which are of that level, and what other libraries define. The pattern variables in scope are among these, with their
 -- depths, and these are pattern variables. Nothing is asked of trees.
-pub record Reach (own : LibName) (given : List Label) (vs : Depths) (level : ℕ) (s : State) (ls : List Label) : Type 0 where
+pub record ReachOfCode (own : LibName) (given : List Label) (vs : Depths) (level : ℕ) (s : State) (ls : List Label) : Type 0 where
   pub scope : Each (Among ls) s.scope
   pub top : (l : Label) (v : VarInfo) → IsOwn own l.0 → IsTop s l v → (v.level ≡ 0) × (level ≡ 0 → Among ls l)
   pub foreign : (l : Label) → Among given l → Among ls l

@@ -6,7 +6,7 @@ use Rattle.sx_base.specs.declared.name.Label.{Label}
 use Rattle.sx_base.specs.declared.span.Span.{Span}
 use Rattle.sx_tree.specs.Tree.{Tree, atom, leaf, pair, vector}
 use Rattle.sx_core.specs.declared.core_form.CoreForm.{CoreForm}
-use Rattle.sx_core.specs.declared.record.LibRecord.{LibRecord}
+use Rattle.sx_core.specs.declared.record.CompiledLibrary.{CompiledLibrary}
 use Rattle.sx_shapes.specs.At.{place_of}
 use Rattle.sx_shapes.specs.Lists.{is_leaf}
 use Rattle.sx_standing.specs.Standing.{standing_of, role_of}
@@ -21,7 +21,7 @@ use Rattle.sx_heads.specs.declared.plan.KeywordUse.TheVariants as keyword_use
 use Rattle.sx_heads.specs.declared.taken.BodyAt.{BodyAt}
 use Rattle.sx_heads.specs.declared.taken.Taken.{Taken}
 use Rattle.sx_expand.specs.Expression.{inside}
-use Rattle.sx_expand.specs.Settle.{next_form, at_use}
+use Rattle.sx_expand.specs.ExpandUses.{next_form, at_use}
 
 -- a form is a use of a keyword: it is an identifier that stands for the keyword, or a list that begins with one
 abbrev pub IsUseOf : State → Label → Tree → Type 0
@@ -32,7 +32,7 @@ IsUseOf s l (vector r d) = ⊥
 
 -- It expands to what that form expands to, which has the place of the use where it has none itself. One use less is left then.
 abbrev pub UsesAreReplaced : Type 0
-UsesAreReplaced = (records : List LibRecord) (room left : ℕ) (place : Span) (level depth : ℕ) (t : Tree) (l : Label) (s : State) → IsUseOf s l t → s.uses_left ≡ suc left → depth ≤ most_round
+UsesAreReplaced = (records : List CompiledLibrary) (room left : ℕ) (place : Span) (level depth : ℕ) (t : Tree) (l : Label) (s : State) → IsUseOf s l t → s.uses_left ≡ suc left → depth ≤ most_round
     → (inside records (suc room)).form place level depth t s ≡ after (next_form records left place t (keyword_use.Macro l) None s) ((inside records (suc room)).form (place_of t place) level depth)
 
 -- the identifier of the keyword
@@ -47,7 +47,7 @@ with_head_of s done t = record done { kept = with_head done.kept (kept_head s (h
 
 -- So it is in a body. There the form that comes has the body's frame, and what the keyword stood for is kept.
 abbrev pub BodyUsesAreReplaced : Type 0
-BodyUsesAreReplaced = (records : List LibRecord) (room left : ℕ) (at : BodyAt) (depth : ℕ) (done : Taken) (t : Tree) (l : Label) (s : State) → IsUseOf s l t → s.uses_left ≡ suc left → depth ≤ most_round
+BodyUsesAreReplaced = (records : List CompiledLibrary) (room left : ℕ) (at : BodyAt) (depth : ℕ) (done : Taken) (t : Tree) (l : Label) (s : State) → IsUseOf s l t → s.uses_left ≡ suc left → depth ≤ most_round
     → (inside records (suc room)).item at depth done t s ≡ after (next_form records left at.place t (keyword_use.Macro l) (Some at.frame) s) ((inside records (suc room)).item (at_use at t) depth (with_head_of s done t))
 
 -- a form is a use of a core form: a list that begins with an identifier that stands for it
@@ -59,7 +59,7 @@ IsFormOf s f (vector r d) = ⊥
 
 -- A record form that is an expression expands to what the form expands to that it gives.
 abbrev pub RecordFormsAreReplaced : Type 0
-RecordFormsAreReplaced = (records : List LibRecord) (room left : ℕ) (place : Span) (level depth : ℕ) (t : Tree) (f : CoreForm) (s : State) → IsFormOf s f t → role_of f ≡ role.RecordValue → s.uses_left ≡ suc left → depth ≤ most_round
+RecordFormsAreReplaced = (records : List CompiledLibrary) (room left : ℕ) (place : Span) (level depth : ℕ) (t : Tree) (f : CoreForm) (s : State) → IsFormOf s f t → role_of f ≡ role.RecordValue → s.uses_left ≡ suc left → depth ≤ most_round
     → (inside records (suc room)).form place level depth t s ≡ after (next_form records left place t (keyword_use.Record f) None s) ((inside records (suc room)).form (place_of t place) level depth)
 
 abbrev pub IsOfRecords : Role → Type 0
@@ -69,5 +69,5 @@ IsOfRecords _ = ⊥
 
 -- So it is in a body, where a definition of a record type may stand, too.
 abbrev pub BodyRecordFormsAreReplaced : Type 0
-BodyRecordFormsAreReplaced = (records : List LibRecord) (room left : ℕ) (at : BodyAt) (depth : ℕ) (done : Taken) (t : Tree) (f : CoreForm) (s : State) → IsFormOf s f t → IsOfRecords (role_of f) → s.uses_left ≡ suc left → depth ≤ most_round
+BodyRecordFormsAreReplaced = (records : List CompiledLibrary) (room left : ℕ) (at : BodyAt) (depth : ℕ) (done : Taken) (t : Tree) (f : CoreForm) (s : State) → IsFormOf s f t → IsOfRecords (role_of f) → s.uses_left ≡ suc left → depth ≤ most_round
     → (inside records (suc room)).item at depth done t s ≡ after (next_form records left at.place t (keyword_use.Record f) (Some at.frame) s) ((inside records (suc room)).item (at_use at t) depth (with_head_of s done t))

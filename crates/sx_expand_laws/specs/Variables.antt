@@ -4,7 +4,7 @@ use Rattle.sx_base.specs.declared.library.LibName.{LibName}
 use Rattle.sx_base.specs.declared.name.Label.{Label}
 use Rattle.sx_base.specs.declared.span.Span.{Span}
 use Rattle.sx_tree.specs.Tree.{Tree}
-use Rattle.sx_core.specs.declared.record.LibRecord.{LibRecord}
+use Rattle.sx_core.specs.declared.record.CompiledLibrary.{CompiledLibrary}
 use Rattle.sx_core_laws.specs.Follows.{IsThere, bound_labels, indices, run_variables, tops}
 use Rattle.sx_core_laws.specs.Records.{defined}
 use Rattle.sx_core_laws.specs.Words.{Each, Among, Once}
@@ -14,7 +14,7 @@ use Rattle.sx_expand_laws.specs.Ready.{IsReady}
 
 -- No label has two bindings in a record. Each variable that a line of it defines or binds has an index, none is defined or bound twice, and
 -- no two have one index. What a line defines is a variable of the top.
-pub record HasIndices (r : LibRecord) : Type 0 where
+pub record HasIndices (r : CompiledLibrary) : Type 0 where
   pub bindings_once : Once (bound_labels r)
   pub indexed : Each IsThere (indices r)
   pub variables_once : Once (run_variables r)
@@ -22,6 +22,6 @@ pub record HasIndices (r : LibRecord) : Type 0 where
   pub defined_top : Each (Among (tops r)) (defined r)
 
 abbrev pub VariablesHaveIndices : Type 0
-VariablesHaveIndices = (own : LibName) (path : List ℕ) (records : List LibRecord) (imports : List (List ℕ × Label)) (version : List ℕ) (place : Span)
-    (exports : List (List ℕ × Tree)) (forms : List Tree) (codes : Codes) (r : LibRecord)
+VariablesHaveIndices = (own : LibName) (path : List ℕ) (records : List CompiledLibrary) (imports : List (List ℕ × Label)) (version : List ℕ) (place : Span)
+    (exports : List (List ℕ × Tree)) (forms : List Tree) (codes : Codes) (r : CompiledLibrary)
     → IsReady own records → library_record (ready own path records imports codes) records version place exports forms ≡ Ok r → HasIndices r

@@ -23,7 +23,7 @@
 //! leaves the scope as it was (`Later` in `specs/States`). A use of a keyword takes names and changes nothing
 //! else that matters here (`specs/Stages`): what a transformer answers is a form like any other. The second tells
 //! what a form gives: where a state is `Sound`, its core code is closed under the labels that the state reaches,
-//! and its templates suit the pattern variables in scope (`Reach`). Names are made from one counter, so what was
+//! and its templates suit the pattern variables in scope (`ReachOfCode`). Names are made from one counter, so what was
 //! made between two states is disjoint from what was made before and after.
 //!
 //! Keywords are finished while the forms round them are expanded, so their expressions take names from among those

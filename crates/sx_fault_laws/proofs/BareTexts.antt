@@ -24,7 +24,7 @@ use Rattle.sx_spelling.specs.Source.{characters, piece}
 use Rattle.sx_spelling.specs.Whitespace.{is_delimiter}
 use Rattle.sx_spelling.specs.declared.escapes.Letter.{Letter}
 use Rattle.sx_fault_laws.specs.Bare.{NoInteger, BadBackslash, BadText, BadMarked}
-use Rattle.sx_fault_laws.specs.Behind.{Behind}
+use Rattle.sx_fault_laws.specs.Behind.{BadBehind}
 use Rattle.sx_fault_laws.specs.Laws.{MarkedFaultsAre}
 use Rattle.sx_fault_laws.proofs.Repeats.{stops_are}
 use Rattle.sx_fault_laws.proofs.Tests.{Explains, refuses, accepts, binds, branch, bind_err, bind_ok, both}
@@ -82,7 +82,7 @@ module _ (file : List ℕ) (k : FaultKind) (from : ℕ) where
   step_refused _ _ _ (BadBackslash.backslash at bytes first e) = rw (equal (slice_index bytes 0) 0x5C first, e) refl
 
   -- a bare token is refused exactly at a backslash that begins no escape
-  pub backslashes_are : (bytes : List ℕ) (at : ℕ) (f : Fault) → (bare_end file k from bytes at ≡ Err f) ↔ Behind BarePart (BadBackslash file k from) at bytes f
+  pub backslashes_are : (bytes : List ℕ) (at : ℕ) (f : Fault) → (bare_end file k from bytes at ≡ Err f) ↔ BadBehind BarePart (BadBackslash file k from) at bytes f
   backslashes_are bytes at f = stops_are (bare_step file k from) BarePart (BadBackslash file k from) step_over step_complete (part_some file k from) step_explained step_refused bytes at f
 
 module _ (file : List ℕ) (at to : ℕ) where

@@ -10,7 +10,7 @@ use Rattle.sx_base.specs.declared.fault.FaultKind.{FaultKind}
 use Rattle.sx_base.specs.declared.fault.FaultKind.TheVariants as kind
 use Rattle.sx_lexer.specs.Characters.{named, scalar_or_fault, hex_character, character_but, long_character, character_to, lexeme_of_char, character_end, character_with, character_behind, character_at}
 use Rattle.sx_lexer.specs.Faults.{fault_at}
-use Rattle.sx_lexer.specs.Grammar.{Run}
+use Rattle.sx_lexer.specs.Grammar.{CharacterRun}
 use Rattle.sx_lexer.specs.declared.token.Lexeme.{Lexeme}
 use Rattle.sx_lexer.proofs.BetweenLemmas.{left, right, not_equal, equal}
 use Rattle.sx_lexer.proofs.StringLemmas.{run_is, run_complete, differs}
@@ -18,7 +18,7 @@ use Rattle.sx_spelling.specs.Escapes.{scalar_of}
 use Rattle.sx_spelling.specs.Numbers.{is_digits}
 use Rattle.sx_spelling.specs.Source.{characters, piece}
 use Rattle.sx_spelling.specs.Whitespace.{is_delimited, runs_on}
-use Rattle.sx_fault_laws.specs.Characters.{Whole, text_of, BadCharacter}
+use Rattle.sx_fault_laws.specs.Characters.{WholeCharacter, text_of, BadCharacter}
 use Rattle.sx_fault_laws.specs.Characters as bad
 use Rattle.sx_fault_laws.specs.Laws.{CharacterFaultsAre}
 use Rattle.sx_fault_laws.proofs.Tests.{Explains, refuses, accepts, binds, branch, bind_err, both}
@@ -29,7 +29,7 @@ not_zero a n to same h = grind (arith, nat_tests)
 not_same : (a n to : ℕ) → to ≡ a + n → 0 < n → to == a ≡ false
 not_same a n to same some = grind (arith, nat_tests)
 
-module _ (file : List ℕ) (bytes : List ℕ) (at size n : ℕ) (whole : Whole bytes size n) where
+module _ (file : List ℕ) (bytes : List ℕ) (at size n : ℕ) (whole : WholeCharacter bytes size n) where
   abbrev end_at : ℕ
   end_at = at + 2 + size + n
 
@@ -95,7 +95,7 @@ module _ (file : List ℕ) (bytes : List ℕ) (at : ℕ) where
   char_explained (Some c) size ps e =
       let run = run_is (at + 2 + size) (characters (drop (2 + size) bytes)) in
       let to = character_end bytes at size in
-      let whole : Whole bytes size run.0 = record { char = c; rest = ps; first = e; run = run.2 } in
+      let whole : WholeCharacter bytes size run.0 = record { char = c; rest = ps; first = e; run = run.2 } in
       let explained = to_explained file bytes at size run.0 whole c to run.1 in
       binds (BadCharacter file at bytes) (character_to file bytes at c size to) (λ d. Ok (lexeme_of_char at to d)) (λ f given. explained.gives f given) (λ d given. accepts (BadCharacter file at bytes) (lexeme_of_char at to d))
 

@@ -6,7 +6,7 @@ use Rattle.std.proofs.lemmas.Bool.{eqb-true}
 use Rattle.std.proofs.lemmas.Bool.Decides.{nat_tests}
 use Rattle.bstr.specs.Utf8.{Decoded}
 use Rattle.sx_base.specs.declared.fault.Fault.{Fault}
-use Rattle.sx_lexer.specs.Between.{Atmosphere, Line, Block, ends_comment}
+use Rattle.sx_lexer.specs.Between.{Atmosphere, CommentLine, BlockComment, ends_comment}
 use Rattle.sx_lexer.specs.Gap.{rest_of_line, comment_from, atmosphere_end, ends_there}
 use Rattle.sx_lexer.specs.declared.gap.Until.TheVariants as until
 use Rattle.sx_lexer.proofs.BetweenLemmas.{line_sound, line_complete, block_sound, block_complete, left, right, not_equal, equal, by_first, some_bytes, first_some, first_ascii}
@@ -99,14 +99,14 @@ module _ (file : List ℕ) where
       let no_mark = not_true (starts_with nat_eq bytes (codes "#!r6rs")) (λ h. let same = first_ascii bytes c size 0x23 rest e (starts_mark bytes h).0 refl in cc (sym white, ap is_whitespace same)) in
       rw (no_line, no_block, no_mark, e, white) refl
 
-  line_steps : (bytes : List ℕ) (at n : ℕ) → slice_index bytes 0 ≡ 0x3B → Line (characters (drop 1 bytes)) n → Steps bytes at (1 + n)
+  line_steps : (bytes : List ℕ) (at n : ℕ) → slice_index bytes 0 ≡ 0x3B → CommentLine (characters (drop 1 bytes)) n → Steps bytes at (1 + n)
   unfolding atmosphere_end
   line_steps bytes at n h line = rw (equal (slice_index bytes 0) 0x3B h) (line_complete file (characters (drop 1 bytes)) (at + 1) n line ∙ ap Ok (omega arith))
 
   no_line_here : (bytes : List ℕ) → slice_index bytes 0 ≡ 0x23 → slice_index bytes 0 == 0x3B ≡ false
   no_line_here bytes h = not_equal (slice_index bytes 0) 0x3B (λ e. omega (arith, h, e))
 
-  block_steps : (bytes : List ℕ) (at n : ℕ) → starts_with nat_eq bytes (codes "#|") ≡ true → Block 1 (characters (drop 2 bytes)) n → Steps bytes at (2 + n)
+  block_steps : (bytes : List ℕ) (at n : ℕ) → starts_with nat_eq bytes (codes "#|") ≡ true → BlockComment 1 (characters (drop 2 bytes)) n → Steps bytes at (2 + n)
   unfolding atmosphere_end
   block_steps bytes at n h block =
       rw (no_line_here bytes (starts_block bytes h).0, h) (block_complete file 1 n (characters (drop 2 bytes)) block (at ∷ []) (at + 2) refl (omega arith) ∙ ap Ok (omega arith))

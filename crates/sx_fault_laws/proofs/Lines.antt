@@ -13,7 +13,7 @@ use Rattle.sx_spelling.specs.Whitespace.{ends_line}
 use Rattle.sx_fault_laws.specs.Behind.{no_character}
 use Rattle.sx_fault_laws.specs.Gaps.{BadLine}
 use Rattle.sx_fault_laws.specs.Laws.{StartsAre, StartFaultsAre}
-use Rattle.sx_fault_laws.specs.Start.{Line, RunLine, Start, BadStart}
+use Rattle.sx_fault_laws.specs.Start.{SourceLine, RunLine, Start, BadStart}
 use Rattle.sx_fault_laws.proofs.Tests.{Explains, refuses, accepts, branch, no_char, ok_number}
 
 module _ (file : List ℕ) (u : Until) (ends : ℕ → Bool) (same : (c : ℕ) → ends_there u (Some c) ≡ ends c) where
@@ -34,15 +34,15 @@ module _ (file : List ℕ) (u : Until) (ends : ℕ → Bool) (same : (c : ℕ) �
 
 module _ (file : List ℕ) where
   abbrev LineTo : ℕ → ℕ → List Decoded → Type 0
-  LineTo at to text = (n : ℕ) × (to ≡ at + n) × Line text n
+  LineTo at to text = (n : ℕ) × (to ≡ at + n) × SourceLine text n
 
   run_test : (c size : ℕ) (ps : List Decoded) (at to : ℕ) (t : Bool) → ends_line c ≡ t
       → (rest_of_line file until.LineEnd (at + size) ps ≡ Ok to → LineTo (at + size) to ps)
       → cond t (Ok at) (rest_of_line file until.LineEnd (at + size) ps) ≡ Ok to → LineTo at to (piece (Some c) size ∷ ps)
-  run_test c size ps at to true is further e = (0, omega (arith, ok_number at to e), Line.line_end c size ps is)
+  run_test c size ps at to true is further e = (0, omega (arith, ok_number at to e), SourceLine.line_end c size ps is)
   run_test c size ps at to false is further e =
       let r = further e in
-      (size + r.0, omega (arith, r.1), Line.char c size r.0 ps is r.2)
+      (size + r.0, omega (arith, r.1), SourceLine.char c size r.0 ps is r.2)
 
   run_char : (char : Option ℕ) (size : ℕ) (ps : List Decoded) (at to : ℕ)
       → (rest_of_line file until.LineEnd (at + size) ps ≡ Ok to → LineTo (at + size) to ps)
@@ -51,13 +51,13 @@ module _ (file : List ℕ) where
   run_char (Some c) size ps at to further e = run_test c size ps at to (ends_line c) refl further e
 
   run_sound : (text : List Decoded) (at to : ℕ) → rest_of_line file until.LineEnd at text ≡ Ok to → LineTo at to text
-  run_sound [] at to e = (0, omega (arith, ok_number at to e), Line.source_end)
+  run_sound [] at to e = (0, omega (arith, ok_number at to e), SourceLine.source_end)
   run_sound (p ∷ ps) at to e = run_char p.char p.size ps at to (run_sound ps (at + p.size) to) e
 
-  run_complete : (text : List Decoded) (at n : ℕ) → Line text n → rest_of_line file until.LineEnd at text ≡ Ok (at + n)
-  run_complete _ at _ Line.source_end = ap Ok (omega arith)
-  run_complete _ at _ (Line.line_end c size rest ends) = rw ends (ap Ok (omega arith))
-  run_complete _ at _ (Line.char c size n rest goes more) = rw goes (run_complete rest (at + size) n more ∙ ap Ok (omega arith))
+  run_complete : (text : List Decoded) (at n : ℕ) → SourceLine text n → rest_of_line file until.LineEnd at text ≡ Ok (at + n)
+  run_complete _ at _ SourceLine.source_end = ap Ok (omega arith)
+  run_complete _ at _ (SourceLine.line_end c size rest ends) = rw ends (ap Ok (omega arith))
+  run_complete _ at _ (SourceLine.char c size n rest goes more) = rw goes (run_complete rest (at + size) n more ∙ ap Ok (omega arith))
 
   abbrev RunTo : ℕ → ℕ → List ℕ → Type 0
   RunTo at to bytes = (n : ℕ) × (to ≡ at + n) × RunLine bytes n

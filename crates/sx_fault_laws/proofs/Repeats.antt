@@ -5,7 +5,7 @@ use Rattle.std.proofs.lemmas.Bool.Decides.{nat_tests}
 use Rattle.sx_base.specs.Gives.{◌>>=◌}
 use Rattle.sx_base.specs.declared.fault.Fault.{Fault}
 use Rattle.sx_lexer.specs.Repeat.{repeat, repeated}
-use Rattle.sx_fault_laws.specs.Behind.{Behind}
+use Rattle.sx_fault_laws.specs.Behind.{BadBehind}
 use Rattle.sx_fault_laws.specs.Behind as behind
 use Rattle.sx_fault_laws.proofs.Tests.{Explains}
 
@@ -28,9 +28,9 @@ module _ (step : List ℕ → ℕ → Result ℕ Fault) (Part : List ℕ → ℕ
     (explained : (bytes : List ℕ) (at : ℕ) → Explains (Bad at bytes) (step bytes at))
     (refused : (at : ℕ) (bytes : List ℕ) (f : Fault) → Bad at bytes f → step bytes at ≡ Err f) where
   after_part : (k : ℕ) (bytes : List ℕ) (at mid : ℕ) (f : Fault) → length bytes < suc k
-      → ((rest : List ℕ) (here : ℕ) → length rest < k → repeated step k rest here ≡ Err f → Behind Part Bad here rest f)
+      → ((rest : List ℕ) (here : ℕ) → length rest < k → repeated step k rest here ≡ Err f → BadBehind Part Bad here rest f)
       → (mid ≡ at) ⊎ ((n : ℕ) × (mid ≡ at + n) × Part bytes n)
-      → cond (mid == at) (Ok at) (repeated step k (drop (mid - at) bytes) mid) ≡ Err f → Behind Part Bad at bytes f
+      → cond (mid == at) (Ok at) (repeated step k (drop (mid - at) bytes) mid) ≡ Err f → BadBehind Part Bad at bytes f
   after_part k bytes at mid f enough further (inl same) given = absurd (ok_not at f (rw (same, itself at) at given))
   after_part k bytes at mid f enough further (inr (n, same, part)) given =
       let left = some bytes n part in
@@ -38,12 +38,12 @@ module _ (step : List ℕ → ℕ → Result ℕ Fault) (Part : List ℕ → ℕ
       behind.more at n bytes f part (further (drop n bytes) (at + n) (omega (arith, left.0, left.1, length-drop n bytes)) e)
 
   at_step : (k : ℕ) (bytes : List ℕ) (at : ℕ) (f : Fault) (r : Result ℕ Fault) → length bytes < suc k
-      → ((rest : List ℕ) (here : ℕ) → length rest < k → repeated step k rest here ≡ Err f → Behind Part Bad here rest f)
-      → step bytes at ≡ r → (r >>= λ mid. cond (mid == at) (Ok at) (repeated step k (drop (mid - at) bytes) mid)) ≡ Err f → Behind Part Bad at bytes f
+      → ((rest : List ℕ) (here : ℕ) → length rest < k → repeated step k rest here ≡ Err f → BadBehind Part Bad here rest f)
+      → step bytes at ≡ r → (r >>= λ mid. cond (mid == at) (Ok at) (repeated step k (drop (mid - at) bytes) mid)) ≡ Err f → BadBehind Part Bad at bytes f
   at_step k bytes at f (Err g) enough further is given = behind.here at bytes f ((explained bytes at).gives f (is ∙ given))
   at_step k bytes at f (Ok mid) enough further is given = after_part k bytes at mid f enough further (sound bytes at mid is) given
 
-  within : (k : ℕ) (bytes : List ℕ) (at : ℕ) (f : Fault) → length bytes < k → repeated step k bytes at ≡ Err f → Behind Part Bad at bytes f
+  within : (k : ℕ) (bytes : List ℕ) (at : ℕ) (f : Fault) → length bytes < k → repeated step k bytes at ≡ Err f → BadBehind Part Bad at bytes f
   unfolding repeated
   within zero bytes at f enough given = absurd (omega arith)
   within (suc k) bytes at f enough given = at_step k bytes at f (step bytes at) enough (λ rest here fewer e. within k rest here f fewer e) refl given
@@ -61,10 +61,10 @@ module _ (step : List ℕ → ℕ → Result ℕ Fault) (Part : List ℕ → ℕ
       let left = some bytes size part in
       rw (complete bytes at size part, differ at size left.0, further_by at size) (further k (omega (arith, left.0, left.1, length-drop size bytes)))
 
-  stops : (at : ℕ) (bytes : List ℕ) (f : Fault) → Behind Part Bad at bytes f → (k : ℕ) → length bytes < k → repeated step k bytes at ≡ Err f
+  stops : (at : ℕ) (bytes : List ℕ) (f : Fault) → BadBehind Part Bad at bytes f → (k : ℕ) → length bytes < k → repeated step k bytes at ≡ Err f
   stops _ _ _ (behind.here at bytes f bad) k enough = stops_here bytes k at f enough bad
   stops _ _ _ (behind.more at size bytes f part rest) k enough = stops_later bytes size k at f enough part (λ j fewer. stops (at + size) (drop size bytes) f rest j fewer)
 
   -- repeating the step is refused exactly behind some parts
-  pub stops_are : (bytes : List ℕ) (at : ℕ) (f : Fault) → (repeat step bytes at ≡ Err f) ↔ Behind Part Bad at bytes f
+  pub stops_are : (bytes : List ℕ) (at : ℕ) (f : Fault) → (repeat step bytes at ≡ Err f) ↔ BadBehind Part Bad at bytes f
   stops_are bytes at f = (λ e. within (suc (length bytes)) bytes at f (omega arith) e, λ b. stops at bytes f b (suc (length bytes)) (omega arith))

@@ -9,7 +9,7 @@ use Rattle.sx_base.specs.Place.{line_end}
 use Rattle.sx_base.specs.declared.fault.Fault.{Fault}
 use Rattle.sx_base.specs.declared.fault.FaultKind.TheVariants as kind
 use Rattle.sx_lexer.specs.Faults.{fault_at}
-use Rattle.sx_lexer.specs.Grammar.{Run, Element}
+use Rattle.sx_lexer.specs.Grammar.{CharacterRun, StringElement}
 use Rattle.sx_lexer.specs.Strings.{char_here, char_or_byte, simple_escape, letter_or_fault, hex_part, line_part, escape_part, line_or_char, string_part, string_from, string_at, string_lexeme, char_text}
 use Rattle.sx_lexer.specs.declared.token.Lexeme.{Lexeme}
 use Rattle.sx_lexer.proofs.BetweenLemmas.{not_equal, equal}
@@ -19,7 +19,7 @@ use Rattle.sx_spelling.specs.Numbers.{digits_size}
 use Rattle.sx_spelling.specs.Source.{characters, piece}
 use Rattle.sx_spelling.specs.Whitespace.{blanks_end, is_intraline_char}
 use Rattle.sx_spelling.specs.declared.escapes.Letter.{Letter}
-use Rattle.sx_fault_laws.specs.Behind.{Behind, Cut}
+use Rattle.sx_fault_laws.specs.Behind.{BadBehind, Cut}
 use Rattle.sx_fault_laws.specs.Behind as behind
 use Rattle.sx_fault_laws.specs.Laws.{StringFaultsAre}
 use Rattle.sx_fault_laws.specs.Strings.{NextElement, BadElement}
@@ -53,7 +53,7 @@ module _ (file : List ℕ) (quote : ℕ) where
   here bytes at = here_text bytes at (characters bytes) refl
 
   abbrev Good : List ℕ → Decoded → Type 0
-  Good bytes p = Element bytes p.char p.size
+  Good bytes p = StringElement bytes p.char p.size
 
   abbrev Part : List ℕ → ℕ → Result Decoded Fault → Type 0
   Part bytes at r = Tells (Good bytes) (BadElement file quote at bytes) r
@@ -65,13 +65,13 @@ module _ (file : List ℕ) (quote : ℕ) where
       let none = eqb-true (line_end bytes) 0 n in
       turned (Here bytes) (Good bytes) (Cut file quote at (characters bytes)) (BadElement file quote at bytes) (char_here file quote at (characters bytes)) (here bytes at)
       (λ f cut. bad.cut at bytes f inside first none cut)
-      (λ d h. subst (λ (d : Decoded). Good bytes d) h.same (Element.char bytes h.c d.size h.ps first h.first none)))
-      (λ n. Element.line bytes first (not_zero (line_end bytes) n))
+      (λ d h. subst (λ (d : Decoded). Good bytes d) h.same (StringElement.char bytes h.c d.size h.ps first h.first none)))
+      (λ n. StringElement.line bytes first (not_zero (line_end bytes) n))
 
   letter_tells : (bytes : List ℕ) (at n c size : ℕ) (ps : List Decoded) (o : Option Letter) → slice_index bytes 0 ≡ 0x5C → slice_index bytes 1 ≡ 0x78 → n ≡ digits_size 16 (drop 2 bytes)
       → characters (drop (2 + n) bytes) ≡ piece (Some c) size ∷ ps → escape bytes ≡ o → Part bytes at (letter_or_fault file quote at o)
   letter_tells bytes at n c size ps None first x digits char e = bad.no_hex at bytes n c size ps first x digits char e
-  letter_tells bytes at n c size ps (Some l) first x digits char e = Element.hex bytes l first e
+  letter_tells bytes at n c size ps (Some l) first x digits char e = StringElement.hex bytes l first e
 
   hex_tells : (bytes : List ℕ) (at n : ℕ) → slice_index bytes 0 ≡ 0x5C → slice_index bytes 1 ≡ 0x78 → n ≡ digits_size 16 (drop 2 bytes) → Part bytes at (hex_part file quote at n bytes)
   hex_tells bytes at n first x digits =
@@ -82,14 +82,14 @@ module _ (file : List ℕ) (quote : ℕ) where
       (λ d h. letter_tells bytes at n h.c d.size h.ps (escape bytes) first x digits h.first refl)
 
   continued_tells : (bytes rest : List ℕ) (at before place c size : ℕ) (ps : List Decoded) → slice_index bytes 0 ≡ 0x5C → simple_escape (slice_index bytes 1) ≡ None → slice_index bytes 1 ≢ 0x78
-      → Run is_intraline_char (characters (drop 1 bytes)) before → place ≡ at + 1 + before → rest ≡ drop (1 + before) bytes → characters rest ≡ piece (Some c) size ∷ ps
+      → CharacterRun is_intraline_char (characters (drop 1 bytes)) before → place ≡ at + 1 + before → rest ≡ drop (1 + before) bytes → characters rest ≡ piece (Some c) size ∷ ps
       → Part bytes at (cond (line_end rest == 0) (Err (fault_at file kind.BadEscape quote at)) (Ok (piece None (blanks_end (place + line_end rest) (characters (drop (line_end rest) rest)) - at))))
   continued_tells bytes rest at before place c size ps first e x run is_place is_rest char =
       let b = blanks_are (place + line_end rest) (characters (drop (line_end rest) rest)) in
       let size_is : 1 + before + line_end rest + b.0 ≡ blanks_end (place + line_end rest) (characters (drop (line_end rest) rest)) - at = omega (arith, b.1, is_place) in
       branch (Part bytes at) (line_end rest == 0)
       (λ n. bad.no_line at bytes before c size ps first e x run (ap characters (sym is_rest) ∙ char) (ap line_end (sym is_rest) ∙ eqb-true (line_end rest) 0 n))
-      (λ n. subst (λ (k : ℕ). Element bytes None k) size_is (Element.continued bytes rest before b.0 c size ps first e x run is_rest (not_zero (line_end rest) n) char b.2))
+      (λ n. subst (λ (k : ℕ). StringElement bytes None k) size_is (StringElement.continued bytes rest before b.0 c size ps first e x run is_rest (not_zero (line_end rest) n) char b.2))
 
   cut_at : (bytes rest : List ℕ) (at before place : ℕ) (f : Fault) → place ≡ at + 1 + before → rest ≡ drop (1 + before) bytes → Cut file quote place (characters rest) f
       → Cut file quote (at + 1 + before) (characters (drop (1 + before) bytes)) f
@@ -97,7 +97,7 @@ module _ (file : List ℕ) (quote : ℕ) where
       subst (λ (k : ℕ). Cut file quote k (characters (drop (1 + before) bytes)) f) is_place (subst (λ (r : List ℕ). Cut file quote place (characters r) f) is_rest cut)
 
   blanks_tell : (bytes rest : List ℕ) (at before place : ℕ) → slice_index bytes 0 ≡ 0x5C → simple_escape (slice_index bytes 1) ≡ None → slice_index bytes 1 ≢ 0x78
-      → Run is_intraline_char (characters (drop 1 bytes)) before → place ≡ at + 1 + before → rest ≡ drop (1 + before) bytes → Part bytes at (line_part file quote at place (line_end rest) rest)
+      → CharacterRun is_intraline_char (characters (drop 1 bytes)) before → place ≡ at + 1 + before → rest ≡ drop (1 + before) bytes → Part bytes at (line_part file quote at place (line_end rest) rest)
   blanks_tell bytes rest at before place first e x run is_place is_rest =
       follows (Here rest) (Cut file quote place (characters rest)) (Good bytes) (BadElement file quote at bytes) (char_here file quote place (characters rest))
       (λ _. cond (line_end rest == 0) (Err (fault_at file kind.BadEscape quote at)) (Ok (piece None (blanks_end (place + line_end rest) (characters (drop (line_end rest) rest)) - at))))
@@ -106,7 +106,7 @@ module _ (file : List ℕ) (quote : ℕ) where
       (λ d h. continued_tells bytes rest at before place h.c d.size h.ps first e x run is_place is_rest h.first)
 
   escape_tells : (bytes : List ℕ) (at : ℕ) (o : Option ℕ) → slice_index bytes 0 ≡ 0x5C → simple_escape (slice_index bytes 1) ≡ o → Part bytes at (escape_part file quote bytes at o)
-  escape_tells bytes at (Some c) first e = Element.simple bytes c first e
+  escape_tells bytes at (Some c) first e = StringElement.simple bytes c first e
   escape_tells bytes at None first e =
       let a = blanks_are (at + 1) (characters (drop 1 bytes)) in
       let place = blanks_end (at + 1) (characters (drop 1 bytes)) in
@@ -147,7 +147,7 @@ module _ (file : List ℕ) (quote : ℕ) where
       → hex_part file quote at n bytes ≡ Err (fault_at file kind.BadEscape quote at)
   hex_refused bytes at n c size ps char none = rw (char, none) refl
 
-  blanks_first : (bytes : List ℕ) (at before : ℕ) → slice_index bytes 0 ≡ 0x5C → simple_escape (slice_index bytes 1) ≡ None → slice_index bytes 1 ≢ 0x78 → Run is_intraline_char (characters (drop 1 bytes)) before
+  blanks_first : (bytes : List ℕ) (at before : ℕ) → slice_index bytes 0 ≡ 0x5C → simple_escape (slice_index bytes 1) ≡ None → slice_index bytes 1 ≢ 0x78 → CharacterRun is_intraline_char (characters (drop 1 bytes)) before
       → string_part file quote bytes at ≡ line_part file quote at (at + 1 + before) (line_end (drop (1 + before) bytes)) (drop (1 + before) bytes)
   unfolding string_part
   blanks_first bytes at before first e x run =
@@ -177,7 +177,7 @@ module _ (file : List ℕ) (quote : ℕ) where
       blanks_first bytes at before first e x run ∙ line_refused (drop (1 + before) bytes) at (at + 1 + before) c size ps char none
 
   abbrev BadRest : ℕ → List ℕ → Fault → Type 0
-  BadRest at bytes f = Behind NextElement (BadElement file quote) at bytes f
+  BadRest at bytes f = BadBehind NextElement (BadElement file quote) at bytes f
 
   string_step : (k : ℕ) (out bytes : List ℕ) (at : ℕ) (f : Fault) (r : Result Decoded Fault) → length bytes < suc k → slice_index bytes 0 ≢ 0x22
       → ((longer rest : List ℕ) (place : ℕ) → length rest < k → string_from k file quote longer rest place ≡ Err f → BadRest place rest f)
@@ -210,7 +210,7 @@ module _ (file : List ℕ) (quote : ℕ) where
   stops_here bytes out zero at f enough bad = absurd (omega arith)
   stops_here bytes out (suc k) at f enough bad = rw (bad_goes_on at bytes f bad, element_refused at bytes f bad) refl
 
-  stops_later : (bytes out : List ℕ) (k at size : ℕ) (char : Option ℕ) (f : Fault) → length bytes < k → slice_index bytes 0 ≢ 0x22 → Element bytes char size
+  stops_later : (bytes out : List ℕ) (k at size : ℕ) (char : Option ℕ) (f : Fault) → length bytes < k → slice_index bytes 0 ≢ 0x22 → StringElement bytes char size
       → ((longer : List ℕ) (j : ℕ) → length (drop size bytes) < j → string_from j file quote longer (drop size bytes) (at + size) ≡ Err f) → string_from k file quote out bytes at ≡ Err f
   unfolding string_from
   stops_later bytes out zero at size char f enough inside element further = absurd (omega arith)

@@ -12,8 +12,8 @@ use Rattle.sx_lexer.specs.Between.{Atmosphere, Gap, no_gap, whitespace_first}
 use Rattle.sx_lexer.specs.Characters.{character_at}
 use Rattle.sx_lexer.specs.Faults.{fault_at}
 use Rattle.sx_lexer.specs.Gap.{gap_end}
-use Rattle.sx_lexer.specs.Grammar.{Bare, Run, ends_bare, runs_first, hash_sign_of, is_special}
-use Rattle.sx_lexer.specs.Row.{Row}
+use Rattle.sx_lexer.specs.Grammar.{Bare, CharacterRun, ends_bare, runs_first, hash_sign_of, is_special}
+use Rattle.sx_lexer.specs.Row.{PartRow}
 use Rattle.sx_lexer.specs.Strings.{string_at}
 use Rattle.sx_lexer.specs.Tokens.{next_lexeme, lexeme_behind, lexeme_at, hash_at, word_at, marked_at, unquoting, bare_at, bare_to, bare, bare_end, lexeme, is_number_mark, is_true, is_false}
 use Rattle.sx_lexer.specs.declared.token.Abbreviation.TheVariants as abbreviation
@@ -105,8 +105,8 @@ two false true h = absurd (cc)
 two false false h = refl
 
 row_none : (bytes : List ℕ) (n : ℕ) → Bare bytes n → n ≡ 0 → runs_first (characters bytes) ≡ false
-row_none _ _ (Row.none bytes ends) none = two (slice_index bytes 0 == 0x5C) (runs_first (characters bytes)) ends
-row_none _ _ (Row.more bytes size n part rest) none = absurd (omega (arith, (part_some [] kind.BadEscape 0 bytes size part).0))
+row_none _ _ (PartRow.none bytes ends) none = two (slice_index bytes 0 == 0x5C) (runs_first (characters bytes)) ends
+row_none _ _ (PartRow.more bytes size n part rest) none = absurd (omega (arith, (part_some [] kind.BadEscape 0 bytes size part).0))
 
 module _ (file : List ℕ) (at : ℕ) (bytes : List ℕ) where
   abbrev Bad : Fault → Type 0
@@ -219,7 +219,7 @@ module _ (file : List ℕ) (at : ℕ) (bytes : List ℕ) where
         none.no_mark,
       ) refl
 
-  word_refused : (n : ℕ) → NoHash bytes → Run runs_on (characters (drop 1 bytes)) n → lexeme_at file bytes at ≡ Err (fault_at file kind.BadToken at (at + 1 + n))
+  word_refused : (n : ℕ) → NoHash bytes → CharacterRun runs_on (characters (drop 1 bytes)) n → lexeme_at file bytes at ≡ Err (fault_at file kind.BadToken at (at + 1 + n))
   word_refused n none run = word_first none ∙ rw (none.no_bytes, none.no_true, none.no_false, run_complete (at + 1) (characters (drop 1 bytes)) n run) refl
 
   bare_first : is_special (slice_index bytes 0) ≡ false → lexeme_at file bytes at ≡ bare_at file bytes at
@@ -275,7 +275,7 @@ module _ (file : List ℕ) (at : ℕ) (bytes : List ℕ) where
   byte_stops : (p : Decoded) (ps : List Decoded) → characters bytes ≡ p ∷ ps → p.char ≡ None → lexeme_at file bytes at ≡ Err (no_character file at)
   byte_stops p ps e none =
       let high = not_ascii bytes p ps e none in
-      let end = (bare_is file kind.BadEscape at bytes at at).1 (0, omega arith, Row.none bytes (byte_ends p ps e none high)) in
+      let end = (bare_is file kind.BadEscape at bytes at at).1 (0, omega arith, PartRow.none bytes (byte_ends p ps e none high)) in
       bare_first (no_special (slice_index bytes 0) high)
       ∙ bind_ok (bare_end file kind.BadEscape at bytes at) (λ to. bare_to file bytes at to) at end
       ∙ rw (itself at) refl
@@ -296,8 +296,8 @@ token_refused file _ _ _ (BadToken.bare at bytes f bad) = bare_refused file at b
 
 -- behind a gap no other begins
 gap_ends : (bytes : List ℕ) (n : ℕ) → Gap bytes n → no_gap (drop n bytes) ≡ true
-gap_ends _ _ (Row.none bytes ends) = ends
-gap_ends _ _ (Row.more bytes size n part rest) = ap no_gap (sym (drop-drop n size bytes)) ∙ gap_ends (drop size bytes) n rest
+gap_ends _ _ (PartRow.none bytes ends) = ends
+gap_ends _ _ (PartRow.more bytes size n part rest) = ap no_gap (sym (drop-drop n size bytes)) ∙ gap_ends (drop size bytes) n rest
 
 err_same : {A : Type 0} (f g : Fault) → ◌≡◌ {A = Result A Fault} (Err f) (Err g) → f ≡ g
 err_same f g e = cc

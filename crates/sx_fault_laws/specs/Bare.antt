@@ -11,7 +11,7 @@ use Rattle.sx_spelling.specs.Escapes.{escape}
 use Rattle.sx_spelling.specs.Identifiers.{identifier}
 use Rattle.sx_spelling.specs.Numbers.{is_integer, integer, spelt}
 use Rattle.sx_spelling.specs.Source.{characters}
-use Rattle.sx_fault_laws.specs.Behind.{Behind, no_character}
+use Rattle.sx_fault_laws.specs.Behind.{BadBehind, no_character}
 
 -- a text that spells no integer in a base, or none of 128 bits; no base is 0
 pub data NoInteger (base : ℕ) (text : List ℕ) : Type 0 where
@@ -34,12 +34,12 @@ module _ (file : List ℕ) where
 
   -- bytes at this offset that begin no bracket, prefix, string or what a number sign begins, and no identifier or number
   pub data BadBare : ℕ → List ℕ → Fault → Type 0 where
-    bad_escape : (at : ℕ) (bytes : List ℕ) (f : Fault) → is_special (slice_index bytes 0) ≡ false → Behind BarePart (BadBackslash kind.BadEscape at) at bytes f → BadBare at bytes f
+    bad_escape : (at : ℕ) (bytes : List ℕ) (f : Fault) → is_special (slice_index bytes 0) ≡ false → BadBehind BarePart (BadBackslash kind.BadEscape at) at bytes f → BadBare at bytes f
     no_char : (at : ℕ) (bytes : List ℕ) (p : Decoded) (ps : List Decoded) → characters bytes ≡ p ∷ ps → p.char ≡ None → BadBare at bytes (no_character file at)
     text : (at : ℕ) (bytes : List ℕ) (n : ℕ) (f : Fault) → is_special (slice_index bytes 0) ≡ false → Bare bytes n → 0 < n → BadText at (at + n) (take n bytes) f → BadBare at bytes f
 
   -- bytes at this offset that begin with a number sign and the mark of a number, and spell no number
   pub data BadMarked : ℕ → List ℕ → Fault → Type 0 where
-    bad_escape : (at : ℕ) (bytes : List ℕ) (f : Fault) → Behind BarePart (BadBackslash kind.BadNumber at) (at + 2) (drop 2 bytes) f → BadMarked at bytes f
+    bad_escape : (at : ℕ) (bytes : List ℕ) (f : Fault) → BadBehind BarePart (BadBackslash kind.BadNumber at) (at + 2) (drop 2 bytes) f → BadMarked at bytes f
     number : (at : ℕ) (bytes : List ℕ) (n : ℕ) → Bare (drop 2 bytes) n → NoInteger (radix (slice_index bytes 1)) (drop 2 (take (2 + n) bytes))
         → BadMarked at bytes (fault_at file kind.BadNumber at (at + 2 + n))

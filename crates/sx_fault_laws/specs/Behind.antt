@@ -11,9 +11,9 @@ no_character file at = fault_at file kind.BadUtf8 at (at + 1)
 
 -- from an offset, where these are the bytes, stand some parts one after another, which take so many bytes, and then bytes that
 -- are bad with this fault
-pub data Behind (Part : List ℕ → ℕ → Type 0) (Bad : ℕ → List ℕ → Fault → Type 0) : ℕ → List ℕ → Fault → Type 0 where
-  here : (at : ℕ) (bytes : List ℕ) (f : Fault) → Bad at bytes f → Behind Part Bad at bytes f
-  more : (at size : ℕ) (bytes : List ℕ) (f : Fault) → Part bytes size → Behind Part Bad (at + size) (drop size bytes) f → Behind Part Bad at bytes f
+pub data BadBehind (Part : List ℕ → ℕ → Type 0) (Bad : ℕ → List ℕ → Fault → Type 0) : ℕ → List ℕ → Fault → Type 0 where
+  here : (at : ℕ) (bytes : List ℕ) (f : Fault) → Bad at bytes f → BadBehind Part Bad at bytes f
+  more : (at size : ℕ) (bytes : List ℕ) (f : Fault) → Part bytes size → BadBehind Part Bad (at + size) (drop size bytes) f → BadBehind Part Bad at bytes f
 
 -- what opened at an offset goes on, and here the source ends, or comes a byte that begins no character
 pub data Cut (file : List ℕ) (opening : ℕ) : ℕ → List Decoded → Fault → Type 0 where

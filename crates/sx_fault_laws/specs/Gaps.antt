@@ -7,7 +7,7 @@ use Rattle.sx_base.specs.declared.fault.FaultKind.TheVariants as kind
 use Rattle.sx_lexer.specs.Between.{Atmosphere, ends_comment, opens, closes}
 use Rattle.sx_lexer.specs.Faults.{fault_at}
 use Rattle.sx_spelling.specs.Source.{characters, piece}
-use Rattle.sx_fault_laws.specs.Behind.{Behind, no_character}
+use Rattle.sx_fault_laws.specs.Behind.{BadBehind, no_character}
 
 module _ (file : List ℕ) where
   -- a line goes on, with characters that don't end it, up to a byte that begins no character
@@ -34,4 +34,4 @@ module _ (file : List ℕ) where
 
   -- behind whitespace and comments stands a comment that can't go on
   abbrev pub BadGap : ℕ → List ℕ → Fault → Type 0
-  BadGap = Behind Atmosphere BadComment
+  BadGap = BadBehind Atmosphere BadComment

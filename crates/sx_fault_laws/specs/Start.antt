@@ -9,15 +9,15 @@ use Rattle.sx_spelling.specs.Whitespace.{ends_line}
 use Rattle.sx_fault_laws.specs.Gaps.{BadLine}
 
 -- characters up to what ends a line, or to the end, which take so many bytes
-pub data Line : List Decoded → ℕ → Type 0 where
-  source_end : Line [] 0
-  line_end : (c size : ℕ) (rest : List Decoded) → ends_line c ≡ true → Line (piece (Some c) size ∷ rest) 0
-  char : (c size n : ℕ) (rest : List Decoded) → ends_line c ≡ false → Line rest n → Line (piece (Some c) size ∷ rest) (size + n)
+pub data SourceLine : List Decoded → ℕ → Type 0 where
+  source_end : SourceLine [] 0
+  line_end : (c size : ℕ) (rest : List Decoded) → ends_line c ≡ true → SourceLine (piece (Some c) size ∷ rest) 0
+  char : (c size n : ℕ) (rest : List Decoded) → ends_line c ≡ false → SourceLine rest n → SourceLine (piece (Some c) size ∷ rest) (size + n)
 
 -- a line for the system, which begins with `#!/` or `#! `, or nothing
 pub data RunLine : List ℕ → ℕ → Type 0 where
   none : (bytes : List ℕ) → is_run_line bytes ≡ false → RunLine bytes 0
-  line : (bytes : List ℕ) (n : ℕ) → is_run_line bytes ≡ true → Line (characters bytes) n → RunLine bytes n
+  line : (bytes : List ℕ) (n : ℕ) → is_run_line bytes ≡ true → SourceLine (characters bytes) n → RunLine bytes n
 
 -- a byte order mark, or none, and a line for the system, or none, which take so many bytes
 pub data Start : List ℕ → ℕ → Type 0 where

@@ -5,17 +5,17 @@ use Rattle.sx_base.specs.Place.{line_end}
 use Rattle.sx_base.specs.declared.fault.Fault.{Fault}
 use Rattle.sx_base.specs.declared.fault.FaultKind.TheVariants as kind
 use Rattle.sx_lexer.specs.Faults.{fault_at}
-use Rattle.sx_lexer.specs.Grammar.{Run, Element}
+use Rattle.sx_lexer.specs.Grammar.{CharacterRun, StringElement}
 use Rattle.sx_lexer.specs.Strings.{simple_escape}
 use Rattle.sx_spelling.specs.Escapes.{escape}
 use Rattle.sx_spelling.specs.Numbers.{digits_size}
 use Rattle.sx_spelling.specs.Source.{characters, piece}
 use Rattle.sx_spelling.specs.Whitespace.{is_intraline_char}
-use Rattle.sx_fault_laws.specs.Behind.{Behind, Cut}
+use Rattle.sx_fault_laws.specs.Behind.{BadBehind, Cut}
 
 -- an element of a string, which is no closing quote
 pub data NextElement : List ℕ → ℕ → Type 0 where
-  element : (bytes : List ℕ) (char : Option ℕ) (size : ℕ) → slice_index bytes 0 ≢ 0x22 → Element bytes char size → NextElement bytes size
+  element : (bytes : List ℕ) (char : Option ℕ) (size : ℕ) → slice_index bytes 0 ≢ 0x22 → StringElement bytes char size → NextElement bytes size
 
 module _ (file : List ℕ) (quote : ℕ) where
   -- the string whose opening quote stands there can't go on at this offset, where these are the bytes
@@ -30,12 +30,12 @@ module _ (file : List ℕ) (quote : ℕ) where
         → characters (drop (2 + n) bytes) ≡ piece (Some c) size ∷ ps → escape bytes ≡ None → BadElement at bytes (fault_at file kind.BadEscape quote at)
     -- behind a backslash and blanks
     blanks_cut : (at : ℕ) (bytes : List ℕ) (before : ℕ) (f : Fault) → slice_index bytes 0 ≡ 0x5C → simple_escape (slice_index bytes 1) ≡ None → slice_index bytes 1 ≢ 0x78
-        → Run is_intraline_char (characters (drop 1 bytes)) before → Cut file quote (at + 1 + before) (characters (drop (1 + before) bytes)) f → BadElement at bytes f
+        → CharacterRun is_intraline_char (characters (drop 1 bytes)) before → Cut file quote (at + 1 + before) (characters (drop (1 + before) bytes)) f → BadElement at bytes f
     -- a backslash, blanks and a character that ends no line, which are no escape
     no_line : (at : ℕ) (bytes : List ℕ) (before c size : ℕ) (ps : List Decoded) → slice_index bytes 0 ≡ 0x5C → simple_escape (slice_index bytes 1) ≡ None → slice_index bytes 1 ≢ 0x78
-        → Run is_intraline_char (characters (drop 1 bytes)) before → characters (drop (1 + before) bytes) ≡ piece (Some c) size ∷ ps → line_end (drop (1 + before) bytes) ≡ 0
+        → CharacterRun is_intraline_char (characters (drop 1 bytes)) before → characters (drop (1 + before) bytes) ≡ piece (Some c) size ∷ ps → line_end (drop (1 + before) bytes) ≡ 0
         → BadElement at bytes (fault_at file kind.BadEscape quote at)
 
   -- behind some elements the string can't go on
   abbrev pub BadString : ℕ → List ℕ → Fault → Type 0
-  BadString = Behind NextElement BadElement
+  BadString = BadBehind NextElement BadElement

@@ -5,7 +5,7 @@ use Rattle.sx_base.specs.declared.fault.Fault.{Fault}
 use Rattle.sx_base.specs.declared.fault.FaultKind.TheVariants as kind
 use Rattle.sx_lexer.specs.Between.{Gap}
 use Rattle.sx_lexer.specs.Faults.{fault_at}
-use Rattle.sx_lexer.specs.Grammar.{Run, hash_sign_of}
+use Rattle.sx_lexer.specs.Grammar.{CharacterRun, hash_sign_of}
 use Rattle.sx_lexer.specs.Tokens.{is_number_mark, is_true, is_false}
 use Rattle.sx_spelling.specs.Source.{characters}
 use Rattle.sx_spelling.specs.Whitespace.{is_delimited, runs_on}
@@ -31,7 +31,7 @@ module _ (file : List ℕ) where
     string : (at : ℕ) (bytes : List ℕ) (f : Fault) → slice_index bytes 0 ≡ 0x22 → BadString file at (at + 1) (drop 1 bytes) f → BadToken at bytes f
     character : (at : ℕ) (bytes : List ℕ) (f : Fault) → slice_index bytes 0 ≡ 0x23 → slice_index bytes 1 ≡ 0x5C → BadCharacter file at bytes f → BadToken at bytes f
     marked : (at : ℕ) (bytes : List ℕ) (f : Fault) → slice_index bytes 0 ≡ 0x23 → is_number_mark (slice_index bytes 1) ≡ true → BadMarked file at bytes f → BadToken at bytes f
-    hash : (at : ℕ) (bytes : List ℕ) (n : ℕ) → NoHash bytes → Run runs_on (characters (drop 1 bytes)) n → BadToken at bytes (fault_at file kind.BadToken at (at + 1 + n))
+    hash : (at : ℕ) (bytes : List ℕ) (n : ℕ) → NoHash bytes → CharacterRun runs_on (characters (drop 1 bytes)) n → BadToken at bytes (fault_at file kind.BadToken at (at + 1 + n))
     bare : (at : ℕ) (bytes : List ℕ) (f : Fault) → BadBare file at bytes f → BadToken at bytes f
 
   -- from an offset on a source goes on neither with a token nor to its end: in the gap that begins there stands a comment that can't

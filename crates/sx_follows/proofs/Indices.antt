@@ -7,7 +7,7 @@ use Rattle.sx_base.specs.declared.name.Label.{Label}
 use Rattle.sx_core.specs.Labels.{same_label}
 use Rattle.sx_core.specs.declared.binding.Binding.{Binding}
 use Rattle.sx_core.specs.declared.binding.Binding.TheVariants as binding
-use Rattle.sx_core.specs.declared.record.LibRecord.{LibRecord}
+use Rattle.sx_core.specs.declared.record.CompiledLibrary.{CompiledLibrary}
 use Rattle.sx_core_laws.specs.Follows.{index_in, index_of, is_there, same_index}
 use Rattle.sx_core_laws.specs.Words.{among, each, once}
 use Rattle.sx_core_laws.proofs.Decisions.{label_decides}
@@ -71,10 +71,10 @@ index_table_more (b ∷ bs) rows l = index_table_more bs (with_index rows b) l �
     by true h = there (same_label l b.0) refl (lookup (same_label l) rows) refl h
     by false h = ap (λ o. or_index o (index_in (lookup (same_label l) bs))) (last rows) ∙ new (lookup (same_label l) rows) (same_label l b.0)
 
-pub table_index : (r : LibRecord) (l : Label) → index_in_table (with_indices [] r.bindings) l ≡ index_of r l
+pub table_index : (r : CompiledLibrary) (l : Label) → index_in_table (with_indices [] r.bindings) l ≡ index_of r l
 table_index r l = index_table_more r.bindings [] l
 
-pub table_indices : (own : List (Label × Option ℕ)) (r : LibRecord) → own ≡ with_indices [] r.bindings → (ls : List Label) → map (index_in_table own) ls ≡ map (index_of r) ls
+pub table_indices : (own : List (Label × Option ℕ)) (r : CompiledLibrary) → own ≡ with_indices [] r.bindings → (ls : List Label) → map (index_in_table own) ls ≡ map (index_of r) ls
 table_indices own r is ls = ap (λ rows. map (index_in_table rows) ls) is ∙ (λ i. map (λ l. table_index r l i) ls)
 
 -- ---- each index is there, and no two are the same

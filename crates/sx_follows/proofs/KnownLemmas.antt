@@ -6,7 +6,7 @@ use Rattle.std.specs.Map.{lookup}
 use Rattle.sx_base.specs.declared.name.Label.{Label}
 use Rattle.sx_core.specs.Labels.{same_label}
 use Rattle.sx_core.specs.declared.binding.Binding.{Binding}
-use Rattle.sx_core.specs.declared.record.LibRecord.{LibRecord}
+use Rattle.sx_core.specs.declared.record.CompiledLibrary.{CompiledLibrary}
 use Rattle.sx_core_laws.specs.Follows.{bound_labels, is_given, is_known}
 use Rattle.sx_core_laws.specs.Words.{among, each}
 use Rattle.sx_core_laws.proofs.Decisions.{label_decides}
@@ -59,11 +59,11 @@ module _ (l : Label) where
       some_all bs (with_index rows b) ∙ ap (λ c. c || among same_label (map (λ x. x.0) bs) l) (some_more rows b)
       ∙ or_assoc (is_some (lookup (same_label l) rows)) (same_label l b.0) (among same_label (map (λ x. x.0) bs) l)
 
-pub known_is : (r : LibRecord) (earlier : List LibRecord) (l : Label) → known_by (with_indices [] r.bindings) (flat_map bound_labels earlier) l ≡ is_known r earlier l
+pub known_is : (r : CompiledLibrary) (earlier : List CompiledLibrary) (l : Label) → known_by (with_indices [] r.bindings) (flat_map bound_labels earlier) l ≡ is_known r earlier l
 known_is r earlier l =
     or_turn (is_given l) (is_some (lookup (same_label l) (with_indices [] r.bindings)) || among same_label (flat_map bound_labels earlier) l)
     ∙ ap (λ c. c || is_given l) (ap (λ c. c || among same_label (flat_map bound_labels earlier) l) (some_all l r.bindings []) ∙ sym (among_joined (bound_labels r) (flat_map bound_labels earlier) l))
 
-pub each_known : (own : List (Label × Option ℕ)) (r : LibRecord) (earlier : List LibRecord) → own ≡ with_indices [] r.bindings → (ls : List Label)
+pub each_known : (own : List (Label × Option ℕ)) (r : CompiledLibrary) (earlier : List CompiledLibrary) → own ≡ with_indices [] r.bindings → (ls : List Label)
     → each (known_by own (flat_map bound_labels earlier)) ls ≡ each (is_known r earlier) ls
 each_known own r earlier is ls = ap (λ rows. each (known_by rows (flat_map bound_labels earlier)) ls) is ∙ (λ i. each (λ l. known_is r earlier l i) ls)

@@ -10,7 +10,7 @@ use Rattle.sx_base.specs.Same.{same_library, same_library_decides}
 use Rattle.sx_base.specs.declared.library.LibName.{LibName}
 use Rattle.sx_base.specs.declared.name.Label.{Label}
 use Rattle.sx_core.specs.Labels.{same_label}
-use Rattle.sx_core.specs.declared.record.LibRecord.{LibRecord}
+use Rattle.sx_core.specs.declared.record.CompiledLibrary.{CompiledLibrary}
 use Rattle.sx_core_laws.specs.Follows.{bound_labels, names_of}
 use Rattle.sx_core_laws.specs.Records.{defined}
 use Rattle.sx_core_laws.specs.Words.{among}
@@ -57,7 +57,7 @@ suc_same m n = eqb-suc-suc m n
 
 -- ---- what a table tells, with one record more
 
-module _ {X : Type 0} (has : X → LibRecord → Bool) (find grown : X → Option ℕ) (records : List LibRecord) (r : LibRecord) (tells : Tells has find records) where
+module _ {X : Type 0} (has : X → CompiledLibrary → Bool) (find grown : X → Option ℕ) (records : List CompiledLibrary) (r : CompiledLibrary) (tells : Tells has find records) where
   pub tells_more : ((x : X) → has x r ≡ true → (find x ≡ None) × (grown x ≡ Some (length records))) → ((x : X) → has x r ≡ false → grown x ≡ find x) → Tells has grown (records ++ r ∷ [])
   tells_more there elsewhere x n = by_place (nat_eq (length records) n) refl
     where
@@ -194,7 +194,7 @@ no_places p names bound defs = record {
 }
 
 -- the tables of one record more
-pub places_more : (places grown : Places) (records : List LibRecord) (r : LibRecord) → ArePlaces places records
+pub places_more : (places grown : Places) (records : List CompiledLibrary) (r : CompiledLibrary) → ArePlaces places records
     → adds same_library places.names.entries (r.name ∷ []) (length records) ≡ Some grown.names.entries
     → adds same_label places.bound.entries (bound_labels r) (length records) ≡ Some grown.bound.entries
     → adds same_label places.defined.entries (defined r) (length records) ≡ Some grown.defined.entries
@@ -214,8 +214,8 @@ places_more places grown records r are names bound defs = record {
 
 -- ---- those that are needed
 
-module _ (h : LibRecord → Bool) where
-  none_has : (ms : List Bool) (rs : List LibRecord) → ((n : ℕ) → has_at h (slice_get rs n) ≡ false) → list_any h (needed_records ms rs) ≡ false
+module _ (h : CompiledLibrary → Bool) where
+  none_has : (ms : List Bool) (rs : List CompiledLibrary) → ((n : ℕ) → has_at h (slice_get rs n) ≡ false) → list_any h (needed_records ms rs) ≡ false
   none_has [] rs f = refl
   none_has (m ∷ ms) [] f = refl
   none_has (m ∷ ms) (r ∷ rs) f = by m (none_has ms rs (λ n. f (suc n)))
@@ -224,7 +224,7 @@ module _ (h : LibRecord → Bool) where
       by true k = ap (λ b. b || list_any h (needed_records ms rs)) (f 0) ∙ k
       by false k = k
 
-  one_has : (ms : List Bool) (rs : List LibRecord) (p : ℕ) → ((n : ℕ) → has_at h (slice_get rs n) ≡ nat_eq p n) → list_any h (needed_records ms rs) ≡ mark_at (slice_get ms p)
+  one_has : (ms : List Bool) (rs : List CompiledLibrary) (p : ℕ) → ((n : ℕ) → has_at h (slice_get rs n) ≡ nat_eq p n) → list_any h (needed_records ms rs) ≡ mark_at (slice_get ms p)
   one_has [] rs p f = refl
   one_has (m ∷ ms) [] p f = absurd (true≢false (sym (self_nat p) ∙ sym (f p)))
   one_has (m ∷ ms) (r ∷ rs) zero f = by m (none_has ms rs (λ n. f (suc n) ∙ zero_apart n))
@@ -238,7 +238,7 @@ module _ (h : LibRecord → Bool) where
       by true k = ap (λ b. b || list_any h (needed_records ms rs)) (f 0 ∙ suc_apart p) ∙ k
       by false k = k
 
-pub needed_have : {X : Type 0} (has : X → LibRecord → Bool) (find : X → Option ℕ) (records : List LibRecord) → Tells has find records → (marks : List Bool) (x : X)
+pub needed_have : {X : Type 0} (has : X → CompiledLibrary → Bool) (find : X → Option ℕ) (records : List CompiledLibrary) → Tells has find records → (marks : List Bool) (x : X)
     → is_needed marks (find x) ≡ list_any (has x) (needed_records marks records)
 needed_have has find records tells marks x = by (find x) refl
   where
@@ -246,21 +246,21 @@ needed_have has find records tells marks x = by (find x) refl
     by None e = sym (none_has (has x) marks records (λ n. tells x n ∙ ap (λ o. is_place o n) e))
     by (Some p) e = sym (one_has (has x) marks records p (λ n. tells x n ∙ ap (λ o. is_place o n) e))
 
-pub names_any : (rs : List LibRecord) (name : LibName) → list_any (has_name name) rs ≡ among same_library (names_of rs) name
+pub names_any : (rs : List CompiledLibrary) (name : LibName) → list_any (has_name name) rs ≡ among same_library (names_of rs) name
 names_any [] name = refl
 names_any (r ∷ rs) name = ap (λ b. same_library name r.name || b) (names_any rs name)
 
-pub bound_any : (rs : List LibRecord) (l : Label) → list_any (has_bound l) rs ≡ among same_label (flat_map bound_labels rs) l
+pub bound_any : (rs : List CompiledLibrary) (l : Label) → list_any (has_bound l) rs ≡ among same_label (flat_map bound_labels rs) l
 bound_any [] l = refl
 bound_any (r ∷ rs) l = ap (λ b. has_bound l r || b) (bound_any rs l) ∙ sym (among_joined (bound_labels r) (flat_map bound_labels rs) l)
 
-pub defined_any : (rs : List LibRecord) (l : Label) → list_any (has_defined l) rs ≡ among same_label (flat_map defined rs) l
+pub defined_any : (rs : List CompiledLibrary) (l : Label) → list_any (has_defined l) rs ≡ among same_label (flat_map defined rs) l
 defined_any [] l = refl
 defined_any (r ∷ rs) l = ap (λ b. has_defined l r || b) (defined_any rs l) ∙ sym (among_joined (defined r) (flat_map defined rs) l)
 
 -- ---- what the tables tell
 
-module _ (places : Places) (records : List LibRecord) (are : ArePlaces places records) (marks : List Bool) where
+module _ (places : Places) (records : List CompiledLibrary) (are : ArePlaces places records) (marks : List Bool) where
   pub name_needed : (name : LibName) → is_needed marks (lookup (same_library name) places.names.entries) ≡ among same_library (names_of (needed_records marks records)) name
   name_needed name = needed_have has_name (λ x. lookup (same_library x) places.names.entries) records are.names marks name ∙ names_any (needed_records marks records) name
 

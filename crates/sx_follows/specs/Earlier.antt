@@ -5,22 +5,22 @@ use Rattle.sx_base.specs.Same.{same_library}
 use Rattle.sx_base.specs.declared.library.LibName.{LibName}
 use Rattle.sx_base.specs.declared.name.Label.{Label}
 use Rattle.sx_core.specs.Labels.{same_label}
-use Rattle.sx_core.specs.declared.record.LibRecord.{LibRecord}
+use Rattle.sx_core.specs.declared.record.CompiledLibrary.{CompiledLibrary}
 use Rattle.sx_core_laws.specs.Follows.{bound_labels}
 use Rattle.sx_core_laws.specs.Records.{defined}
 use Rattle.sx_core_laws.specs.Words.{among}
 use Rattle.sx_follows.specs.declared.earlier.Places.{Places}
 
-abbrev pub has_name : LibName → LibRecord → Bool
+abbrev pub has_name : LibName → CompiledLibrary → Bool
 has_name name r = same_library name r.name
 
-abbrev pub has_bound : Label → LibRecord → Bool
+abbrev pub has_bound : Label → CompiledLibrary → Bool
 has_bound l r = among same_label (bound_labels r) l
 
-abbrev pub has_defined : Label → LibRecord → Bool
+abbrev pub has_defined : Label → CompiledLibrary → Bool
 has_defined l r = among same_label (defined r) l
 
-abbrev pub has_at : (LibRecord → Bool) → Option LibRecord → Bool
+abbrev pub has_at : (CompiledLibrary → Bool) → Option CompiledLibrary → Bool
 has_at has None = false
 has_at has (Some r) = has r
 
@@ -29,10 +29,10 @@ is_place None n = false
 is_place (Some p) n = nat_eq p n
 
 -- a table tells the only record that has something
-abbrev pub Tells : {X : Type 0} → (X → LibRecord → Bool) → (X → Option ℕ) → List LibRecord → Type 0
+abbrev pub Tells : {X : Type 0} → (X → CompiledLibrary → Bool) → (X → Option ℕ) → List CompiledLibrary → Type 0
 Tells {X} has find records = (x : X) (n : ℕ) → has_at (has x) (slice_get records n) ≡ is_place (find x) n
 
-pub record ArePlaces (places : Places) (records : List LibRecord) : Type 0 where
+pub record ArePlaces (places : Places) (records : List CompiledLibrary) : Type 0 where
   pub names : Tells has_name (λ x. lookup (same_library x) places.names.entries) records
   pub bound : Tells has_bound (λ x. lookup (same_label x) places.bound.entries) records
   pub defined : Tells has_defined (λ x. lookup (same_label x) places.defined.entries) records

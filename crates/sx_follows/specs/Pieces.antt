@@ -11,7 +11,7 @@ use Rattle.sx_core.specs.References.{binders, mentions}
 use Rattle.sx_core.specs.declared.binding.Binding.{Binding}
 use Rattle.sx_core.specs.declared.binding.Binding.TheVariants as binding
 use Rattle.sx_core.specs.declared.record.Line.{Line}
-use Rattle.sx_core.specs.declared.record.LibRecord.{LibRecord}
+use Rattle.sx_core.specs.declared.record.CompiledLibrary.{CompiledLibrary}
 use Rattle.sx_core_laws.specs.Follows.{all_binders, all_numbers, bound_labels, is_given, is_own, is_there, key_of, same_index, same_key, suits}
 use Rattle.sx_core_laws.specs.Parts.{parts}
 use Rattle.sx_core_laws.specs.Records.{line_core, line_labels}
@@ -19,15 +19,15 @@ use Rattle.sx_core.specs.Labels.{same_label}
 use Rattle.sx_core_laws.specs.WellMade.{same_code}
 use Rattle.sx_core_laws.specs.Words.{among, each, once}
 use Rattle.sx_well_made.specs.Parts.{noted_all}
-use Rattle.sx_well_made.specs.declared.parts.Parts.{Parts}
+use Rattle.sx_well_made.specs.declared.parts.NotedParts.{NotedParts}
 
 -- the expression of a keyword
-abbrev pub keyword_in : Binding → Option PlainCore
-keyword_in (binding.Variable v) = None
-keyword_in (binding.PatternVariable level depth) = None
-keyword_in (binding.Macro level expression) = expression
-keyword_in (binding.Core form) = None
-keyword_in (binding.Primitive o) = None
+abbrev pub expand_transformer_in : Binding → Option PlainCore
+expand_transformer_in (binding.Variable v) = None
+expand_transformer_in (binding.PatternVariable level depth) = None
+expand_transformer_in (binding.Macro level expression) = expression
+expand_transformer_in (binding.Core form) = None
+expand_transformer_in (binding.Primitive o) = None
 
 -- what the expression of a keyword binds and mentions
 abbrev pub binders_in : Option PlainCore → List Label
@@ -56,10 +56,10 @@ is_top (binding.Core form) = false
 is_top (binding.Primitive o) = false
 
 -- a definition's label is a variable too
-abbrev pub with_line : Parts → Line → Parts
+abbrev pub with_line : NotedParts → Line → NotedParts
 with_line all l = noted_all (record all { variables = all.variables ++ line_labels l }) (parts (line_core l))
 
-abbrev pub with_lines : Parts → List Line → Parts
+abbrev pub with_lines : NotedParts → List Line → NotedParts
 with_lines all [] = all
 with_lines all (l ∷ ls) = with_lines (with_line all l) ls
 
@@ -72,12 +72,12 @@ index_of_binding (binding.Core form) = None
 index_of_binding (binding.Primitive o) = None
 
 -- all that it binds, its codes and the frames of its rows are named by its own library
-abbrev pub all_own : LibRecord → Bool
+abbrev pub all_own : CompiledLibrary → Bool
 all_own r = each (λ l. is_own r l.0) (bound_labels r) && (each (λ l. is_own r l.0) (all_binders r)
     && (each (λ n. is_own r n.0) (all_numbers r) && each (λ f. is_own r f.frame.0) r.frames))
 
 -- each of them stands once
-abbrev pub all_once : LibRecord → Bool
+abbrev pub all_once : CompiledLibrary → Bool
 all_once r = once same_label (bound_labels r) && (once same_label (all_binders r) && (once same_code (all_numbers r) && once same_key (map key_of r.frames)))
 
 -- ---- the indices of its variables

@@ -6,13 +6,13 @@ use Rattle.sx_core.specs.Core.{PlainCore, PlainInits}
 use Rattle.sx_core.specs.Labels.{same_label}
 use Rattle.sx_core.specs.References.{formals_labels}
 use Rattle.sx_core.specs.declared.formals.Formals.{Formals}
-use Rattle.sx_core.specs.declared.record.LibRecord.{LibRecord}
+use Rattle.sx_core.specs.declared.record.CompiledLibrary.{CompiledLibrary}
 use Rattle.sx_core_laws.specs.Records.{defined}
 use Rattle.sx_core_laws.specs.Scope.{closed, inits_closed}
 use Rattle.sx_core_laws.specs.Words.{among}
 
 -- what is in scope, before what the earlier records define and what a record defines itself
-abbrev pub under : List Label → List LibRecord → List Label → List Label
+abbrev pub under : List Label → List CompiledLibrary → List Label → List Label
 under scope earlier own = scope ++ (flat_map defined earlier ++ own)
 
 -- two lists of labels have the same labels among them

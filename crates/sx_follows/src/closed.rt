@@ -13,14 +13,14 @@ ghost use Rattle.sx_core_laws.specs.Scope.{closed, all_closed, inits_closed, cas
 ghost use Rattle.sx_core_laws.specs.Words.{among, each};
 ghost use Rattle.sx_follows.specs.Scope.{case_closed, output_closed, under, values_closed};
 
-use crate::earlier::Earlier;
+use crate::earlier::NeededEarlier;
 use std::alloc::Global;
 use sx_base::items::Items;
 use sx_base::memory::Memory;
 use sx_base::name::Label;
 use sx_core::code::{Clause, Code, Core, CoreNode, Init, Lambda};
 use sx_core::formals::Formals;
-use sx_core::template::{Item, Template, TemplateNode};
+use sx_core::template::{TemplateItem, Template, TemplateNode};
 use sx_well_made::labels::LabelSet;
 use sx_well_made::scan::add_variables;
 
@@ -29,7 +29,7 @@ use sx_well_made::scan::add_variables;
 #[derive(Drop)]
 pub struct Top<'a> {
     pub alloc: Global,
-    pub earlier: &'a Earlier<'a>,
+    pub earlier: &'a NeededEarlier<'a>,
     pub own: &'a LabelSet,
 }
 
@@ -59,7 +59,7 @@ fn is_instance_closed(scope: &LabelSet, top: &Top, template: &Template) -> bool
 
 #[cycle(instance)]
 #[tactic(auto, using(sx_well_made::proofs::Lists::each_joined))]
-fn are_items_closed(scope: &LabelSet, top: &Top, list: &[Item]) -> bool
+fn are_items_closed(scope: &LabelSet, top: &Top, list: &[TemplateItem]) -> bool
     ensures { result ≡ each (among same_label (under scope.now top.now.earlier.now top.now.own.now)) (item_labels (items list.now)) }
 {
     for item in list {

@@ -6,10 +6,10 @@ ghost use Rattle.sx_core.specs.Labels.{with_labels};
 ghost use Rattle.sx_core_laws.specs.Follows.{has_good_code, keyword_of, line_variables, suits};
 ghost use Rattle.sx_core_laws.specs.Records.{defined, line_core};
 ghost use Rattle.sx_core_laws.specs.Words.{each};
-ghost use Rattle.sx_follows.specs.Pieces.{all_there, index_in_table, keyword_in, once_there, suits_if, with_indices, with_line, with_lines};
+ghost use Rattle.sx_follows.specs.Pieces.{all_there, index_in_table, expand_transformer_in, once_there, suits_if, with_indices, with_line, with_lines};
 
 use crate::closed::{Top, is_closed};
-use crate::names::{keyword_in, line_core};
+use crate::names::{expand_transformer_in, line_core};
 use indexmap::IndexMap;
 use std::alloc::Global;
 use sx_base::items::Items;
@@ -17,10 +17,10 @@ use sx_base::memory::Memory;
 use sx_base::name::Label;
 use sx_core::binding::Binding;
 use sx_core::code::Core;
-use sx_core::record::{LibRecord, Line};
+use sx_core::record::{CompiledLibrary, Line};
 use sx_well_made::labels::LabelSet;
 use sx_well_made::once::once;
-use sx_well_made::parts::{Parts, gather};
+use sx_well_made::parts::{NotedParts, gather};
 use sx_well_made::scan::add;
 use sx_well_made::well_made::is_well_made;
 
@@ -36,9 +36,9 @@ fn suits(top: &Top, core: &Core) -> Result<bool, Memory>
 }
 
 fn keyword_suits(top: &Top, binding: &Binding) -> Result<bool, Memory>
-    ensures { IfOk result (λ b. b ≡ suits_if (flat_map defined top.now.earlier.now ++ top.now.own.now) (keyword_in binding.now)) }
+    ensures { IfOk result (λ b. b ≡ suits_if (flat_map defined top.now.earlier.now ++ top.now.own.now) (expand_transformer_in binding.now)) }
 {
-    match keyword_in(binding) {
+    match expand_transformer_in(binding) {
         Some(core) => suits(top, core),
         None => Ok(true),
     }
@@ -68,7 +68,7 @@ fn keywords_suit(top: &Top, bindings: &[(Label, Binding)]) -> Result<bool, Memor
 }
 
 #[tactic(auto, using(crate::proofs::CodeLemmas::no_label))]
-fn gather_line(alloc: Global, all: &mut Parts, line: &Line) -> Result<(), Memory>
+fn gather_line(alloc: Global, all: &mut NotedParts, line: &Line) -> Result<(), Memory>
     ensures { OnOk result (all.new ≡ with_line all.old line.now) }
 {
     match line {
@@ -84,11 +84,11 @@ fn gather_line(alloc: Global, all: &mut Parts, line: &Line) -> Result<(), Memory
 fn run_variables(alloc: Global, lines: &[Line]) -> Result<Items<Label>, Memory>
     ensures { IfOk result (λ ls. ls ≡ flat_map line_variables lines.now) }
 {
-    let mut all = Parts::new(alloc);
+    let mut all = NotedParts::new(alloc);
     for line in lines {
         gather_line(alloc, &mut all, line)?;
     }
-    let Parts { variables, .. } = all;
+    let NotedParts { variables, .. } = all;
     Ok(variables)
 }
 
@@ -141,7 +141,7 @@ fn is_indexed(
 /// what the earlier records define.
 #[tactic(auto, using(crate::proofs::CodeLemmas::each_suits_with, crate::proofs::CodeLemmas::each_suits_alone, crate::proofs::Indices::table_indices))]
 pub(crate) fn has_good_code(
-    one: &LibRecord,
+    one: &CompiledLibrary,
     own: &IndexMap<Label, Option<u64>>,
     top: &Top,
 ) -> Result<bool, Memory>

@@ -12,7 +12,7 @@ use std::alloc::Global;
 use sx_base::memory::Memory;
 use sx_base::name::Label;
 use sx_core::binding::Binding;
-use sx_core::record::{LibRecord, Line};
+use sx_core::record::{CompiledLibrary, Line};
 use sx_well_made::labels::LabelSet;
 
 fn add_defined(set: &mut LabelSet, line: &Line) -> Result<(), Memory>
@@ -26,7 +26,7 @@ fn add_defined(set: &mut LabelSet, line: &Line) -> Result<(), Memory>
 
 /// The labels that the lines of a record define, each once.
 #[tactic(auto, using(sx_core::proofs::LabelLemmas::with_labels_joined))]
-pub(crate) fn defined_set(alloc: Global, one: &LibRecord) -> Result<LabelSet, Memory>
+pub(crate) fn defined_set(alloc: Global, one: &CompiledLibrary) -> Result<LabelSet, Memory>
     ensures { IfOk result (λ s. s ≡ with_labels [] (defined one.now)) }
 {
     let mut set = LabelSet::new(alloc);
@@ -58,7 +58,7 @@ fn add_top(set: &mut LabelSet, row: &(Label, Binding)) -> Result<(), Memory>
 
 // The labels of its variables of the top, each once.
 #[tactic(auto, using(sx_core::proofs::LabelLemmas::with_labels_joined))]
-fn top_set(alloc: Global, one: &LibRecord) -> Result<LabelSet, Memory>
+fn top_set(alloc: Global, one: &CompiledLibrary) -> Result<LabelSet, Memory>
     ensures { IfOk result (λ s. s ≡ with_labels [] (tops one.now)) }
 {
     let mut set = LabelSet::new(alloc);
@@ -143,7 +143,7 @@ fn defined_are_tops(lines: &[Line], tops: &LabelSet) -> bool
 #[tactic(auto, using(sx_well_made::proofs::Sets::each_among_with))]
 pub(crate) fn binds_what_it_defines(
     alloc: Global,
-    one: &LibRecord,
+    one: &CompiledLibrary,
     defines: &LabelSet,
 ) -> Result<bool, Memory>
     requires { defines.now ≡ with_labels [] (defined one.now) }

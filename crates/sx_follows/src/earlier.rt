@@ -5,7 +5,7 @@ ghost use Rattle.std.specs.Option.{option_copied};
 ghost use Rattle.std.specs.Prelude.{◌≡◌, [], ◌∷◌, ◌++◌, length, map, slice_get, List, Some, OnOk};
 ghost use Rattle.sx_base.specs.Same.{same_library};
 ghost use Rattle.sx_core.specs.Labels.{same_label};
-ghost use Rattle.sx_core.specs.declared.record.LibRecord.{LibRecord};
+ghost use Rattle.sx_core.specs.declared.record.CompiledLibrary.{CompiledLibrary};
 ghost use Rattle.sx_core_laws.specs.Follows.{bound_labels, names_of};
 ghost use Rattle.sx_core_laws.specs.Records.{defined, line_labels};
 ghost use Rattle.sx_core_laws.specs.Words.{among};
@@ -19,7 +19,7 @@ use sx_base::library::LibName;
 use sx_base::memory::Memory;
 use sx_base::name::Label;
 use sx_core::binding::Binding;
-use sx_core::record::{LibRecord, Line};
+use sx_core::record::{CompiledLibrary, Line};
 use sx_core::share::share_library;
 
 /// For each name the place of the record of a run that has it, and for each label the place of the one that binds it and
@@ -109,8 +109,8 @@ impl Places {
 
     /// Notes what a record has that stands at this place, behind the others. Records of a run share no name and no label; of
     /// two that did, the second would be refused with `Memory`.
-    pub fn push(&mut self, alloc: Global, one: &LibRecord, place: usize) -> Result<(), Memory>
-        ensures { OnOk result ((rs : List LibRecord) → ArePlaces self.old rs → place ≡ length rs → ArePlaces self.new (rs ++ one.now ∷ [])) }
+    pub fn push(&mut self, alloc: Global, one: &CompiledLibrary, place: usize) -> Result<(), Memory>
+        ensures { OnOk result ((rs : List CompiledLibrary) → ArePlaces self.old rs → place ≡ length rs → ArePlaces self.new (rs ++ one.now ∷ [])) }
     {
         put_name(alloc, &mut self.names, &one.name, place)?;
         put_bound(&mut self.bound, one.bindings.as_slice(), place)?;
@@ -121,23 +121,23 @@ impl Places {
 
 /// The records that a library needs, of those of a run.
 #[derive(Drop)]
-pub struct Earlier<'a> {
+pub struct NeededEarlier<'a> {
     /// All records of the run.
-    records: &'a [LibRecord],
+    records: &'a [CompiledLibrary],
     places: &'a Places,
     /// A mark for each place. Those beyond the marks are not needed.
     marks: &'a [bool],
 }
 
-impl<'a> Model for Earlier<'a> {
+impl<'a> Model for NeededEarlier<'a> {
     ghost use Rattle.std.specs.Prelude.{List};
     ghost use Rattle.std.specs.Coded.{coded_list};
-    ghost use Rattle.sx_core.specs.declared.record.LibRecord.{LibRecord};
-    ghost use Rattle.sx_core.specs.contracts.record.LibRecord as of_record;
+    ghost use Rattle.sx_core.specs.declared.record.CompiledLibrary.{CompiledLibrary};
+    ghost use Rattle.sx_core.specs.contracts.record.CompiledLibrary as of_record;
     ghost use Rattle.sx_standing.specs.Ready.{needed_records};
     ghost use Rattle.sx_follows.specs.Earlier.{ArePlaces};
 
-    ghost Value = { List LibRecord };
+    ghost Value = { List CompiledLibrary };
 
     ghost coded = { coded_list of_record.the_row.coded };
 
@@ -166,13 +166,13 @@ fn is_needed(place: Option<&usize>, marks: &[bool]) -> bool
     }
 }
 
-impl<'a> Earlier<'a> {
+impl<'a> NeededEarlier<'a> {
     /// The records of a run that are marked, asked through the places of all of them.
-    pub fn new(records: &'a [LibRecord], places: &'a Places, marks: &'a [bool]) -> Earlier<'a>
+    pub fn new(records: &'a [CompiledLibrary], places: &'a Places, marks: &'a [bool]) -> NeededEarlier<'a>
         requires { ArePlaces places.now records.now }
         ensures { result ≡ needed_records marks.now records.now }
     {
-        Earlier {
+        NeededEarlier {
             records,
             places,
             marks,

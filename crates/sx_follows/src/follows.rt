@@ -6,16 +6,16 @@ ghost use Rattle.sx_core_laws.specs.Follows.{follows};
 use crate::closed::Top;
 use crate::code::has_good_code;
 use crate::defines::{binds_what_it_defines, defined_set};
-use crate::earlier::Earlier;
+use crate::earlier::NeededEarlier;
 use crate::known::{knows_its_labels, own_indices};
 use crate::names::{has_new_name, names_its_own};
 use crate::references::refers_to_earlier;
 use std::alloc::Global;
 use sx_base::memory::Memory;
-use sx_core::record::LibRecord;
+use sx_core::record::CompiledLibrary;
 
 /// Whether a record follows the needed records before it, and so may stand behind them.
-pub fn follows(alloc: Global, one: &LibRecord, earlier: &Earlier) -> Result<bool, Memory>
+pub fn follows(alloc: Global, one: &CompiledLibrary, earlier: &NeededEarlier) -> Result<bool, Memory>
     ensures { IfOk result (λ b. b ≡ follows one.now earlier.now) }
 {
     if !has_new_name(alloc, one, earlier)? {

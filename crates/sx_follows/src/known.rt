@@ -7,7 +7,7 @@ ghost use Rattle.sx_core_laws.specs.Follows.{bound_labels, is_given, knows_its_l
 ghost use Rattle.sx_core_laws.specs.Words.{each};
 ghost use Rattle.sx_follows.specs.Pieces.{index_of_binding, known_by, with_index, with_indices};
 
-use crate::earlier::Earlier;
+use crate::earlier::NeededEarlier;
 use indexmap::IndexMap;
 use std::alloc::Global;
 use sx_base::library::LibName;
@@ -17,7 +17,7 @@ use sx_base::op::NAME_COUNT;
 use sx_base::symbol::Symbol;
 use sx_builtin::exports::DERIVED;
 use sx_core::binding::Binding;
-use sx_core::record::LibRecord;
+use sx_core::record::CompiledLibrary;
 use sx_tree::frame_row::FrameRow;
 
 // Whether a name is among some definitions.
@@ -95,7 +95,7 @@ fn put_index(
 }
 
 // What the implementation gives is asked first, since most rows are of it, and it takes no table.
-fn is_known(own: &IndexMap<Label, Option<u64>>, earlier: &Earlier, label: &Label) -> bool
+fn is_known(own: &IndexMap<Label, Option<u64>>, earlier: &NeededEarlier, label: &Label) -> bool
     ensures { result ≡ known_by own.now.entries (flat_map bound_labels earlier.now) label.now }
 {
     is_given(label) || (own.get(label).is_some() || earlier.has_bound(label))
@@ -104,7 +104,7 @@ fn is_known(own: &IndexMap<Label, Option<u64>>, earlier: &Earlier, label: &Label
 fn exports_are_known(
     exports: &[(Symbol, Label)],
     own: &IndexMap<Label, Option<u64>>,
-    earlier: &Earlier,
+    earlier: &NeededEarlier,
 ) -> bool
     ensures { result ≡ each (known_by own.now.entries (flat_map bound_labels earlier.now)) (map (λ e. e.1) exports.now) }
 {
@@ -116,7 +116,7 @@ fn exports_are_known(
     true
 }
 
-fn rows_are_known(rows: &[FrameRow], own: &IndexMap<Label, Option<u64>>, earlier: &Earlier) -> bool
+fn rows_are_known(rows: &[FrameRow], own: &IndexMap<Label, Option<u64>>, earlier: &NeededEarlier) -> bool
     ensures { result ≡ each (known_by own.now.entries (flat_map bound_labels earlier.now)) (map (λ f. f.label) rows.now) }
 {
     for row in rows {
@@ -131,9 +131,9 @@ fn rows_are_known(rows: &[FrameRow], own: &IndexMap<Label, Option<u64>>, earlier
 /// the implementation.
 #[tactic(auto, using(crate::proofs::KnownLemmas::each_known))]
 pub(crate) fn knows_its_labels(
-    one: &LibRecord,
+    one: &CompiledLibrary,
     own: &IndexMap<Label, Option<u64>>,
-    earlier: &Earlier,
+    earlier: &NeededEarlier,
 ) -> bool
     requires { own.now.entries ≡ with_indices [] one.now.bindings }
     ensures { result ≡ knows_its_labels one.now earlier.now }

@@ -11,9 +11,9 @@ ghost use Rattle.sx_core_laws.specs.Parts.{parts};
 ghost use Rattle.sx_core_laws.specs.Records.{line_binders, line_core, same_text};
 ghost use Rattle.sx_core_laws.specs.Words.{each, once};
 ghost use Rattle.sx_well_made.specs.Parts.{noted_all};
-ghost use Rattle.sx_follows.specs.Pieces.{all_once, all_own, binders_in, keyword_in, mentions_in, parts_in};
+ghost use Rattle.sx_follows.specs.Pieces.{all_once, all_own, binders_in, expand_transformer_in, mentions_in, parts_in};
 
-use crate::earlier::Earlier;
+use crate::earlier::NeededEarlier;
 use crate::keys::rows_once;
 use std::alloc::Global;
 use sx_base::items::Items;
@@ -23,10 +23,10 @@ use sx_base::name::{CodeNo, Label};
 use sx_base::symbol::Symbol;
 use sx_core::binding::Binding;
 use sx_core::code::Core;
-use sx_core::record::{LibRecord, Line};
+use sx_core::record::{CompiledLibrary, Line};
 use sx_tree::frame_row::FrameRow;
 use sx_well_made::once::once;
-use sx_well_made::parts::{Parts, gather};
+use sx_well_made::parts::{NotedParts, gather};
 use sx_well_made::scan::{add, scan};
 
 /// The core code of a line.
@@ -40,8 +40,8 @@ pub(crate) fn line_core(line: &Line) -> &Core
 }
 
 /// The expression of a keyword, where a binding is one.
-pub(crate) fn keyword_in(binding: &Binding) -> Option<&Core>
-    ensures { option_copied result ≡ keyword_in binding.now }
+pub(crate) fn expand_transformer_in(binding: &Binding) -> Option<&Core>
+    ensures { option_copied result ≡ expand_transformer_in binding.now }
 {
     match binding {
         Binding::Macro { expression, .. } => match expression {
@@ -79,10 +79,10 @@ fn scan_keyword(
     mentioned: &mut Items<Label>,
     binding: &Binding,
 ) -> Result<(), Memory>
-    ensures bound { OnOk result (bound.new ≡ bound.old ++ binders_in (keyword_in binding.now)) }
-    ensures mentioned { OnOk result (mentioned.new ≡ mentioned.old ++ mentions_in (keyword_in binding.now)) }
+    ensures bound { OnOk result (bound.new ≡ bound.old ++ binders_in (expand_transformer_in binding.now)) }
+    ensures mentioned { OnOk result (mentioned.new ≡ mentioned.old ++ mentions_in (expand_transformer_in binding.now)) }
 {
-    match keyword_in(binding) {
+    match expand_transformer_in(binding) {
         Some(core) => scan(bound, mentioned, core),
         None => Ok(()),
     }
@@ -119,7 +119,7 @@ fn scan_keywords(
 }
 
 // All that is bound in the code of a record.
-fn all_binders(alloc: Global, one: &LibRecord) -> Result<Items<Label>, Memory>
+fn all_binders(alloc: Global, one: &CompiledLibrary) -> Result<Items<Label>, Memory>
     ensures { IfOk result (λ ls. ls ≡ all_binders one.now) }
 {
     let mut bound = Items::new(alloc);
@@ -129,17 +129,17 @@ fn all_binders(alloc: Global, one: &LibRecord) -> Result<Items<Label>, Memory>
     Ok(bound)
 }
 
-fn gather_keyword(alloc: Global, all: &mut Parts, binding: &Binding) -> Result<(), Memory>
-    ensures { OnOk result (all.new ≡ noted_all all.old (parts_in (keyword_in binding.now))) }
+fn gather_keyword(alloc: Global, all: &mut NotedParts, binding: &Binding) -> Result<(), Memory>
+    ensures { OnOk result (all.new ≡ noted_all all.old (parts_in (expand_transformer_in binding.now))) }
 {
-    match keyword_in(binding) {
+    match expand_transformer_in(binding) {
         Some(core) => gather(alloc, all, core),
         None => Ok(()),
     }
 }
 
 #[tactic(auto, using(sx_well_made::proofs::Lists::noted_joined))]
-fn gather_lines(alloc: Global, all: &mut Parts, lines: &[Line]) -> Result<(), Memory>
+fn gather_lines(alloc: Global, all: &mut NotedParts, lines: &[Line]) -> Result<(), Memory>
     ensures { OnOk result (all.new ≡ noted_all all.old (flat_map parts (map line_core lines.now))) }
 {
     for line in lines {
@@ -151,7 +151,7 @@ fn gather_lines(alloc: Global, all: &mut Parts, lines: &[Line]) -> Result<(), Me
 #[tactic(auto, using(sx_well_made::proofs::Lists::noted_joined, crate::proofs::CodeLemmas::keyword_parts_more))]
 fn gather_keywords(
     alloc: Global,
-    all: &mut Parts,
+    all: &mut NotedParts,
     bindings: &[(Label, Binding)],
 ) -> Result<(), Memory>
     ensures { OnOk result (all.new ≡ noted_all all.old (flat_map parts (flat_map keyword_of bindings.now))) }
@@ -164,13 +164,13 @@ fn gather_keywords(
 
 // The numbers of all its codes.
 #[tactic(auto, using(sx_well_made::proofs::Noted::numbers_of))]
-fn all_numbers(alloc: Global, one: &LibRecord) -> Result<Items<CodeNo>, Memory>
+fn all_numbers(alloc: Global, one: &CompiledLibrary) -> Result<Items<CodeNo>, Memory>
     ensures { IfOk result (λ ns. ns ≡ all_numbers one.now) }
 {
-    let mut all = Parts::new(alloc);
+    let mut all = NotedParts::new(alloc);
     gather_lines(alloc, &mut all, one.run.as_slice())?;
     gather_keywords(alloc, &mut all, one.bindings.as_slice())?;
-    let Parts { numbers, .. } = all;
+    let NotedParts { numbers, .. } = all;
     Ok(numbers)
 }
 
@@ -249,14 +249,14 @@ fn labels_of_bindings(alloc: Global, bindings: &[(Label, Binding)]) -> Result<It
     Ok(labels)
 }
 
-fn exports_once(alloc: Global, one: &LibRecord) -> Result<bool, Memory>
+fn exports_once(alloc: Global, one: &CompiledLibrary) -> Result<bool, Memory>
     ensures { IfOk result (λ b. b ≡ once same_text (export_names one.now)) }
 {
     let names = names_of_exports(alloc, one.exports.as_slice())?;
     once(alloc, names.into_vec())
 }
 
-fn bindings_once(alloc: Global, one: &LibRecord) -> Result<bool, Memory>
+fn bindings_once(alloc: Global, one: &CompiledLibrary) -> Result<bool, Memory>
     ensures { IfOk result (λ b. b ≡ once same_label (bound_labels one.now)) }
 {
     let labels = labels_of_bindings(alloc, one.bindings.as_slice())?;
@@ -267,8 +267,8 @@ fn bindings_once(alloc: Global, one: &LibRecord) -> Result<bool, Memory>
 /// prelude. No external name stands twice among its exports.
 pub(crate) fn has_new_name(
     alloc: Global,
-    one: &LibRecord,
-    earlier: &Earlier,
+    one: &CompiledLibrary,
+    earlier: &NeededEarlier,
 ) -> Result<bool, Memory>
     ensures { IfOk result (λ b. b ≡ has_new_name one.now earlier.now) }
 {
@@ -282,7 +282,7 @@ pub(crate) fn has_new_name(
 }
 
 // Whether all that it binds, its codes and the frames of its rows are named by its own library.
-fn are_own(one: &LibRecord, bound: &[Label], numbers: &[CodeNo]) -> bool
+fn are_own(one: &CompiledLibrary, bound: &[Label], numbers: &[CodeNo]) -> bool
     requires bound { bound.now ≡ all_binders one.now }
     requires numbers { numbers.now ≡ all_numbers one.now }
     ensures { result ≡ all_own one.now }
@@ -296,7 +296,7 @@ fn are_own(one: &LibRecord, bound: &[Label], numbers: &[CodeNo]) -> bool
 // Whether each of them stands once.
 fn stand_once(
     alloc: Global,
-    one: &LibRecord,
+    one: &CompiledLibrary,
     bound: Items<Label>,
     numbers: Items<CodeNo>,
 ) -> Result<bool, Memory>
@@ -319,7 +319,7 @@ fn stand_once(
 /// Whether a record names its own: all that it binds, its codes, and the frames of its rows are named by its library, and
 /// each stands once.
 #[tactic(auto, using(crate::proofs::Own::names_its_own_by))]
-pub(crate) fn names_its_own(alloc: Global, one: &LibRecord) -> Result<bool, Memory>
+pub(crate) fn names_its_own(alloc: Global, one: &CompiledLibrary) -> Result<bool, Memory>
     ensures { IfOk result (λ b. b ≡ names_its_own one.now) }
 {
     let bound = all_binders(alloc, one)?;

@@ -6,7 +6,7 @@ ghost use Rattle.sx_core_laws.specs.Follows.{names_of, refers_to_earlier, run_re
 ghost use Rattle.sx_core_laws.specs.Words.{among, each};
 ghost use Rattle.sx_follows.specs.Pieces.{with_libraries, with_library};
 
-use crate::earlier::Earlier;
+use crate::earlier::NeededEarlier;
 use crate::names::scan_lines;
 use indexmap::IndexSet;
 use std::alloc::Global;
@@ -14,7 +14,7 @@ use sx_base::items::Items;
 use sx_base::library::LibName;
 use sx_base::memory::Memory;
 use sx_base::name::Label;
-use sx_core::record::LibRecord;
+use sx_core::record::CompiledLibrary;
 use sx_core::share::share_library;
 
 // Adds the library of a label, but for its own, where it isn't there.
@@ -50,7 +50,7 @@ fn libraries_of(
     Ok(libraries)
 }
 
-fn are_earlier(refs: &[LibName], earlier: &Earlier) -> bool
+fn are_earlier(refs: &[LibName], earlier: &NeededEarlier) -> bool
     ensures { result ≡ each (among same_library (names_of earlier.now)) refs.now }
 {
     for name in refs {
@@ -63,7 +63,7 @@ fn are_earlier(refs: &[LibName], earlier: &Earlier) -> bool
 
 // The libraries that its lines mention, but for its own.
 #[tactic(auto, using(crate::proofs::ReferenceLemmas::libraries_joined))]
-fn run_references(alloc: Global, one: &LibRecord) -> Result<IndexSet<LibName>, Memory>
+fn run_references(alloc: Global, one: &CompiledLibrary) -> Result<IndexSet<LibName>, Memory>
     ensures { IfOk result (λ s. s.keys ≡ run_references one.now) }
 {
     let mut bound = Items::new(alloc);
@@ -76,8 +76,8 @@ fn run_references(alloc: Global, one: &LibRecord) -> Result<IndexSet<LibName>, M
 /// first mention, and all of them have earlier records.
 pub(crate) fn refers_to_earlier(
     alloc: Global,
-    one: &LibRecord,
-    earlier: &Earlier,
+    one: &CompiledLibrary,
+    earlier: &NeededEarlier,
 ) -> Result<bool, Memory>
     ensures { IfOk result (λ b. b ≡ refers_to_earlier one.now earlier.now) }
 {

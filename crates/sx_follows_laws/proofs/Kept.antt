@@ -3,7 +3,7 @@ use Rattle.std.proofs.Common.{List, [], ◌∷◌, ◌++◌, inl, inr}
 use Rattle.std.specs.List.{flat_map}
 use Rattle.sx_base.specs.declared.name.Label.{Label}
 use Rattle.sx_core.specs.References.{binders}
-use Rattle.sx_core.specs.declared.record.LibRecord.{LibRecord}
+use Rattle.sx_core.specs.declared.record.CompiledLibrary.{CompiledLibrary}
 use Rattle.sx_core_laws.specs.Following.{AllFollow}
 use Rattle.sx_core_laws.specs.Follows.{keywords, line_cores, IsOwn, Suits, Follows}
 use Rattle.sx_core_laws.specs.Records.{defined, line_core, run_binders, LinesClosed}
@@ -22,7 +22,7 @@ use Rattle.sx_follows_laws.proofs.Parts.{each-first, each-of-map, once-first}
 use Rattle.sx_follows_laws.proofs.References.{refs-are, referred, known}
 use Rattle.sx_follows_laws.proofs.Rows.{rows-bound}
 
-module _ (earlier : List LibRecord) (r : LibRecord) (h : Follows r earlier) where
+module _ (earlier : List CompiledLibrary) (r : CompiledLibrary) (h : Follows r earlier) where
   abbrev given : List Label
   given = flat_map defined earlier ++ defined r
 
@@ -88,11 +88,11 @@ followers-stand rs earlier r loaded h indexed = record {
 
 -- ---- one after another
 
-all-behind : (earlier rs : List LibRecord) → AllFollow earlier rs → AllBehind earlier rs
+all-behind : (earlier rs : List CompiledLibrary) → AllFollow earlier rs → AllBehind earlier rs
 all-behind earlier [] h = tt
 all-behind earlier (r ∷ rs) h = ((keeps-to earlier r h.0).behind, all-behind (earlier ++ r ∷ []) rs h.1)
 
-all-fit : (earlier rs : List LibRecord) → AllFollow earlier rs → AllFit earlier rs
+all-fit : (earlier rs : List CompiledLibrary) → AllFollow earlier rs → AllFit earlier rs
 all-fit earlier [] h = tt
 all-fit earlier (r ∷ rs) h = ((keeps-to earlier r h.0).fits, all-fit (earlier ++ r ∷ []) rs h.1)
 

@@ -6,7 +6,7 @@ use Rattle.sx_base.specs.Gives.{◌>>=◌}
 use Rattle.sx_base.specs.Same.{same_library, same_library_decides, texts_decides}
 use Rattle.sx_base.specs.declared.fault.Fault.{Fault}
 use Rattle.sx_cache.specs.Fits.{same_text}
-use Rattle.sx_core.specs.declared.record.LibRecord.{LibRecord}
+use Rattle.sx_core.specs.declared.record.CompiledLibrary.{CompiledLibrary}
 use Rattle.sx_core_laws.specs.Follows.{Follows, follows}
 use Rattle.sx_core_laws.proofs.FollowsLemmas.{follows_decides}
 use Rattle.sx_forms.specs.Form.{library_body}
@@ -16,8 +16,8 @@ use Rattle.sx_load.specs.declared.found.Found.{Found}
 use Rattle.sx_load.specs.declared.found.Loading.{Loading}
 use Rattle.sx_load_laws.specs.Laws.{Libraries, IsAt}
 use Rattle.sx_load_laws.proofs.LoadLemmas.{loads_all}
-use Rattle.sx_local_laws.specs.Behind.{Base, behind, expand_behind, behind_next, records_behind}
-use Rattle.sx_local_laws.specs.Local.{AreLoaded, IsNext, group_of}
+use Rattle.sx_local_laws.specs.Behind.{RunBase, behind, expand_behind, behind_next, records_behind}
+use Rattle.sx_local_laws.specs.Local.{AreLoaded, IsNextLibrary, group_of}
 use Rattle.sx_local_laws.proofs.BehindLemmas.{all_same, with_first}
 use Rattle.sx_local_laws.proofs.Local.{are_loaded, turns_to}
 use Rattle.sx_local_laws.proofs.MadeLemmas.{as_many_records}
@@ -39,25 +39,25 @@ join : (a b : Bool) → a ≡ true → b ≡ true → (a && b) ≡ true
 join true b h k = k
 join false b h k = h
 
-at_place : (front : List LibRecord) (r : LibRecord) (rest : List LibRecord) → slice_get (front ++ r ∷ rest) (length front) ≡ Some r
+at_place : (front : List CompiledLibrary) (r : CompiledLibrary) (rest : List CompiledLibrary) → slice_get (front ++ r ∷ rest) (length front) ≡ Some r
 at_place [] r rest = refl
 at_place (x ∷ front) r rest = at_place front r rest
 
-module _ (base : Base) where
+module _ (base : RunBase) where
   -- records are added behind those that are there
-  abbrev AreMore : List LibRecord → List LibRecord → Type 0
-  AreMore records done = (more : List LibRecord) × (records ≡ done ++ more)
+  abbrev AreMore : List CompiledLibrary → List CompiledLibrary → Type 0
+  AreMore records done = (more : List CompiledLibrary) × (records ≡ done ++ more)
 
-  are_more : (done : List LibRecord) (rows : Libraries) (records : List LibRecord) → turns (behind_next base) done rows ≡ Ok records → AreMore records done
+  are_more : (done : List CompiledLibrary) (rows : Libraries) (records : List CompiledLibrary) → turns (behind_next base) done rows ≡ Ok records → AreMore records done
   are_more done [] records h = let same : done ≡ records = cc in ([], sym same ∙ sym (append-nil done))
   are_more done (row ∷ rows) records h = by (expand_behind base done row.1 (library_body row.1.opened.«data»)) (λ more k. are_more more rows records k) h
     where
-      by : (x : Result LibRecord Fault) → ((more : List LibRecord) → turns (behind_next base) more rows ≡ Ok records → AreMore records more)
+      by : (x : Result CompiledLibrary Fault) → ((more : List CompiledLibrary) → turns (behind_next base) more rows ≡ Ok records → AreMore records more)
           → ((x >>= (λ r. Ok (done ++ r ∷ []))) >>= (λ more. turns (behind_next base) more rows)) ≡ Ok records → AreMore records done
       by (Ok r) rest h = let m = rest (done ++ r ∷ []) h in (r ∷ m.0, m.1 ∙ append_assoc done (r ∷ []) m.0)
       by (Err f) rest h = absurd (cc)
 
-  module _ (files : Paths) (roots : List (List ℕ)) (path : List ℕ) (found : Found) (s : Loading) (records : List LibRecord) (program : LibRecord) (run : IsRun base.prelude files roots path found s records program) where
+  module _ (files : Paths) (roots : List (List ℕ)) (path : List ℕ) (found : Found) (s : Loading) (records : List CompiledLibrary) (program : CompiledLibrary) (run : IsRun base.prelude files roots path found s records program) where
     loaded : AreLoaded s.done
     loaded = are_loaded s (loads_all files roots path found s run.loaded).sound
 
@@ -68,16 +68,16 @@ module _ (base : Base) where
     stand = all_records_stand base.prelude files roots path found s records program run
 
     -- the records of the run are those behind that of the derived library
-    behind_derived : (x : Result (List LibRecord) Fault) → records_behind base s.done ≡ x → (all : List LibRecord) × (records_behind base s.done ≡ Ok all) × (records ≡ base.derived ∷ all)
+    behind_derived : (x : Result (List CompiledLibrary) Fault) → records_behind base s.done ≡ x → (all : List CompiledLibrary) × (records_behind base s.done ≡ Ok all) × (records ≡ base.derived ∷ all)
     behind_derived (Ok all) h =
-        let both : ◌≡◌ {A = Result (List LibRecord) Fault} (Ok records) (Ok (base.derived ∷ all)) = sym run.recorded ∙ all_same base s.done ∙ ap (λ x. x >>= (λ (os : List LibRecord). Ok (base.derived ∷ os))) h in
+        let both : ◌≡◌ {A = Result (List CompiledLibrary) Fault} (Ok records) (Ok (base.derived ∷ all)) = sym run.recorded ∙ all_same base s.done ∙ ap (λ x. x >>= (λ (os : List CompiledLibrary). Ok (base.derived ∷ os))) h in
         let same : records ≡ base.derived ∷ all = cc in
         (all, h, same)
     behind_derived (Err f) h =
-        let both : ◌≡◌ {A = Result (List LibRecord) Fault} (Ok records) (Err f) = sym run.recorded ∙ all_same base s.done ∙ ap (λ x. x >>= (λ (os : List LibRecord). Ok (base.derived ∷ os))) h in
+        let both : ◌≡◌ {A = Result (List CompiledLibrary) Fault} (Ok records) (Err f) = sym run.recorded ∙ all_same base s.done ∙ ap (λ x. x >>= (λ (os : List CompiledLibrary). Ok (base.derived ∷ os))) h in
         absurd (cc)
 
-    module _ (others : List LibRecord) (f : Found) (n : IsNext base (group_of files roots) s.done others f) (r : LibRecord) (gives : expand_behind base others f (library_body f.opened.«data») ≡ Ok r) where
+    module _ (others : List CompiledLibrary) (f : Found) (n : IsNextLibrary base (group_of files roots) s.done others f) (r : CompiledLibrary) (gives : expand_behind base others f (library_body f.opened.«data») ≡ Ok r) where
       at : IsAt s.done (length n.before) n.file f
       at = subst (λ (ls : Libraries). slice_get ls (length n.before) ≡ Some (n.file, f)) (sym n.parts) (at_length n.before (n.file, f) n.after)
 
@@ -85,16 +85,16 @@ module _ (base : Base) where
       many = as_many_records base n.before others n.recorded
 
       -- its record stands at its place among those of the run
-      record IsThere (d : LibRecord) (all : List LibRecord) : Type 0 where
-        pub more : List LibRecord
+      record IsThere (d : CompiledLibrary) (all : List CompiledLibrary) : Type 0 where
+        pub more : List CompiledLibrary
         pub parts : all ≡ others ++ r ∷ more
         pub there : slice_get all (length n.before) ≡ Some r
         pub whole : d ∷ all ≡ base.derived ∷ (others ++ r ∷ more)
 
-      is_there : (d : LibRecord) (all : List LibRecord) → records ≡ d ∷ all → IsThere d all
+      is_there : (d : CompiledLibrary) (all : List CompiledLibrary) → records ≡ d ∷ all → IsThere d all
       is_there d all parts =
           let own = behind_derived (records_behind base s.done) refl in
-          let step = ap (records_behind base) n.parts ∙ turns_to (behind_next base) n.before ((n.file, f) ∷ n.after) [] others n.recorded ∙ ap (λ x. (x >>= (λ (y : LibRecord). Ok (others ++ y ∷ []))) >>= (λ t. turns (behind_next base) t n.after)) gives in
+          let step = ap (records_behind base) n.parts ∙ turns_to (behind_next base) n.before ((n.file, f) ∷ n.after) [] others n.recorded ∙ ap (λ x. (x >>= (λ (y : CompiledLibrary). Ok (others ++ y ∷ []))) >>= (λ t. turns (behind_next base) t n.after)) gives in
           let m = are_more (others ++ r ∷ []) n.after own.0 (sym step ∙ own.1) in
           let split : own.0 ≡ others ++ r ∷ m.0 = m.1 ∙ append_assoc others (r ∷ []) m.0 in
           let both : d ∷ all ≡ base.derived ∷ own.0 = sym parts ∙ own.2 in
@@ -102,8 +102,8 @@ module _ (base : Base) where
           record {
             more = m.0;
             parts = same ∙ split;
-            there = subst (λ (rs : List LibRecord). slice_get rs (length n.before) ≡ Some r) (sym (same ∙ split)) (subst (λ k. slice_get (others ++ r ∷ m.0) k ≡ Some r) many (at_place others r m.0));
-            whole = both ∙ ap (λ (rs : List LibRecord). base.derived ∷ rs) split;
+            there = subst (λ (rs : List CompiledLibrary). slice_get rs (length n.before) ≡ Some r) (sym (same ∙ split)) (subst (λ k. slice_get (others ++ r ∷ m.0) k ≡ Some r) many (at_place others r m.0));
+            whole = both ∙ ap (λ (rs : List CompiledLibrary). base.derived ∷ rs) split;
           }
 
       -- what it needs is among the records before it
@@ -120,7 +120,7 @@ module _ (base : Base) where
           let x = is_there follow.derived follow.others follow.parts in
           let whole = x.whole in
           let first : follow.derived ≡ base.derived = cc in
-          let rest : records_at follow.others (needed f) ≡ records_at others (needed f) = ap (λ (rs : List LibRecord). records_at rs (needed f)) x.parts ∙ records_first others (r ∷ x.more) (needed f) low in
+          let rest : records_at follow.others (needed f) ≡ records_at others (needed f) = ap (λ (rs : List CompiledLibrary). records_at rs (needed f)) x.parts ∙ records_first others (r ∷ x.more) (needed f) low in
           subst (Follows r) (λ i. first i ∷ rest i) (follow.each (length n.before) n.file f r at x.there)
 
       named : r.name ≡ f.opened.form.name

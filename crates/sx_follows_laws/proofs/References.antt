@@ -7,7 +7,7 @@ use Rattle.sx_base.specs.declared.library.LibName.{LibName}
 use Rattle.sx_base.specs.declared.name.Label.{Label}
 use Rattle.sx_core.specs.Core.{PlainCore}
 use Rattle.sx_core.specs.References.{references, binders}
-use Rattle.sx_core.specs.declared.record.LibRecord.{LibRecord}
+use Rattle.sx_core.specs.declared.record.CompiledLibrary.{CompiledLibrary}
 use Rattle.sx_core.specs.declared.record.Line.{Line}
 use Rattle.sx_core.specs.declared.record.Line.TheVariants as line
 use Rattle.sx_core_laws.specs.Follows.{keywords, IsOwn, Follows}
@@ -23,7 +23,7 @@ use Rattle.sx_expand_laws.proofs.RunReferences.{references-owed}
 use Rattle.sx_follows_laws.proofs.Parts.{each-first}
 
 -- they are those that expansion tells of its lines
-pub refs-are : (earlier : List LibRecord) (r : LibRecord) → Follows r earlier → r.refs ≡ refs_of r.name r.run
+pub refs-are : (earlier : List CompiledLibrary) (r : CompiledLibrary) → Follows r earlier → r.refs ≡ refs_of r.name r.run
 refs-are earlier r h = h.references.references ∙ sym (references-owed r mine)
   where
     mine : (l : Label) → Among (run_binders r) l → l.0.library ≡ r.name
@@ -68,7 +68,7 @@ module _ (own : LibName) where
       by (inl o) = inl o
       by (inr h) = inr (line-stays xs (with_labels_of own ks (references (code_of y))) l.0.library h)
 
-pub referred : (earlier : List LibRecord) (r : LibRecord) → Follows r earlier → Each (λ c. Each (IsReferred r) (references c)) (map line_core r.run)
+pub referred : (earlier : List CompiledLibrary) (r : CompiledLibrary) → Follows r earlier → Each (λ c. Each (IsReferred r) (references c)) (map line_core r.run)
 referred earlier r h =
     each-of (λ c. Each (IsReferred r) (references c)) (map line_core r.run)
     (λ c a. each-of (IsReferred r) (references c) (λ l b. by l (line-there r.name r.run [] c l a b)))
@@ -87,5 +87,5 @@ has-among (j ∷ ks) k h = by (same_library k j) refl h (has-among ks k)
     by true is g rest = inl ((same_library_decides k j).0 is)
     by false is g rest = inr (rest g)
 
-pub known : (earlier : List LibRecord) (r : LibRecord) → Follows r earlier → (k : LibName) → has_library r.refs k ≡ true → Among (map (λ (q : LibRecord). q.name) earlier) k
-known earlier r h k e = each-at (Among (map (λ (q : LibRecord). q.name) earlier)) r.refs k h.references.known (has-among r.refs k e)
+pub known : (earlier : List CompiledLibrary) (r : CompiledLibrary) → Follows r earlier → (k : LibName) → has_library r.refs k ≡ true → Among (map (λ (q : CompiledLibrary). q.name) earlier) k
+known earlier r h k e = each-at (Among (map (λ (q : CompiledLibrary). q.name) earlier)) r.refs k h.references.known (has-among r.refs k e)

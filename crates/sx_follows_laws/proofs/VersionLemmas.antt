@@ -7,13 +7,13 @@ use Rattle.sx_base.specs.Gives.{◌>>=◌}
 use Rattle.sx_base.specs.declared.fault.Fault.{Fault}
 use Rattle.sx_base.specs.declared.name.Label.{Label}
 use Rattle.sx_tree.specs.Tree.{Tree}
-use Rattle.sx_core.specs.declared.record.LibRecord.{LibRecord}
+use Rattle.sx_core.specs.declared.record.CompiledLibrary.{CompiledLibrary}
 use Rattle.sx_core.specs.declared.record.Line.{Line}
 use Rattle.sx_expand.specs.Body.{finish_all}
 use Rattle.sx_expand.specs.Expanding.{ready, library_record}
 use Rattle.sx_expand.specs.Expression.{inside, full_room}
 use Rattle.sx_expand.specs.Inside.{Inside}
-use Rattle.sx_expand.specs.Top.{exports, record_of, give_record, record_in, first_pass, finished, top}
+use Rattle.sx_expand.specs.Top.{exports, record_of, give_record, record_in, first_pass, second_pass, top}
 use Rattle.sx_expand.specs.declared.top.TopAt.{TopAt}
 use Rattle.sx_forms.specs.declared.form.LibraryForm.{LibraryForm}
 use Rattle.sx_heads.specs.declared.taken.Taken.{Taken}
@@ -24,27 +24,27 @@ use Rattle.sx_library.specs.Library.{export_tree, trees_at, expander_of, expand_
 use Rattle.sx_standing.specs.State.{State}
 
 module _ (go : Inside) (at : TopAt) (es : List (List ℕ × Tree)) where
-  finished-version : (taken : Taken) (s : State) (r : LibRecord) → record_in (finished go at es taken s) ≡ Ok r → r.version ≡ at.version
-  unfolding finished
+  finished-version : (taken : Taken) (s : State) (r : CompiledLibrary) → record_in (second_pass go at es taken s) ≡ Ok r → r.version ≡ at.version
+  unfolding second_pass
   finished-version taken s r h = by_exports (exports at es s) h
     where
       by_lines : (ls : List (List ℕ × Label)) (x : Result (List Line × State) Fault) → record_in (after x (λ lines. give_record at ls lines)) ≡ Ok r → r.version ≡ at.version
-      by_lines ls (Ok p) h = let same : record_of at ls p.0 p.1 ≡ r = cc in sym (ap (λ (x : LibRecord). x.version) same)
+      by_lines ls (Ok p) h = let same : record_of at ls p.0 p.1 ≡ r = cc in sym (ap (λ (x : CompiledLibrary). x.version) same)
       by_lines ls (Err f) h = absurd (cc)
 
       by_exports : (x : Result (List (List ℕ × Label) × State) Fault) → record_in (after x (λ ls s'. after (finish_all go 0 taken.waiting s') (λ lines. give_record at ls lines))) ≡ Ok r → r.version ≡ at.version
       by_exports (Ok p) h = by_lines p.0 (finish_all go 0 taken.waiting p.1) h
       by_exports (Err f) h = absurd (cc)
 
-  top-version : (forms : List Tree) (s : State) (r : LibRecord) → record_in (top go at es forms s) ≡ Ok r → r.version ≡ at.version
+  top-version : (forms : List Tree) (s : State) (r : CompiledLibrary) → record_in (top go at es forms s) ≡ Ok r → r.version ≡ at.version
   unfolding top
   top-version forms s r h = by (first_pass go at forms s) h
     where
-      by : (x : Result (Taken × State) Fault) → record_in (after x (finished go at es)) ≡ Ok r → r.version ≡ at.version
+      by : (x : Result (Taken × State) Fault) → record_in (after x (second_pass go at es)) ≡ Ok r → r.version ≡ at.version
       by (Ok p) h = finished-version p.0 p.1 r h
       by (Err f) h = absurd (cc)
 
-module _ (prelude : Result Codes Fault) (records : List LibRecord) (path : List ℕ) (form : LibraryForm) (body : List PlainDatum) (r : LibRecord) where
+module _ (prelude : Result Codes Fault) (records : List CompiledLibrary) (path : List ℕ) (form : LibraryForm) (body : List PlainDatum) (r : CompiledLibrary) where
   pub library-version : expand_library prelude records path form body ≡ Ok r → r.version ≡ form.version
   unfolding expand_library
   library-version h = by_names (form_names records form.imports) h

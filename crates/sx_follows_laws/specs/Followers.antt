@@ -1,7 +1,7 @@
 -- What records that follow one another keep to, in the words of the laws that stand on records.
 use Rattle.std.specs.Prelude.{List, []}
 use Rattle.std.specs.List.{flat_map}
-use Rattle.sx_core.specs.declared.record.LibRecord.{LibRecord}
+use Rattle.sx_core.specs.declared.record.CompiledLibrary.{CompiledLibrary}
 use Rattle.sx_core_laws.specs.Following.{AllFollow}
 use Rattle.sx_core_laws.specs.Follows.{Follows}
 use Rattle.sx_core_laws.specs.Words.{Among, Each, Once}
@@ -16,17 +16,17 @@ use Rattle.sx_run_laws.specs.Once.{NameOnce}
 
 -- a follower alone: evaluation can stand on it, it can be put beside the others in the tables of a run, and what it binds and what its frames
 -- give stands once
-pub record KeepsTo (earlier : List LibRecord) (r : LibRecord) : Type 0 where
+pub record KeepsTo (earlier : List CompiledLibrary) (r : CompiledLibrary) : Type 0 where
   pub behind : IsBehind earlier r
   pub fits : Fits earlier r
   pub once_over : IsOnceOver r
 
 abbrev pub FollowersKeepTo : Type 0
-FollowersKeepTo = (earlier : List LibRecord) (r : LibRecord) → Follows r earlier → KeepsTo earlier r
+FollowersKeepTo = (earlier : List CompiledLibrary) (r : CompiledLibrary) → Follows r earlier → KeepsTo earlier r
 
 -- followers of one another: so does each of them behind those before it, each serves those behind it, and all of them name once what they
 -- name and mention only what they bind and define
-pub record KeepTogether (rs : List LibRecord) : Type 0 where
+pub record KeepTogether (rs : List CompiledLibrary) : Type 0 where
   pub behind : AllBehind [] rs
   pub fit : AllFit [] rs
   pub serve : AllServe [] rs
@@ -34,10 +34,10 @@ pub record KeepTogether (rs : List LibRecord) : Type 0 where
   pub mention : Each (MentionsTheKnown rs) rs
 
 abbrev pub FollowersKeepTogether : Type 0
-FollowersKeepTogether = (rs : List LibRecord) → AllFollow [] rs → KeepTogether rs
+FollowersKeepTogether = (rs : List CompiledLibrary) → AllFollow [] rs → KeepTogether rs
 
 -- A follower stands among the records of a text, where no two of the variables that it binds have one index. Of those alone that its lines
 -- define or bind a follower says so much.
 abbrev pub FollowersStand : Type 0
-FollowersStand = (rs earlier : List LibRecord) (r : LibRecord)
+FollowersStand = (rs earlier : List CompiledLibrary) (r : CompiledLibrary)
     → Each (Among rs) earlier → Follows r earlier → Once (flat_map bound_index r.bindings) → IsStanding rs r

@@ -9,7 +9,7 @@ use Rattle.sx_base.specs.declared.span.Span.{Span}
 use Rattle.sx_forms.specs.All.{given}
 use Rattle.sx_forms.specs.Export.{export_spec, exported, Exports}
 use Rattle.sx_forms.specs.Name.{named}
-use Rattle.sx_forms.specs.Set.{start, place_of, import_spec}
+use Rattle.sx_forms.specs.Set.{start, datum_place, import_spec}
 use Rattle.sx_forms.specs.Words.{is_word}
 use Rattle.sx_forms.specs.declared.export.Export.{Export}
 use Rattle.sx_forms.specs.declared.form.LibraryForm.{LibraryForm}
@@ -27,13 +27,13 @@ form_of word d = given (proper_elements d) (behind_word word)
 -- at the first datum, or at the start of the file
 abbrev pub first_place : List ℕ → List PlainDatum → Span
 first_place file [] = start file
-first_place file (d ∷ ds) = place_of file d
+first_place file (d ∷ ds) = datum_place file d
 
 abbrev pub not_library : List ℕ → List PlainDatum → Fault
 not_library file ds = record { kind = NotLibrary; span = first_place file ds; words = [] }
 
 abbrev pub bad_form : List ℕ → PlainDatum → Fault
-bad_form file d = record { kind = BadForm; span = place_of file d; words = [] }
+bad_form file d = record { kind = BadForm; span = datum_place file d; words = [] }
 
 abbrev pub or_fault : {A B : Type 0} → Fault → Option A → (A → Result B Fault) → Result B Fault
 or_fault fault None f = Err fault
@@ -60,7 +60,7 @@ abbrev pub library_parts : List ℕ → Fault → PlainDatum → Option Versione
 library_parts file fault name None exports imports = Err fault
 library_parts file fault name (Some n) None imports = Err fault
 library_parts file fault name (Some n) (Some es) None = Err fault
-library_parts file fault name (Some n) (Some es) (Some is) = library_of file (place_of file name) es is n
+library_parts file fault name (Some n) (Some es) (Some is) = library_of file (datum_place file name) es is n
 
 abbrev pub library_in : List ℕ → Fault → List PlainDatum → Result LibraryForm Fault
 library_in file fault [] = Err fault
@@ -91,7 +91,7 @@ program_of file place imports = import_specs file [] imports
 
 abbrev pub read_program : List ℕ → List PlainDatum → Result LibraryForm Fault
 read_program file [] = Err (not_library file [])
-read_program file (d ∷ ds) = or_fault (not_library file (d ∷ ds)) (form_of (codes "import") d) (program_of file (place_of file d))
+read_program file (d ∷ ds) = or_fault (not_library file (d ∷ ds)) (form_of (codes "import") d) (program_of file (datum_place file d))
 
 abbrev pub program_body : List PlainDatum → List PlainDatum
 program_body ds = drop 1 ds

@@ -6,8 +6,8 @@ use Rattle.sx_base.specs.Datum.{PlainDatum, atom, symbol, pair, vector, nil, spa
 use Rattle.sx_import.specs.declared.set.ImportSet.{ImportSet}
 use Rattle.sx_import.specs.declared.set.NameAt.{NameAt}
 use Rattle.sx_import.specs.declared.set.Renaming.{Renaming}
-use Rattle.sx_import.specs.declared.set.Step.{Step}
-use Rattle.sx_import.specs.declared.set.Step.TheVariants as step
+use Rattle.sx_import.specs.declared.set.ImportStep.{ImportStep}
+use Rattle.sx_import.specs.declared.set.ImportStep.TheVariants as step
 use Rattle.sx_forms.specs.All.{given, all_of}
 use Rattle.sx_forms.specs.Name.{leading, behind, int_of}
 use Rattle.sx_forms.specs.Version.{is_reference}
@@ -22,12 +22,12 @@ use Rattle.sx_forms.specs.declared.words.StepWord.TheVariants as word
 abbrev pub start : List ℕ → Span
 start file = record { file = file; from = 0; to = 0 }
 
-abbrev pub place_of : List ℕ → PlainDatum → Span
-place_of file d = unwrap_or (span_of d) (start file)
+abbrev pub datum_place : List ℕ → PlainDatum → Span
+datum_place file d = unwrap_or (span_of d) (start file)
 
 -- an identifier with its place
 abbrev pub name_at : List ℕ → PlainDatum → Option NameAt
-name_at file d = option_map (λ text. record { name = text; span = place_of file d }) (symbol_text d)
+name_at file d = option_map (λ text. record { name = text; span = datum_place file d }) (symbol_text d)
 
 abbrev pub names_at : List ℕ → List PlainDatum → Option (List NameAt)
 names_at file ds = all_of (name_at file) [] ds
@@ -47,13 +47,13 @@ renaming_in file (d ∷ e ∷ f ∷ ds) = None
 abbrev pub renaming : List ℕ → PlainDatum → Option Renaming
 renaming file d = given (proper_elements d) (renaming_in file)
 
-abbrev pub prefix_in : List PlainDatum → Option Step
+abbrev pub prefix_in : List PlainDatum → Option ImportStep
 prefix_in [] = None
 prefix_in (d ∷ []) = option_map step.Prefix (symbol_text d)
 prefix_in (d ∷ e ∷ ds) = None
 
 -- what a word with what stands behind its set does
-abbrev pub step_of : List ℕ → StepWord → List PlainDatum → Option Step
+abbrev pub step_of : List ℕ → StepWord → List PlainDatum → Option ImportStep
 step_of file word.Only ds = option_map step.Only (names_at file ds)
 step_of file word.Except ds = option_map step.Except (names_at file ds)
 step_of file word.Prefix ds = prefix_in ds
@@ -72,9 +72,9 @@ referred place (p ∷ ps) (Some v) = Some (record { library = library.User (p �
 
 -- a reference to a library: one or more identifiers, and then a version reference or none
 abbrev pub reference : List ℕ → PlainDatum → Option ImportSet
-reference file d = given (proper_elements d) (λ ds. referred (place_of file d) (leading ds) (version_reference (behind ds)))
+reference file d = given (proper_elements d) (λ ds. referred (datum_place file d) (leading ds) (version_reference (behind ds)))
 
-abbrev pub with_step : ImportSet → Step → ImportSet
+abbrev pub with_step : ImportSet → ImportStep → ImportSet
 with_step s e = record { library = s.library; version = s.version; place = s.place; steps = s.steps ++ e ∷ [] }
 
 abbrev pub stepped : List ℕ → StepWord → Option ImportSet → List PlainDatum → Option ImportSet
@@ -129,7 +129,7 @@ are_levels [] = true
 are_levels (d ∷ ds) = if is_level d then are_levels ds else false
 
 abbrev pub import_of : List ℕ → PlainDatum → Option Import
-import_of file d = option_map (λ s. record { set = s; span = place_of file d }) (import_set file d)
+import_of file d = option_map (λ s. record { set = s; span = datum_place file d }) (import_set file d)
 
 -- a set with the levels behind it
 abbrev pub import_for : List ℕ → List PlainDatum → Option Import

@@ -15,7 +15,7 @@ use sx_base::items::Items;
 use sx_base::memory::Memory;
 use sx_base::symbol::Symbol;
 use sx_import::set::NameAt;
-use sx_import::table::Table;
+use sx_import::table::NameTable;
 
 /// An identifier of the library, and the name that it is exported as.
 #[derive(Drop)]
@@ -105,17 +105,17 @@ pub(crate) fn export_spec(
 }
 
 /// External names with the internal ones, each once.
-pub fn exported(alloc: Global, exports: &[Export]) -> Result<Table<NameAt>, Stop>
+pub fn exported(alloc: Global, exports: &[Export]) -> Result<NameTable<NameAt>, Stop>
     ensures { Gives (λ t. t) result (exported exports.now) }
 {
-    let mut names = Table::new(alloc);
+    let mut names = NameTable::new(alloc);
     for export in exports {
         add_export(alloc, &mut names, export)?;
     }
     Ok(names)
 }
 
-fn add_export(alloc: Global, names: &mut Table<NameAt>, export: &Export) -> Result<(), Stop>
+fn add_export(alloc: Global, names: &mut NameTable<NameAt>, export: &Export) -> Result<(), Stop>
     ensures { Gives (λ _. names.new) result (add_export names.old export.now) }
 {
     if let Some(other) = names.get(&export.external.name) {

@@ -8,7 +8,7 @@ ghost use Rattle.std.specs.Prelude.{codes};
 
 use crate::export::{Export, export_spec, exported};
 use crate::name::{VersionedName, named};
-use crate::set::{Import, import_spec, place_of, start};
+use crate::set::{Import, import_spec, datum_place, start};
 use crate::words::is_word;
 use std::alloc::Global;
 use sx_base::datum::Datum;
@@ -18,7 +18,7 @@ use sx_base::library::LibName;
 use sx_base::span::Span;
 use sx_base::symbol::Symbol;
 use sx_import::set::NameAt;
-use sx_import::table::Table;
+use sx_import::table::NameTable;
 
 /// What a library or a program says before its body.
 #[derive(Drop)]
@@ -27,13 +27,13 @@ pub struct LibraryForm {
     pub name_span: Span,
     pub version: Items<u64>,
     /// Each external name with the internal one.
-    pub exports: Table<NameAt>,
+    pub exports: NameTable<NameAt>,
     pub imports: Items<Import>,
 }
 
 // What stands in a library form before its body.
 #[derive(Drop)]
-struct Head<'a> {
+struct LibraryHead<'a> {
     name: &'a Datum,
     exports: &'a Datum,
     imports: &'a Datum,
@@ -70,7 +70,7 @@ fn library_in(
     let [name, exports, imports, ..] = parts else {
         return Err(not_library(alloc, file, items));
     };
-    let head = Head {
+    let head = LibraryHead {
         name,
         exports,
         imports,
@@ -82,7 +82,7 @@ fn library_parts(
     alloc: Global,
     file: &Symbol,
     items: &[Datum],
-    head: &Head,
+    head: &LibraryHead,
 ) -> Result<LibraryForm, Stop>
     ensures { Gives (λ form. form) result (library_parts file.now (not_library file.now items.now) head.now.name.now (named head.now.name.now) (form_of (codes "export") head.now.exports.now) (form_of (codes "import") head.now.imports.now)) }
 {
@@ -95,7 +95,7 @@ fn library_parts(
     let Some(imports) = form_of(head.imports, "import") else {
         return Err(not_library(alloc, file, items));
     };
-    let place = place_of(file, head.name)?;
+    let place = datum_place(file, head.name)?;
     let specs = Specs { exports, imports };
     library_of(alloc, file, place, named, &specs)
 }
@@ -144,7 +144,7 @@ pub fn read_program(alloc: Global, file: &Symbol, items: &[Datum]) -> Result<Lib
     let Some(specs) = form_of(first, "import") else {
         return Err(not_library(alloc, file, items));
     };
-    let place = place_of(file, first)?;
+    let place = datum_place(file, first)?;
     program_of(alloc, file, place, specs)
 }
 
@@ -161,7 +161,7 @@ fn program_of(
         name: LibName::Program,
         name_span: place,
         version: Items::new(alloc),
-        exports: Table::new(alloc),
+        exports: NameTable::new(alloc),
         imports,
     })
 }
@@ -218,7 +218,7 @@ fn not_library(alloc: Global, file: &Symbol, items: &[Datum]) -> Stop
     ensures { StopsWith result (not_library file.now items.now) }
 {
     let span = match items.first() {
-        Some(first) => place_of(file, first),
+        Some(first) => datum_place(file, first),
         None => start(file),
     };
     match span {
@@ -230,7 +230,7 @@ fn not_library(alloc: Global, file: &Symbol, items: &[Datum]) -> Stop
 fn bad_form(alloc: Global, file: &Symbol, spec: &Datum) -> Stop
     ensures { StopsWith result (bad_form file.now spec.now) }
 {
-    match place_of(file, spec) {
+    match datum_place(file, spec) {
         Ok(span) => fault(alloc, FaultKind::BadForm, span),
         Err(memory) => Stop::from(memory),
     }

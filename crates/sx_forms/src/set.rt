@@ -5,7 +5,7 @@ ghost use Rattle.std.specs.Prelude.{Some, None, if◌then◌else◌};
 ghost use Rattle.sx_base.specs.Datum.{chain, nil};
 ghost use Rattle.sx_forms.specs.All.{all_of};
 ghost use Rattle.sx_forms.specs.Name.{leading, behind};
-ghost use Rattle.sx_forms.specs.Set.{start, place_of, name_at, names_at, renaming_in, renaming, prefix_in, step_of, version_reference, referred, reference, only_reference, stepped, with_step, import_set, inner_set, is_int, is_meta, is_meta_list, is_level, are_levels, import_of, import_for, import_in, import_spec};
+ghost use Rattle.sx_forms.specs.Set.{start, datum_place, name_at, names_at, renaming_in, renaming, prefix_in, step_of, version_reference, referred, reference, only_reference, stepped, with_step, import_set, inner_set, is_int, is_meta, is_meta_list, is_level, are_levels, import_of, import_for, import_in, import_spec};
 
 use crate::copied::copied;
 use crate::name::{behind, int_of, leading};
@@ -19,7 +19,7 @@ use sx_base::library::LibName;
 use sx_base::memory::Memory;
 use sx_base::span::Span;
 use sx_base::symbol::Symbol;
-use sx_import::set::{ImportSet, NameAt, Renaming, Step};
+use sx_import::set::{ImportSet, NameAt, Renaming, ImportStep};
 
 /// What an import spec imports, and where its set stands.
 #[derive(Drop)]
@@ -29,8 +29,8 @@ pub struct Import {
 }
 
 /// Where a datum stands; without a span at the start of the file.
-pub fn place_of(file: &Symbol, datum: &Datum) -> Result<Span, Memory>
-    ensures { IfOk result (λ s. s ≡ place_of file.now datum.now) }
+pub fn datum_place(file: &Symbol, datum: &Datum) -> Result<Span, Memory>
+    ensures { IfOk result (λ s. s ≡ datum_place file.now datum.now) }
 {
     match datum.span() {
         Some(span) => span.share(),
@@ -57,7 +57,7 @@ pub(crate) fn name_at(file: &Symbol, datum: &Datum) -> Result<Option<NameAt>, Me
     match datum.as_symbol() {
         Some(symbol) => {
             let name = symbol.share()?;
-            let span = place_of(file, datum)?;
+            let span = datum_place(file, datum)?;
             Ok(Some(NameAt { name, span }))
         }
         None => Ok(None),
@@ -119,14 +119,14 @@ fn renamings(
     Ok(Some(list))
 }
 
-fn prefix_in(items: &[Datum]) -> Result<Option<Step>, Memory>
+fn prefix_in(items: &[Datum]) -> Result<Option<ImportStep>, Memory>
     ensures { IfOk result (λ r. r ≡ prefix_in items.now) }
 {
     let [item] = items else {
         return Ok(None);
     };
     match item.as_symbol() {
-        Some(symbol) => Ok(Some(Step::Prefix(symbol.share()?))),
+        Some(symbol) => Ok(Some(ImportStep::Prefix(symbol.share()?))),
         None => Ok(None),
     }
 }
@@ -137,14 +137,14 @@ fn step_of(
     file: &Symbol,
     word: StepWord,
     items: &[Datum],
-) -> Result<Option<Step>, Memory>
+) -> Result<Option<ImportStep>, Memory>
     ensures { IfOk result (λ r. r ≡ step_of file.now word items.now) }
 {
     match word {
-        StepWord::Only => Ok(names_at(alloc, file, items)?.map(Step::Only)),
-        StepWord::Except => Ok(names_at(alloc, file, items)?.map(Step::Except)),
+        StepWord::Only => Ok(names_at(alloc, file, items)?.map(ImportStep::Only)),
+        StepWord::Except => Ok(names_at(alloc, file, items)?.map(ImportStep::Except)),
         StepWord::Prefix => prefix_in(items),
-        StepWord::Rename => Ok(renamings(alloc, file, items)?.map(Step::Rename)),
+        StepWord::Rename => Ok(renamings(alloc, file, items)?.map(ImportStep::Rename)),
     }
 }
 
@@ -179,7 +179,7 @@ fn reference(alloc: Global, file: &Symbol, datum: &Datum) -> Result<Option<Impor
     let Some(items) = datum.as_list() else {
         return Ok(None);
     };
-    let place = place_of(file, datum)?;
+    let place = datum_place(file, datum)?;
     referred(alloc, place, items)
 }
 
@@ -302,7 +302,7 @@ fn import_of(alloc: Global, file: &Symbol, datum: &Datum) -> Result<Option<Impor
 {
     match import_set(alloc, file, datum)? {
         Some(set) => {
-            let span = place_of(file, datum)?;
+            let span = datum_place(file, datum)?;
             Ok(Some(Import { set, span }))
         }
         None => Ok(None),

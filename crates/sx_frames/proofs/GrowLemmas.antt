@@ -11,7 +11,7 @@ use Rattle.sx_base.specs.declared.name.Mark.{Mark}
 use Rattle.sx_tree.specs.declared.frame_row.FrameRow.{FrameRow}
 use Rattle.sx_tree.specs.declared.stamp.Stamp.{Stamp}
 use Rattle.sx_frames.specs.declared.memo.Answer.{Answer}
-use Rattle.sx_frames.specs.Kept.{Kept, kept, Has}
+use Rattle.sx_frames.specs.Kept.{KeptAnswer, kept, Has}
 use Rattle.sx_frames.specs.Right.{sizes_before, same_sizes, AreBelow, IsRight, AllRight}
 use Rattle.sx_frames.specs.Rows.{Row, is_of, label_in, second_binder}
 use Rattle.sx_frames.specs.Scope.{Scope, same_frame, rows_at, label_at, or_else, label_by, with_row, bound, row_in, adopted}
@@ -134,7 +134,7 @@ module _ (fs gs : Scope) (g : Grows fs gs) where
             ap (λ x. or_else x (label_by gs s ts)) still ∙ r.1 ∙ sym (ap (λ x. or_else x (label_by fs s ts)) o),
           )
 
-  right_grown : (k : Kept) → IsRight fs k → IsRight gs k
+  right_grown : (k : KeptAnswer) → IsRight fs k → IsRight gs k
   right_grown k h = record {
     below = below_grown k.stamps k.sizes h.below;
     right = λ e.
@@ -143,7 +143,7 @@ module _ (fs gs : Scope) (g : Grows fs gs) where
         record { label = a.label ∙ sym p.1; sizes = p.0 };
   }
 
-  all_grown : (ks : List Kept) → AllRight fs ks → AllRight gs ks
+  all_grown : (ks : List KeptAnswer) → AllRight fs ks → AllRight gs ks
   all_grown ks h = record { each = λ k has. right_grown k (h.each k has) }
 
 below_before : (fs : Scope) (s : List ℕ) (ts : List Stamp) → AreBelow fs ts (sizes_before fs s ts)
@@ -161,16 +161,16 @@ right_now fs s ts a l n = record {
   right = λ e. record { label = l; sizes = n };
 }
 
-pub all_put : (fs : Scope) (ks ls : List Kept) (s : List ℕ) (ts : List Stamp) (a : Answer) → AllRight fs ks → a.label ≡ label_by fs s ts → a.sizes ≡ sizes_before fs s ts
-    → ((x : Kept) → Has x ls → Has x ks ⊎ (x ≡ kept s ts a)) → AllRight fs ls
+pub all_put : (fs : Scope) (ks ls : List KeptAnswer) (s : List ℕ) (ts : List Stamp) (a : Answer) → AllRight fs ks → a.label ≡ label_by fs s ts → a.sizes ≡ sizes_before fs s ts
+    → ((x : KeptAnswer) → Has x ls → Has x ks ⊎ (x ≡ kept s ts a)) → AllRight fs ls
 all_put fs ks ls s ts a all l n h = record { each = λ x has. ⊎_elim (λ y. all.each x y) (λ e. subst (IsRight fs) (sym e) (right_now fs s ts a l n)) (h x has) }
 
 -- after a call that made the frames grow, or left them
-pub all_after : {X E : Type 0} (r : Result X E) (fs gs hs : Scope) (ks : List Kept) → OnOk r (gs ≡ hs) → OnErr r (gs ≡ fs) → Grows fs hs → AllRight fs ks → AllRight gs ks
+pub all_after : {X E : Type 0} (r : Result X E) (fs gs hs : Scope) (ks : List KeptAnswer) → OnOk r (gs ≡ hs) → OnErr r (gs ≡ fs) → Grows fs hs → AllRight fs ks → AllRight gs ks
 all_after (Ok x) fs gs hs ks e u g h = subst (λ (x : Scope). AllRight x ks) (sym e) (all_grown fs hs g ks h)
 all_after (Err x) fs gs hs ks e u g h = subst (λ (x : Scope). AllRight x ks) (sym u) h
 
-pub all_bound : {X : Type 0} (r : Result X BareStop) (fs gs : Scope) (f : FrameNo) (row : Row) (ks : List Kept)
+pub all_bound : {X : Type 0} (r : Result X BareStop) (fs gs : Scope) (f : FrameNo) (row : Row) (ks : List KeptAnswer)
     → BareGives (λ _. gs) r (bound fs f row) → OnErr r (gs ≡ fs) → AllRight fs ks → AllRight gs ks
 all_bound (Ok x) fs gs f row ks e u h = by (is_some (label_at fs f row.symbol row.marks)) e
   where

@@ -22,7 +22,7 @@ use Rattle.sx_frames.specs.Scope.{same_frame}
 use Rattle.sx_frames.specs.declared.memo.Asked.{Asked}
 use Rattle.sx_frames.specs.declared.memo.Answer.{Answer}
 use Rattle.sx_frames.specs.contracts.memo.AskedPartialEq.TheImpl as asked_eq
-use Rattle.sx_frames.specs.Kept.{Kept, kept, kept_at, kept_of, AreNumbered, Has}
+use Rattle.sx_frames.specs.Kept.{KeptAnswer, kept, kept_at, kept_of, AreNumbered, Has}
 
 abbrev pub same_stamp : Stamp → Stamp → Bool
 same_stamp = stamp_eq.eq-value.it
@@ -107,7 +107,7 @@ numbers_put tss q a (e ∷ es) l h = by (same_asked q e.0) (numbers_put tss q a 
     by true r = h
     by false r = (h.0, r)
 
-has_put : (tss : List (List Stamp)) (q : Asked) (a : Answer) (es : List (Asked × Answer)) (k : Kept) → Has k (kept_of tss (insert_entry same_asked es q a)) → Has k (kept_of tss es) ⊎ (k ≡ kept_at tss (q, a))
+has_put : (tss : List (List Stamp)) (q : Asked) (a : Answer) (es : List (Asked × Answer)) (k : KeptAnswer) → Has k (kept_of tss (insert_entry same_asked es q a)) → Has k (kept_of tss es) ⊎ (k ≡ kept_at tss (q, a))
 has_put tss q a [] k (inl e) = inr e
 has_put tss q a [] k (inr h) = absurd h
 has_put tss q a (e ∷ es) k h = by (same_asked q e.0) refl h (has_put tss q a es k)
@@ -118,14 +118,14 @@ has_put tss q a (e ∷ es) k h = by (same_asked q e.0) refl h (has_put tss q a e
     by false s (inl x) f = inl (inl x)
     by false s (inr x) f = ⊎_elim (λ y. inl (inr y)) (λ y. inr y) (f x)
 
-pub found_if : (tss : List (List Stamp)) (s : List ℕ) (ts : List Stamp) (x : List ℕ) (m t : ℕ) (es : List (Asked × Answer)) (ks : List Kept) (r : Option (Bor Answer))
+pub found_if : (tss : List (List Stamp)) (s : List ℕ) (ts : List Stamp) (x : List ℕ) (m t : ℕ) (es : List (Asked × Answer)) (ks : List KeptAnswer) (r : Option (Bor Answer))
     → x ≡ s → get_or tss t [] ≡ ts → option_copied r ≡ lookup (same_asked (record { symbol = x; marks = m; stamps = t })) es → kept_of tss es ≡ ks
     → IfSome r (λ a. Has (kept s ts a.now) ks)
 found_if tss s ts x m t es ks None p q h v = tt
 found_if tss s ts x m t es ks (Some a) p q h v =
     subst (Has (kept s ts a.now)) v (subst (λ k. Has k (kept_of tss es)) (λ i. kept (p i) (q i) a.now) (found_has tss (record { symbol = x; marks = m; stamps = t }) es a.now h))
 
-module _ (tss tss' : List (List Stamp)) (ts : List Stamp) (es es' : List (Asked × Answer)) (ks : List Kept)
+module _ (tss tss' : List (List Stamp)) (ts : List Stamp) (es es' : List (Asked × Answer)) (ks : List KeptAnswer)
     (keys : tss' ≡ insert_key (pointwise same_stamp) tss ts) (numbers : AreNumbered tss es) (view : kept_of tss es ≡ ks) where
   whole : kept_of tss' es ≡ ks
   whole = ap (λ (x : List (List Stamp)). kept_of x es) keys ∙ kept_of-grown tss ts es numbers ∙ view
@@ -139,8 +139,8 @@ module _ (tss tss' : List (List Stamp)) (ts : List Stamp) (es es' : List (Asked 
   pub numbers_more : (q : Asked) (a : Answer) → es' ≡ insert_entry same_asked es q a → q.stamps < length tss' → AreNumbered tss' es'
   numbers_more q a e l = subst (λ (x : List (Asked × Answer)). AreNumbered tss' x) (sym e) (numbers_put tss' q a es l grown)
 
-  pub has_stay : (P : Kept → Type 0) → es' ≡ es → (k : Kept) → Has k (kept_of tss' es') → Has k ks ⊎ P k
+  pub has_stay : (P : KeptAnswer → Type 0) → es' ≡ es → (k : KeptAnswer) → Has k (kept_of tss' es') → Has k ks ⊎ P k
   has_stay P e k h = inl (subst (Has k) (ap (kept_of tss') e ∙ whole) h)
 
-  pub has_more : (q : Asked) (a : Answer) → es' ≡ insert_entry same_asked es q a → get_or tss' q.stamps [] ≡ ts → (k : Kept) → Has k (kept_of tss' es') → Has k ks ⊎ (k ≡ kept q.symbol ts a)
+  pub has_more : (q : Asked) (a : Answer) → es' ≡ insert_entry same_asked es q a → get_or tss' q.stamps [] ≡ ts → (k : KeptAnswer) → Has k (kept_of tss' es') → Has k ks ⊎ (k ≡ kept q.symbol ts a)
   has_more q a e g k h = ⊎_elim (λ x. inl (subst (Has k) whole x)) (λ x. inr (x ∙ ap (λ (y : List Stamp). kept q.symbol y a) g)) (has_put tss' q a es k (subst (Has k) (ap (kept_of tss') e) h))

@@ -9,26 +9,26 @@ use Rattle.sx_frames.specs.declared.memo.Asked.{Asked}
 use Rattle.sx_frames.specs.declared.memo.Answer.{Answer}
 
 -- a question, and its answer with the sizes that it depends on
-pub record Kept : Type 0 where
+pub record KeptAnswer : Type 0 where
   pub symbol : List ℕ
   pub stamps : List Stamp
   pub label : Option Label
   pub sizes : List ℕ
 
-abbrev pub kept_code : Coded Kept
+abbrev pub kept_code : Coded KeptAnswer
 kept_code =
     code_by (List ℕ × (List Stamp × (Option Label × List ℕ)))
     (coded× (coded_list coded_ℕ) (coded× (coded_list stamps.the_row.coded) (coded× (coded_option labels.the_row.coded) (coded_list coded_ℕ))))
     (λ k. (k.symbol, (k.stamps, (k.label, k.sizes)))) (λ p. record { symbol = p.0; stamps = p.1.0; label = p.1.1.0; sizes = p.1.1.1 }) (λ _. refl)
 
-abbrev pub kept : List ℕ → List Stamp → Answer → Kept
+abbrev pub kept : List ℕ → List Stamp → Answer → KeptAnswer
 kept s ts a = record { symbol = s; stamps = ts; label = a.label; sizes = a.sizes }
 
 -- the stamps that were asked, from their number in the table
-abbrev pub kept_at : List (List Stamp) → Asked × Answer → Kept
+abbrev pub kept_at : List (List Stamp) → Asked × Answer → KeptAnswer
 kept_at tss e = kept e.0.symbol (get_or tss e.0.stamps []) e.1
 
-abbrev pub kept_of : List (List Stamp) → List (Asked × Answer) → List Kept
+abbrev pub kept_of : List (List Stamp) → List (Asked × Answer) → List KeptAnswer
 kept_of tss [] = []
 kept_of tss (e ∷ es) = kept_at tss e ∷ kept_of tss es
 
@@ -37,6 +37,6 @@ abbrev pub AreNumbered : List (List Stamp) → List (Asked × Answer) → Type 0
 AreNumbered tss [] = Unit {0}
 AreNumbered tss (e ∷ es) = (e.0.stamps < length tss) × AreNumbered tss es
 
-abbrev pub Has : Kept → List Kept → Type 0
+abbrev pub Has : KeptAnswer → List KeptAnswer → Type 0
 Has k [] = ⊥
 Has k (x ∷ xs) = (k ≡ x) ⊎ Has k xs

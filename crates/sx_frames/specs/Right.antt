@@ -1,7 +1,7 @@
 -- When what was kept may be taken.
 use Rattle.std.specs.Prelude.{◌≡◌, ◌≤◌, ℕ, Bool, true, false, ◌&&◌, nat_eq, List, [], ◌∷◌, length, is_some, if◌then◌else◌}
 use Rattle.sx_tree.specs.declared.stamp.Stamp.{Stamp}
-use Rattle.sx_frames.specs.Kept.{Kept, Has}
+use Rattle.sx_frames.specs.Kept.{KeptAnswer, Has}
 use Rattle.sx_frames.specs.Scope.{Scope, rows_at, label_at, label_by}
 
 -- the sizes of the frames of the stamps before the first that gives a label
@@ -22,14 +22,14 @@ AreBelow fs [] (n ∷ ns) = ⊥
 AreBelow fs (t ∷ ts) (n ∷ ns) = (n ≤ length (rows_at t.frame fs)) × AreBelow fs ts ns
 
 -- what the stamps find, and what that depends on
-pub record Answers (fs : Scope) (k : Kept) : Type 0 where
+pub record Answers (fs : Scope) (k : KeptAnswer) : Type 0 where
   pub label : k.label ≡ label_by fs k.symbol k.stamps
   pub sizes : k.sizes ≡ sizes_before fs k.symbol k.stamps
 
 -- no frame is smaller than it was, and where none has grown the answer still holds
-pub record IsRight (fs : Scope) (k : Kept) : Type 0 where
+pub record IsRight (fs : Scope) (k : KeptAnswer) : Type 0 where
   pub below : AreBelow fs k.stamps k.sizes
   pub right : same_sizes fs k.stamps k.sizes ≡ true → Answers fs k
 
-pub record AllRight (fs : Scope) (ks : List Kept) : Type 0 where
-  pub each : (k : Kept) → Has k ks → IsRight fs k
+pub record AllRight (fs : Scope) (ks : List KeptAnswer) : Type 0 where
+  pub each : (k : KeptAnswer) → Has k ks → IsRight fs k

@@ -9,7 +9,7 @@ ghost use Rattle.sx_frames.specs.Rows.{Row, row_of};
 ghost use Rattle.sx_frames.specs.Scope.{has_frame, rows_at, label_at, bound, with_row, row_in, adopted, are_new};
 
 use crate::key::Key;
-use crate::table::Table;
+use crate::table::FrameTable;
 use std::alloc::Global;
 use std::collections::BTreeMap;
 use std::marker::Model;
@@ -27,7 +27,7 @@ use sx_tree::marks::Marks;
 #[derive(Drop)]
 pub struct FrameMap {
     alloc: Global,
-    frames: NameMap<FrameNo, Table>,
+    frames: NameMap<FrameNo, FrameTable>,
 }
 
 impl Model for FrameMap {
@@ -64,7 +64,7 @@ impl FrameMap {
         ensures ok { OnOk result (self.new ≡ self.old ++ (frame, []) ∷ []) }
         ensures err { OnErr result (self.new ≡ self.old) }
     {
-        let table = Table::new(self.alloc);
+        let table = FrameTable::new(self.alloc);
         match self.frames.insert(frame, table) {
             Ok(_) => Ok(()),
             Err(_) => Err(Memory),
@@ -111,7 +111,7 @@ impl FrameMap {
         ensures err { OnErr result (self.new ≡ self.old) }
     {
         let frame = frame.share()?;
-        let mut table = Table::new(self.alloc);
+        let mut table = FrameTable::new(self.alloc);
         match table.put(self.alloc, key, label) {
             Ok(()) => {}
             Err(_) => return Err(BareStop::Memory),
@@ -181,7 +181,7 @@ impl FrameMap {
         self.frames.len()
     }
 
-    fn frame_at(&self, i: usize) -> Option<(&FrameNo, &Table)>
+    fn frame_at(&self, i: usize) -> Option<(&FrameNo, &FrameTable)>
         ensures { option_map deref_pair result ≡ slice_get self.now i }
     {
         self.frames.get_index(i)

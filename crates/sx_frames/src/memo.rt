@@ -1,7 +1,7 @@
 //! Answers that were given, by what was asked.
 
 ghost use Rattle.std.specs.Prelude.{◌≡◌, ◌⊎◌, [], IfOk, IfSome};
-ghost use Rattle.sx_frames.specs.Kept.{Kept, kept, Has};
+ghost use Rattle.sx_frames.specs.Kept.{KeptAnswer, kept, Has};
 
 use indexmap::{IndexMap, IndexSet};
 use std::alloc::Global;
@@ -49,9 +49,9 @@ pub struct Memo {
 impl Model for Memo {
     ghost use Rattle.std.specs.Prelude.{List};
     ghost use Rattle.std.specs.Coded.{coded_list};
-    ghost use Rattle.sx_frames.specs.Kept.{Kept, kept_code, kept_of, AreNumbered};
+    ghost use Rattle.sx_frames.specs.Kept.{KeptAnswer, kept_code, kept_of, AreNumbered};
 
-    ghost Value = { List Kept };
+    ghost Value = { List KeptAnswer };
 
     ghost coded = { coded_list kept_code };
 
@@ -96,7 +96,7 @@ impl Memo {
 
     /// Keeps an answer, in the place of an older one.
     fn put(&mut self, question: Question, answer: Answer) -> Result<(), Memory>
-        ensures { (k : Kept) → Has k self.new → Has k self.old ⊎ (k ≡ kept question.symbol question.stamps answer) }
+        ensures { (k : KeptAnswer) → Has k self.new → Has k self.old ⊎ (k ≡ kept question.symbol question.stamps answer) }
     {
         let Question {
             symbol,
@@ -122,7 +122,7 @@ impl Memo {
 
     /// Forgets what was kept where that is much.
     fn make_room(&mut self, alloc: Global)
-        ensures { (k : Kept) → Has k self.new → Has k self.old }
+        ensures { (k : KeptAnswer) → Has k self.new → Has k self.old }
     {
         if self.answers.len() >= LIMIT {
             *self = Memo::new(alloc);
@@ -131,7 +131,7 @@ impl Memo {
 
     /// As `put`. A memo that is full forgets first, so that it stays small however much is asked.
     pub fn keep(&mut self, alloc: Global, question: Question, answer: Answer) -> Result<(), Memory>
-        ensures { (k : Kept) → Has k self.new → Has k self.old ⊎ (k ≡ kept question.symbol question.stamps answer) }
+        ensures { (k : KeptAnswer) → Has k self.new → Has k self.old ⊎ (k ≡ kept question.symbol question.stamps answer) }
     {
         self.make_room(alloc);
         self.put(question, answer)

@@ -23,12 +23,12 @@ const FEW: usize = 4;
 
 /// The rows of one frame, seen as a list in the order of binding.
 #[derive(Drop)]
-pub struct Table {
+pub struct FrameTable {
     first: Vec<(Key, Label)>,
     later: NameMap<Key, Label>,
 }
 
-impl Model for Table {
+impl Model for FrameTable {
     ghost use Rattle.std.specs.Prelude.{List, ◌++◌};
     ghost use Rattle.std.specs.Coded.{coded_list};
     ghost use Rattle.sx_frames.specs.Rows.{Row, row_code, rows_of};
@@ -129,12 +129,12 @@ fn put_later(
     Ok(())
 }
 
-impl Table {
+impl FrameTable {
     /// No rows. It takes no memory.
-    pub fn new(alloc: Global) -> Table
+    pub fn new(alloc: Global) -> FrameTable
         ensures { result ≡ [] }
     {
-        Table {
+        FrameTable {
             first: Vec::new(alloc),
             later: new_map(alloc),
         }

@@ -6,39 +6,39 @@ use Rattle.sx_base.specs.declared.library.LibName.TheVariants as library
 use Rattle.sx_base.specs.declared.name.FrameNo.{FrameNo}
 use Rattle.sx_base.specs.declared.name.Mark.{Mark}
 use Rattle.sx_tree.specs.Context.{LeafContext}
-use Rattle.sx_core.specs.declared.record.LibRecord.{LibRecord}
+use Rattle.sx_core.specs.declared.record.CompiledLibrary.{CompiledLibrary}
 use Rattle.sx_standing.specs.State.{State}
 use Rattle.sx_hygiene_laws.specs.Marked.{Among}
 use Rattle.sx_expand.specs.Body.{item}
 use Rattle.sx_expand.specs.Expression.{lambda_case, form_at, inside}
 use Rattle.sx_expand.specs.Inside.{Inside}
 use Rattle.sx_fresh_expansion_laws.specs.Events.{HasKnownEvents}
-use Rattle.sx_fresh_expansion_laws.specs.Keeping.{Keeps, around, MarksStayKnown, HistoriesStay}
+use Rattle.sx_fresh_expansion_laws.specs.Keeping.{KeepsFresh, around, MarksStayKnown, HistoriesStay}
 use Rattle.sx_fresh_expansion_laws.specs.Known.{IsKnown, IsKnownFrame, HasKnown, IsNewAmong}
 use Rattle.sx_fresh_expansion_laws.specs.History.{HasKnownHistory}
 use Rattle.sx_fresh_expansion_laws.specs.Living.{Lives}
-use Rattle.sx_fresh_expansion_laws.specs.States.{RecordsHold, StateHolds}
+use Rattle.sx_fresh_expansion_laws.specs.States.{RecordsHold, FreshStateHolds}
 use Rattle.sx_fresh_expansion_laws.proofs.Changing.{rise}
 use Rattle.sx_fresh_expansion_laws.proofs.Forms as from_one
 use Rattle.sx_fresh_expansion_laws.proofs.Forms.{CaseAt, case-holds}
 use Rattle.sx_fresh_expansion_laws.proofs.Items.{TakenAt}
 use Rattle.sx_fresh_expansion_laws.proofs.Knowing.{lives-known, lives-on}
 use Rattle.sx_fresh_expansion_laws.proofs.Once.{lives-once}
-use Rattle.sx_fresh_expansion_laws.proofs.Settled.{form-at-holds, item-holds, inside-keeps}
+use Rattle.sx_fresh_expansion_laws.proofs.PlannedForm.{form-at-holds, item-holds, inside-keeps}
 use Rattle.sx_fresh_expansion_laws.proofs.Runs.{records-wider}
 use Rattle.sx_fresh_expansion_laws.proofs.Standing.{F, C, Gave, state-self}
 
 module _ (own : LibName) (K : ℕ → Mark → Type 0) (J : ℕ → FrameNo → Type 0) (P : ℕ → LeafContext → Type 0) (lives : Lives own K J P) where
   -- what was given is told by the account
-  told : {A : Type 0} (W : ℕ → A → Type 0) (s u : State) (x : A) (r : Result (A × State) Fault) → Gave own K J P lives s.names.number W s r → r ≡ Ok (x, u) → StateHolds own K P s.names.number u × W u.names.number x
+  told : {A : Type 0} (W : ℕ → A → Type 0) (s u : State) (x : A) (r : Result (A × State) Fault) → Gave own K J P lives s.names.number W s r → r ≡ Ok (x, u) → FreshStateHolds own K P s.names.number u × W u.names.number x
   told {A} W s u x r h e = let k : Gave own K J P lives s.names.number W s (Ok (x, u)) = subst (λ (q : Result (A × State) Fault). Gave own K J P lives s.names.number W s q) e h in k
 
-  gave : {A : Type 0} (first : ℕ) (W : ℕ → A → Type 0) (s : State) (r : Result (A × State) Fault) → ((x : A) (u : State) → r ≡ Ok (x, u) → StateHolds own K P s.names.number u × W u.names.number x) → Gave own K J P lives first W s r
+  gave : {A : Type 0} (first : ℕ) (W : ℕ → A → Type 0) (s : State) (r : Result (A × State) Fault) → ((x : A) (u : State) → r ≡ Ok (x, u) → FreshStateHolds own K P s.names.number u × W u.names.number x) → Gave own K J P lives first W s r
   gave first W s (Ok p) h = h p.0 p.1 refl
   gave first W s (Err f) h = tt
 
   -- from each state, or from one name on
-  from-one-name : (first : ℕ) (go : Inside) → Keeps own K J P go → RecordsHold (P first) go.earlier → from_one.Keeps own K J P lives first go
+  from-one-name : (first : ℕ) (go : Inside) → KeepsFresh own K J P go → RecordsHold (P first) go.earlier → from_one.KeepsFresh own K J P lives first go
   from-one-name first go keeps rs = record {
     records = rs;
     form = λ place level depth t s h g. gave first (C own K J P lives first) s (go.form place level depth t s)
@@ -52,7 +52,7 @@ module _ (own : LibName) (K : ℕ → Mark → Type 0) (J : ℕ → FrameNo → 
       records-at : (s : State) → F own K J P lives first s → RecordsHold (P s.names.number) go.earlier
       records-at s h = records-wider (P first) (P s.names.number) (rise own K J P lives first s.names.number h.stage.up) go.earlier rs
 
-  pub around-keeps : (go : Inside) → Keeps own K J P go → Keeps own K J P (around go)
+  pub around-keeps : (go : Inside) → KeepsFresh own K J P go → KeepsFresh own K J P (around go)
   around-keeps go keeps = record {
     form = λ place level depth t s u c h rs g e.
         told (C own K J P lives s.names.number) s u c (form_at go place level depth t s) (form-at-holds own K J P lives s.names.number go (from-one-name s.names.number go keeps rs) place level depth t s h g) e;
@@ -62,12 +62,12 @@ module _ (own : LibName) (K : ℕ → Mark → Type 0) (J : ℕ → FrameNo → 
         told (TakenAt own K J P lives s.names.number) s u d' (item go at depth d t s) (item-holds own K J P lives s.names.number go (from-one-name s.names.number go keeps rs) at depth d t s h k g q) e;
   }
 
-  earlier : (records : List LibRecord) (room : ℕ) (s : State) → RecordsHold (P s.names.number) (inside records room).earlier → RecordsHold (P s.names.number) records
+  earlier : (records : List CompiledLibrary) (room : ℕ) (s : State) → RecordsHold (P s.names.number) (inside records room).earlier → RecordsHold (P s.names.number) records
   unfolding inside
   earlier records zero s rs = rs
   earlier records (suc room) s rs = rs
 
-  pub each-inside : (records : List LibRecord) (room : ℕ) → Keeps own K J P (inside records room)
+  pub each-inside : (records : List CompiledLibrary) (room : ℕ) → KeepsFresh own K J P (inside records room)
   each-inside records room = record {
     form = λ place level depth t s u c h rs g e.
         told (C own K J P lives s.names.number) s u c ((inside records room).form place level depth t s) ((inside-keeps own K J P lives s.names.number records room (earlier records room s rs)).form place level depth t s h g) e;
@@ -90,9 +90,9 @@ histories-stay = record {
 }
 
 pub around-once : (libs : List LibName) (own : LibName) (go : Inside) → Among libs library.Core → IsNewAmong libs own
-    → Keeps own (IsKnown libs own) (IsKnownFrame libs own) (HasKnownEvents libs own) go → Keeps own (IsKnown libs own) (IsKnownFrame libs own) (HasKnownEvents libs own) (around go)
+    → KeepsFresh own (IsKnown libs own) (IsKnownFrame libs own) (HasKnownEvents libs own) go → KeepsFresh own (IsKnown libs own) (IsKnownFrame libs own) (HasKnownEvents libs own) (around go)
 around-once libs own go core new keeps = around-keeps own (IsKnown libs own) (IsKnownFrame libs own) (HasKnownEvents libs own) (lives-once libs own new core) go keeps
 
-pub inside-once : (libs : List LibName) (own : LibName) (records : List LibRecord) (room : ℕ) → Among libs library.Core → IsNewAmong libs own
-    → Keeps own (IsKnown libs own) (IsKnownFrame libs own) (HasKnownEvents libs own) (inside records room)
+pub inside-once : (libs : List LibName) (own : LibName) (records : List CompiledLibrary) (room : ℕ) → Among libs library.Core → IsNewAmong libs own
+    → KeepsFresh own (IsKnown libs own) (IsKnownFrame libs own) (HasKnownEvents libs own) (inside records room)
 inside-once libs own records room core new = each-inside own (IsKnown libs own) (IsKnownFrame libs own) (HasKnownEvents libs own) (lives-once libs own new core) records room

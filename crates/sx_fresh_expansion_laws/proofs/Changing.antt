@@ -15,7 +15,7 @@ use Rattle.sx_scope.specs.Stands.{row_for}
 use Rattle.sx_value.specs.Cells.{Each}
 use Rattle.sx_fresh_laws.specs.Leaves.{OptionHolds, TreeHolds}
 use Rattle.sx_fresh_laws.specs.Below.{mark_named}
-use Rattle.sx_fresh_laws.specs.Names.{Rises, temporary_context}
+use Rattle.sx_fresh_laws.specs.Names.{FreshRises, temporary_context}
 use Rattle.sx_fresh_laws.proofs.Eachs.{each_and}
 use Rattle.sx_fresh_laws.proofs.Trees.{OkHolds}
 use Rattle.sx_fresh_expansion_laws.specs.Living.{InUse, Lives, RowsHold}
@@ -83,7 +83,7 @@ module _ (own : LibName) (K : ℕ → Mark → Type 0) (J : ℕ → FrameNo → 
           let same : m ≡ a = omega (arith, p, q) in
           subst (λ x. In m m (temporary_context own x)) same (lives.entered m blank (rise 0 m (omega arith) blank lives.read)) k (omega (arith, more)) more
 
-  pub in-rises : (m : ℕ) → Rises own 0 (In m)
+  pub in-rises : (m : ℕ) → FreshRises own 0 (In m)
   in-rises m = record { later = in-later m; temporary = λ a n low lt. temporary-in m a n lt }
 
   -- what was there may be met in it, and what may be met in it may be met when it is left

@@ -25,7 +25,7 @@ use Rattle.sx_standing.specs.Binders.{bind_formals, bind_specs}
 use Rattle.sx_standing.specs.InScope.{apart}
 use Rattle.sx_standing.specs.Patterns.{pattern_of, check_literals, bind_pattern}
 use Rattle.sx_standing.specs.State.{State, fresh, fresh_frame}
-use Rattle.sx_standing.specs.Uses.{bind_keywords, finish_keyword}
+use Rattle.sx_standing.specs.Uses.{bind_keywords, evaluate_transformer}
 use Rattle.sx_standing.specs.declared.binders.BoundSpec.{BoundSpec}
 use Rattle.sx_heads.specs.Depth.{deeper}
 use Rattle.sx_heads.specs.Items.{begun}
@@ -37,7 +37,7 @@ use Rattle.sx_heads.specs.declared.taken.Waits.TheVariants as waits
 use Rattle.sx_expand.specs.Body.{splice, value_of, finish_as, finish_one, finish_all, sequence_of, inits_in, values_in, with_inits, body_core, finish, lambda_at, body_in, body}
 use Rattle.sx_expand.specs.Expression.{in_order, case_in, lambda_case, lambda, one_case, all_cases, case_lambda, one_init, all_inits, letrec_in, letrec_form, application, alternate, conditional, set, in_sequence, fender, clause_in, pattern_clause, all_clauses, syntax_case, keywords_form}
 use Rattle.sx_expand.specs.Inside.{Inside}
-use Rattle.sx_expand.specs.Keywords.{keyword, seen_in, keyword_in, all_keywords, keywords, with_keywords}
+use Rattle.sx_expand.specs.Keywords.{expand_transformer, seen_in, expand_transformer_in, expand_transformers, keywords, with_keywords}
 use Rattle.sx_value.specs.Cells.{Each}
 use Rattle.sx_fresh_laws.specs.Leaves.{CoresHold, InitsHold, CasesHold, ClausesHold, PatternHolds, LineHolds}
 use Rattle.sx_fresh_laws.specs.Leaves.{OptionHolds}
@@ -55,7 +55,7 @@ module _ (own : LibName) (K : ℕ → Mark → Type 0) (J : ℕ → FrameNo → 
   CaseAt n c = (C own K J P lives first) n c.body
 
   -- What is done inside forms keeps that all may be met, and gives no leaf that may not be met.
-  pub record Keeps (go : Inside) : Type 0 where
+  pub record KeepsFresh (go : Inside) : Type 0 where
     pub records : RecordsHold (P first) go.earlier
     pub form : (place : Span) (level depth : ℕ) (t : Tree) (s : State) → (F own K J P lives first) s → (T own K J P lives first) s.names.number t → (Gave own K J P lives first) (C own K J P lives first) s (go.form place level depth t s)
     pub procedure : (place : Span) (level depth : ℕ) (t : Tree) (ids : FormalIds) (forms : List Tree) (s : State) → (F own K J P lives first) s → FormalsHold (P s.names.number) ids → (Ts own K J P lives first) s.names.number forms → (Gave own K J P lives first) CaseAt s (go.procedure place level depth t ids forms s)
@@ -150,7 +150,7 @@ module _ (own : LibName) (K : ℕ → Mark → Type 0) (J : ℕ → FrameNo → 
   pub all-bound-in : (f : FrameNo) (n : ℕ) (bs : List BoundSpec) → Each ((BoundHolds own K J P lives first) n) bs → J n f → Each (BoundIn f n) bs
   all-bound-in f n bs h k = each_mapped ((BoundHolds own K J P lives first) n) (BoundIn f n) (λ b j. (j, k)) bs h
 
-  module _ (go : Inside) (keeps : Keeps go) where
+  module _ (go : Inside) (keeps : KeepsFresh go) where
     -- Bodies.
 
     pub splice-holds : (at : BodyAt) (depth : ℕ) (d : Taken) (forms : List Tree) (s : State) → (F own K J P lives first) s → (TakenAt own K J P lives first) s.names.number d → (Ts own K J P lives first) s.names.number forms → J s.names.number at.frame → (Gave own K J P lives first) (TakenAt own K J P lives first) s (splice go at depth d forms s)
@@ -371,11 +371,11 @@ module _ (own : LibName) (K : ℕ → Mark → Type 0) (J : ℕ → FrameNo → 
 
     -- Keywords.
 
-    pub keyword-holds : (place : Span) (level depth : ℕ) (b : BoundSpec) (s : State) → (F own K J P lives first) s → (BoundHolds own K J P lives first) s.names.number b → (Gave own K J P lives first) Any s (keyword go place level depth b s)
-    unfolding keyword
+    pub keyword-holds : (place : Span) (level depth : ℕ) (b : BoundSpec) (s : State) → (F own K J P lives first) s → (BoundHolds own K J P lives first) s.names.number b → (Gave own K J P lives first) Any s (expand_transformer go place level depth b s)
+    unfolding expand_transformer
     keyword-holds place level depth b s h k =
         let z : State = record s { scope = [] } in
-        (gave-after own K J P lives first) (C own K J P lives first) Any s (apart (go.form place (level + 1) depth b.init) s) (finish_keyword go.earlier (place_of b.init place) b.label)
+        (gave-after own K J P lives first) (C own K J P lives first) Any s (apart (go.form place (level + 1) depth b.init) s) (evaluate_transformer go.earlier (place_of b.init place) b.label)
         ((gave-apart own K J P lives first) (C own K J P lives first) (go.form place (level + 1) depth b.init) s (keeps.form place (level + 1) depth b.init z (record { stage = h.stage; bindings = h.bindings }) k))
         (λ c u i y. (finish-keyword-holds own K J P lives first) go.earlier keeps.records (place_of b.init place) b.label c u ((state-then own K J P lives first) s u h i) y)
 
@@ -386,8 +386,8 @@ module _ (own : LibName) (K : ℕ → Mark → Type 0) (J : ℕ → FrameNo → 
     keywords-hold : (place : Span) (level depth : ℕ) (recursive : Bool) (bs : List BindingSpec) (f : FrameNo) (s : State) → (F own K J P lives first) s → J s.names.number f → Each ((SpecAt own K J P lives first) s.names.number) bs → (Gave own K J P lives first) Any s (keywords go place level depth recursive bs f s)
     unfolding keywords
     keywords-hold place level depth recursive bs f s h q k =
-        (gave-after own K J P lives first) (λ n xs. Each ((BoundHolds own K J P lives first) n) xs) Any s (bind_keywords f place level bs s) (all_keywords go place level depth recursive f) ((bind-keywords-holds own K J P lives first) f place level bs s h k)
-        (λ xs u i y. (gave-gather own K J P lives first) (BoundIn f) (Any) (bound-in-up f) (keyword_in go place level depth recursive f) (λ d b t j w z. keyword-holds place level depth (seen_in recursive f b) t j (seen-holds recursive f b t.names.number z)) tt xs u ((state-then own K J P lives first) s u h i) tt
+        (gave-after own K J P lives first) (λ n xs. Each ((BoundHolds own K J P lives first) n) xs) Any s (bind_keywords f place level bs s) (expand_transformers go place level depth recursive f) ((bind-keywords-holds own K J P lives first) f place level bs s h k)
+        (λ xs u i y. (gave-gather own K J P lives first) (BoundIn f) (Any) (bound-in-up f) (expand_transformer_in go place level depth recursive f) (λ d b t j w z. keyword-holds place level depth (seen_in recursive f b) t j (seen-holds recursive f b t.names.number z)) tt xs u ((state-then own K J P lives first) s u h i) tt
         (all-bound-in f u.names.number xs y (lives.frames s.names.number u.names.number f i.stage.up q)))
 
     pub with-keywords-holds : (place : Span) (level depth : ℕ) (recursive : Bool) (bs : List BindingSpec) (forms : List Tree) (s : State) → (F own K J P lives first) s → Each ((SpecAt own K J P lives first) s.names.number) bs → (Ts own K J P lives first) s.names.number forms

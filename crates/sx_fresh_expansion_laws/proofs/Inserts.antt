@@ -29,7 +29,7 @@ use Rattle.sx_quasi_code.specs.Inserted.{dots, ellipsis, insert_variable, insert
 use Rattle.sx_quasi_code.specs.Parts.{part, with_made, quasi_parts, all_quasi_parts, insert_part, inserts_parts}
 use Rattle.sx_quasi_code.specs.declared.form.QuasiForm.{QuasiForm}
 use Rattle.sx_quasi_code.specs.declared.form.QuasiForm.TheVariants as forms
-use Rattle.sx_quasi_code.specs.declared.parts.Part.{Part}
+use Rattle.sx_quasi_code.specs.declared.parts.PartForm.{PartForm}
 use Rattle.std.specs.Prelude.{nat_lt}
 use Rattle.sx_shapes.specs.At.{place_of}
 use Rattle.sx_standing.specs.Binders.{put_row}
@@ -44,7 +44,7 @@ use Rattle.sx_fresh_laws.proofs.Eachs.{each_and, each_mapped}
 use Rattle.sx_fresh_laws.proofs.Trees.{OkHolds}
 use Rattle.sx_fresh_expansion_laws.specs.Living.{Lives}
 use Rattle.sx_fresh_expansion_laws.proofs.Changing.{stamp-holds}
-use Rattle.sx_fresh_expansion_laws.proofs.Forms.{Keeps}
+use Rattle.sx_fresh_expansion_laws.proofs.Forms.{KeepsFresh}
 use Rattle.sx_fresh_expansion_laws.proofs.Quasi.{QuasiHolds, QuasisHold, quasi-holds}
 use Rattle.sx_fresh_expansion_laws.proofs.QuasiSyntax.{quasi-syntax-holds}
 use Rattle.sx_fresh_expansion_laws.proofs.Standing.{F, T, C, up, tree-up, core-up, state-self, state-then, Gave, gave-from, gave-after, gave-each, gave-within, counted-holds, frame-made, VariableAt, put-row-holds, template-holds, bind-pattern-holds}
@@ -83,13 +83,13 @@ module _ (own : LibName) (K : ℕ → Mark → Type 0) (J : ℕ → FrameNo → 
 
   -- Parts.
 
-  abbrev pub PartAt : ℕ → Part → Type 0
+  abbrev pub PartAt : ℕ → PartForm → Type 0
   PartAt n p = (T own K J P lives first) n p.form
 
-  pub part-up : (m n : ℕ) → m ≤ n → (p : Part) → PartAt m p → PartAt n p
+  pub part-up : (m n : ℕ) → m ≤ n → (p : PartForm) → PartAt m p → PartAt n p
   part-up m n le p h = (tree-up own K J P lives first) m n le p.form h
 
-  with-made-holds : (n : ℕ) (t : Tree) (depth : ℕ) (done : List Part) → (T own K J P lives first) n t → Each (PartAt n) done → Each (PartAt n) (with_made t depth done)
+  with-made-holds : (n : ℕ) (t : Tree) (depth : ℕ) (done : List PartForm) → (T own K J P lives first) n t → Each (PartAt n) done → Each (PartAt n) (with_made t depth done)
   with-made-holds n t depth done h k = by (nat_lt most_round depth)
     where
       by : (b : Bool) → Each (PartAt n) (if b then done ++ part t depth ∷ [] else done)
@@ -97,12 +97,12 @@ module _ (own : LibName) (K : ℕ → Mark → Type 0) (J : ℕ → FrameNo → 
       by false = k
 
   mutual
-    quasi-parts-hold : (n : ℕ) (t : Tree) (depth : ℕ) (done : List Part) (q : PlainQuasi) → (T own K J P lives first) n t → Each (PartAt n) done → QuasiHolds (P n) q → Each (PartAt n) (quasi_parts t depth done q)
+    quasi-parts-hold : (n : ℕ) (t : Tree) (depth : ℕ) (done : List PartForm) (q : PlainQuasi) → (T own K J P lives first) n t → Each (PartAt n) done → QuasiHolds (P n) q → Each (PartAt n) (quasi_parts t depth done q)
     quasi-parts-hold n t depth done (constant c) h k j = with-made-holds n t depth done h k
     quasi-parts-hold n t depth done (expression e) h k j = each_and (PartAt n) done (part e depth) k j
     quasi-parts-hold n t depth done (quasi_plan.call m qs) h k j = all-parts-hold n t (deeper depth) (with_made t (deeper depth) done) qs h (with-made-holds n t (deeper depth) done h k) j
 
-    all-parts-hold : (n : ℕ) (t : Tree) (depth : ℕ) (done : List Part) (qs : PlainQuasis) → (T own K J P lives first) n t → Each (PartAt n) done → QuasisHold (P n) qs → Each (PartAt n) (all_quasi_parts t depth done qs)
+    all-parts-hold : (n : ℕ) (t : Tree) (depth : ℕ) (done : List PartForm) (qs : PlainQuasis) → (T own K J P lives first) n t → Each (PartAt n) done → QuasisHold (P n) qs → Each (PartAt n) (all_quasi_parts t depth done qs)
     all-parts-hold n t depth done none h k j = k
     all-parts-hold n t depth done (more q qs) h k j = all-parts-hold n t depth (quasi_parts t depth done q) qs h (quasi-parts-hold n t depth done q h k j.0) j.1
 
@@ -223,7 +223,7 @@ module _ (own : LibName) (K : ℕ → Mark → Type 0) (J : ℕ → FrameNo → 
         by [] = (gave-after own K J P lives first) (λ n x. TemplateHolds (P n) x) (C own K J P lives first) s (template_of place level q.template s) (λ x. give (instance x (place_of t place))) ((template-holds own K J P lives first) place level q.template s h k.0) (λ x u i y. ((state-self own K J P lives first) u ((state-then own K J P lives first) s u h i), y))
         by (i ∷ is) = inserted-holds q cs s h k.0 k.1 j
 
-    module _ (go : Inside) (keeps : (Keeps own K J P lives first) go) where
+    module _ (go : Inside) (keeps : (KeepsFresh own K J P lives first) go) where
       pub quasi-form-holds : (depth : ℕ) (which : Family) (template : Tree) (s : State) → (F own K J P lives first) s → (T own K J P lives first) s.names.number t → (T own K J P lives first) s.names.number template → (Gave own K J P lives first) (C own K J P lives first) s (quasi_form go place level depth t which template s)
       unfolding quasi_form
       quasi-form-holds depth which template s h k g =

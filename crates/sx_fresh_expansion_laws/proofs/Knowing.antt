@@ -31,7 +31,7 @@ use Rattle.sx_fresh_laws.proofs.Wider.{cells_wider, codes_wider, globals_wider}
 use Rattle.sx_fresh_expansion_laws.specs.History.{HasKnownHistory}
 use Rattle.sx_fresh_expansion_laws.specs.Known.{IsKnownName, IsKnown, IsKnownFrame, HasKnown}
 use Rattle.sx_fresh_expansion_laws.specs.Living.{IsChangeOf, InUse, Lives, RowsHold}
-use Rattle.sx_fresh_expansion_laws.specs.States.{StageHolds, StateHolds}
+use Rattle.sx_fresh_expansion_laws.specs.States.{StageHolds, FreshStateHolds}
 use Rattle.sx_fresh_expansion_laws.specs.Uses.{IsNewOn, IsNewIn}
 use Rattle.sx_fresh_expansion_laws.proofs.Having.{act-has, history-marks, beginning-has, act-follows, has-wider, history-wider}
 use Rattle.sx_fresh_expansion_laws.proofs.Runs.{keywords-wider}
@@ -171,7 +171,7 @@ module _ (libs : List LibName) (own : LibName) where
           keywords = keywords-wider (P n) (Lacks x) lacks g.keywords h.keywords;
         }
 
-    pub new-in-state : (m : ℕ) (s : State) → StateHolds own K P m s → IsNewIn (record { 0 = s.names }) s
+    pub new-in-state : (m : ℕ) (s : State) → FreshStateHolds own K P m s → IsNewIn (record { 0 = s.names }) s
     new-in-state m s h = record {
       stage = new-on m (stage_of s) h.stage;
       bindings = bindings-wider (P s.names.number) (Lacks (record { 0 = s.names })) (lacks-it new s.names h.stage.library) s.bindings h.bindings;

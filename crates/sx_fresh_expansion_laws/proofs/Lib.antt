@@ -16,7 +16,7 @@ pub mod Once
 pub mod Taking
 pub mod Forms
 pub mod Inserts
-pub mod Settled
+pub mod PlannedForm
 pub mod Making
 pub mod Around
 pub mod Recorded

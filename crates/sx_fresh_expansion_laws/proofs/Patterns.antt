@@ -11,7 +11,7 @@ use Rattle.sx_tree.specs.Tree.{Tree}
 use Rattle.sx_scope.specs.Stands.{stands}
 use Rattle.sx_core.specs.Pattern.{PlainPattern, list, vector, PlainPatterns, none, patterns_on}
 use Rattle.sx_core.specs.declared.core_form.CoreForm.TheVariants as form
-use Rattle.sx_pattern.specs.Compile.{Context, Taken, Element, Walked, is_known, is_literal, named, new_variable, leaf_pattern, no_parts, with_part, dots_of, parts_of, with_repeated, next_ellipsis, repeated_part, element, step, walked, list_with, vector_with, pattern, element_patterns, tail_pattern, literals_checked, with_variables, compiled}
+use Rattle.sx_pattern.specs.Compile.{PatternScope, Taken, Element, Walked, is_known, is_literal, named, new_variable, leaf_pattern, no_parts, with_part, dots_of, parts_of, with_repeated, next_ellipsis, repeated_part, element, step, walked, list_with, vector_with, pattern, element_patterns, tail_pattern, literals_checked, with_variables, compiled}
 use Rattle.sx_pattern.specs.Keywords.{is_form}
 use Rattle.sx_pattern.specs.declared.compile.Compiled.{Compiled}
 use Rattle.sx_pattern.specs.declared.compile.PatternVariable.{PatternVariable}
@@ -82,7 +82,7 @@ module _ (P : LeafContext → Type 0) (own : LibName) where
   abbrev IsElement : Element → Type 0
   IsElement x = (depth : ℕ) (n : ℕ) (s : Taken) → TakenFrom n s → GaveBy (PatternFrom n) (x.1 depth s)
 
-  module _ (c : Context) where
+  module _ (c : PatternScope) where
     variable-holds : (t : Tree) (depth n : ℕ) (s : Taken) → T t → TakenFrom n s → GaveBy (PatternFrom n) (new_variable c.place t depth s)
     variable-holds t depth n s g h = by-if (PatternFrom n) (is_known s.0 t) _ _ tt (tt, (each_and VariableHolds s.0 (named s.1 t depth) h.0 g, (h.1.0, omega (arith, h.1.1))))
 
@@ -149,7 +149,7 @@ module _ (P : LeafContext → Type 0) (own : LibName) where
   abbrev pub CompiledFrom : ℕ → Compiled → Named → Type 0
   CompiledFrom n c new = (PatternHolds P c.pattern × Each VariableHolds c.variables) × ((new.library ≡ own) × (n ≤ new.number))
 
-  pub compiled-holds : (c : Context) (t : Tree) (names : Named) → T t → names.library ≡ own → GaveBy (CompiledFrom names.number) (compiled c t names)
+  pub compiled-holds : (c : PatternScope) (t : Tree) (names : Named) → T t → names.library ≡ own → GaveBy (CompiledFrom names.number) (compiled c t names)
   compiled-holds c t names g e = checked (literals_checked c.frames c.place c.literals)
     where
       of : (r : Result (PlainPattern × Taken) Fault) → GaveBy (PatternFrom names.number) r → GaveBy (CompiledFrom names.number) (with_variables r)

@@ -25,7 +25,7 @@ use Rattle.sx_core.specs.Bindings.{bound_to}
 use Rattle.sx_core.specs.Labels.{same_label, has_label}
 use Rattle.sx_core.specs.declared.binding.Binding.{Binding}
 use Rattle.sx_core.specs.declared.binding.Binding.TheVariants as binding
-use Rattle.sx_core.specs.declared.record.LibRecord.{LibRecord}
+use Rattle.sx_core.specs.declared.record.CompiledLibrary.{CompiledLibrary}
 use Rattle.sx_records.specs.Frame.{rows_for, introduced_numbers, record_frame}
 use Rattle.sx_eval.specs.Codes.{Codes}
 use Rattle.sx_hygiene_laws.specs.Marked.{Among}
@@ -42,7 +42,7 @@ use Rattle.sx_expand.specs.Body.{finish_all}
 use Rattle.sx_expand.specs.Expanding.{ready, body_of, library_record}
 use Rattle.sx_expand.specs.Expression.{inside, full_room}
 use Rattle.sx_expand.specs.Inside.{Inside}
-use Rattle.sx_expand.specs.Top.{stands_for, export, all_exports, exports, give_record, record_in, body_at, finished, first_pass, top}
+use Rattle.sx_expand.specs.Top.{stands_for, export, all_exports, exports, give_record, record_in, body_at, second_pass, first_pass, top}
 use Rattle.sx_expand.specs.declared.top.TopAt.{TopAt}
 use Rattle.sx_fresh_laws.specs.Leaves.{OptionHolds, TreeHolds, CodesHold, LineHolds, LinesHold}
 use Rattle.sx_fresh_laws.proofs.Eachs.{each_both, each_mapped}
@@ -53,15 +53,15 @@ use Rattle.sx_fresh_expansion_laws.specs.History.{HasHistory}
 use Rattle.sx_fresh_expansion_laws.specs.Known.{IsKnownName, IsKnown, IsKnownFrame, HasMarks, libraries_of}
 use Rattle.sx_fresh_expansion_laws.specs.Living.{Lives, RowsHold}
 use Rattle.sx_fresh_expansion_laws.specs.RecordMarks.{IsOfOne, IsFrameOfOne, HasOnly, KnownBy, RecordHasOnly, WasRead, StartsAreKnown, RecordsHaveOwnMarks}
-use Rattle.sx_fresh_expansion_laws.specs.States.{ExpressionHolds, KeywordHolds, BindingHolds, BindingsHold, RecordsHold, StateHolds}
+use Rattle.sx_fresh_expansion_laws.specs.States.{ExpressionHolds, KeywordHolds, BindingHolds, BindingsHold, RecordsHold, FreshStateHolds}
 use Rattle.sx_fresh_expansion_laws.proofs.Changing.{rise, with-row-holds, stamps-hold}
-use Rattle.sx_fresh_expansion_laws.proofs.Forms.{Keeps, splice-holds, lines-hold}
+use Rattle.sx_fresh_expansion_laws.proofs.Forms.{KeepsFresh, splice-holds, lines-hold}
 use Rattle.sx_fresh_expansion_laws.proofs.Items.{TakenAt, taken-up}
 use Rattle.sx_fresh_expansion_laws.proofs.Having.{has-wider, history-wider}
 use Rattle.sx_fresh_expansion_laws.proofs.Around.{around-once, inside-once}
 use Rattle.sx_fresh_expansion_laws.proofs.Once.{events-wider, lives-once}
 use Rattle.sx_fresh_expansion_laws.proofs.Knowing.{lives-known, lives-on}
-use Rattle.sx_fresh_expansion_laws.proofs.Settled.{inside-keeps}
+use Rattle.sx_fresh_expansion_laws.proofs.PlannedForm.{inside-keeps}
 use Rattle.sx_fresh_expansion_laws.proofs.Runs.{records-wider}
 use Rattle.sx_fresh_expansion_laws.proofs.Standing.{F, Ts, Gave, gave-after, gave-each, state-self, state-then, bindings-wider}
 
@@ -126,7 +126,7 @@ module _ (own : LibName) (K : ℕ → Mark → Type 0) (J : ℕ → FrameNo → 
   Any n x = Unit {0}
 
   -- what is in a record
-  pub record RecordAt (n : ℕ) (r : LibRecord) : Type 0 where
+  pub record RecordAt (n : ℕ) (r : CompiledLibrary) : Type 0 where
     pub run : LinesHold (P n) r.run
     pub bindings : BindingsHold (P n) r.bindings
     pub frames : Each (λ (f : FrameRow). Each (K n) f.marks) r.frames
@@ -182,9 +182,9 @@ module _ (own : LibName) (K : ℕ → Mark → Type 0) (J : ℕ → FrameNo → 
       ((gave-each own K J P lives first) (λ n e. Unit {0}) (λ n l. Unit {0}) (λ m n le e k. tt) (λ m n le l k. tt) (export at) (λ e t i j. export-holds at e t i) [] es s h tt (no-leaves es))
       (λ ls u i y. let j = (state-self own K J P lives first) u ((state-then own K J P lives first) s u h i) in (record { stage = j.stage; bindings = j.bindings }, tt))
 
-  module _ (go : Inside) (keeps : (Keeps own K J P lives first) go) where
-    finished-holds : (at : TopAt) (es : List (List ℕ × Tree)) (d : Taken) (s : State) → (F own K J P lives first) s → (TakenAt own K J P lives first) s.names.number d → (Gave own K J P lives first) RecordAt s (finished go at es d s)
-    unfolding finished
+  module _ (go : Inside) (keeps : (KeepsFresh own K J P lives first) go) where
+    finished-holds : (at : TopAt) (es : List (List ℕ × Tree)) (d : Taken) (s : State) → (F own K J P lives first) s → (TakenAt own K J P lives first) s.names.number d → (Gave own K J P lives first) RecordAt s (second_pass go at es d s)
+    unfolding second_pass
     finished-holds at es d s h k =
         (gave-after own K J P lives first) Any RecordAt s (exports at es s) (λ ls s'. after (finish_all go 0 d.waiting s') (λ lines. give_record at ls lines)) (exports-hold at es s h)
         (λ ls u i y. let hu = (state-then own K J P lives first) s u h i in
@@ -195,12 +195,12 @@ module _ (own : LibName) (K : ℕ → Mark → Type 0) (J : ℕ → FrameNo → 
     pub top-holds : (at : TopAt) (es : List (List ℕ × Tree)) (forms : List Tree) (s : State) → (F own K J P lives first) s → (Ts own K J P lives first) s.names.number forms → J s.names.number at.frame → (Gave own K J P lives first) RecordAt s (top go at es forms s)
     unfolding top first_pass
     top-holds at es forms s h k q =
-        (gave-after own K J P lives first) (TakenAt own K J P lives first) RecordAt s (first_pass go at forms s) (finished go at es) ((splice-holds own K J P lives first) go keeps (body_at at s.library) 0 begun (map (stamp at.frame) forms) s h tt (stamps-hold own K J P lives s.names.number at.frame forms q k) q)
+        (gave-after own K J P lives first) (TakenAt own K J P lives first) RecordAt s (first_pass go at forms s) (second_pass go at es) ((splice-holds own K J P lives first) go keeps (body_at at s.library) 0 begun (map (stamp at.frame) forms) s h tt (stamps-hold own K J P lives s.names.number at.frame forms q k) q)
         (λ d u i y. finished-holds at es d u ((state-then own K J P lives first) s u h i) y)
 
 -- The law.
 
-module _ (own : LibName) (records : List LibRecord) where
+module _ (own : LibName) (records : List CompiledLibrary) where
   abbrev L : List LibName
   L = libraries_of records
 
@@ -226,22 +226,22 @@ module _ (own : LibName) (records : List LibRecord) where
     own-marks n ms h = each_mapped (Kn n) (IsOfOne (own ∷ L)) (λ m k. own-or n m.0 k) ms h
 
     -- what the records before bind, their lines, their rows
-    all-bindings : (rs : List LibRecord) → Each (RecordHasOnly Q L) rs → BindingsHold (Pn 1) (bindings_of rs)
+    all-bindings : (rs : List CompiledLibrary) → Each (RecordHasOnly Q L) rs → BindingsHold (Pn 1) (bindings_of rs)
     all-bindings [] h = tt
     all-bindings (r ∷ rs) h = each_both (λ (b : Label × Binding). BindingHolds (Pn 1) b.1) r.bindings (bindings_of rs) (bindings-wider (HasOnly Q L) (Pn 1) (as-known 1) r.bindings h.0.bindings) (all-bindings rs h.1)
 
-    all-lines : (rs : List LibRecord) → Each (RecordHasOnly Q L) rs → RecordsHold (Pn 1) rs
+    all-lines : (rs : List CompiledLibrary) → Each (RecordHasOnly Q L) rs → RecordsHold (Pn 1) rs
     all-lines [] h = tt
     all-lines (r ∷ rs) h = (lines_wider (HasOnly Q L) (Pn 1) (as-known 1) r.run h.0.run, all-lines rs h.1)
 
-    all-rows : (rs : List LibRecord) → Each (RecordHasOnly Q L) rs → Each (λ (f : FrameRow). Each (Kn 1) f.marks) (rows_of rs)
+    all-rows : (rs : List CompiledLibrary) → Each (RecordHasOnly Q L) rs → Each (λ (f : FrameRow). Each (Kn 1) f.marks) (rows_of rs)
     all-rows [] h = tt
     all-rows (r ∷ rs) h =
         each_both (λ (f : FrameRow). Each (Kn 1) f.marks) r.frames (rows_of rs)
         (each_mapped (λ (f : FrameRow). Each (IsOfOne L) f.marks) (λ (f : FrameRow). Each (Kn 1) f.marks) (λ f k. known-marks 1 f.marks k) r.frames h.0.frames) (all-rows rs h.1)
 
     module _ (imports : List (List ℕ × Label)) (codes : Codes) (only : Each (RecordHasOnly Q L) records) (texts : CodesHold (HasOnly Q L) codes) where
-      start-holds : StateHolds own Kn Pn 1 (started own records imports codes)
+      start-holds : FreshStateHolds own Kn Pn 1 (started own records imports codes)
       unfolding started
       start-holds = record {
         stage = record {
@@ -258,7 +258,7 @@ module _ (own : LibName) (records : List LibRecord) where
         bindings = all-bindings records only;
       }
 
-      pub start-known : StateHolds own Kn Pn (started own records imports codes).names.number (started own records imports codes) × RecordsHold (Pn (started own records imports codes).names.number) records
+      pub start-known : FreshStateHolds own Kn Pn (started own records imports codes).names.number (started own records imports codes) × RecordsHold (Pn (started own records imports codes).names.number) records
       start-known =
           let s = started own records imports codes in
           (state-self own Kn Jn Pn lives 1 s start-holds, records-wider (Pn 1) (Pn s.names.number) (rise own Kn Jn Pn lives 1 s.names.number start-holds.stage.up) records (all-lines records only))
@@ -273,7 +273,7 @@ module _ (own : LibName) (records : List LibRecord) where
       forms-hold : (n : ℕ) (ts : List Tree) → Each WasRead ts → Each (TreeHolds (Pn n)) ts
       forms-hold n ts h = each_mapped WasRead (TreeHolds (Pn n)) (λ t k. tree_wider (λ c. c ≡ blank) (Pn n) (read-holds n) t k) ts h
 
-      of-record : (r : LibRecord) (q : Result (LibRecord × State) Fault) → Gave own Kn Jn Pn lives 1 (RecordAt own Kn Jn Pn lives 1) (started own records imports codes) q → record_in q ≡ Ok r → RecordHasOnly Q (own ∷ L) r
+      of-record : (r : CompiledLibrary) (q : Result (CompiledLibrary × State) Fault) → Gave own Kn Jn Pn lives 1 (RecordAt own Kn Jn Pn lives 1) (started own records imports codes) q → record_in q ≡ Ok r → RecordHasOnly Q (own ∷ L) r
       of-record r (Err f) h e = absurd (cc)
       of-record r (Ok p) h e =
           let is : p.0 ≡ r = cc in
@@ -284,7 +284,7 @@ module _ (own : LibName) (records : List LibRecord) where
             frames = each_mapped (λ (f : FrameRow). Each (Kn n) f.marks) (λ (f : FrameRow). Each (IsOfOne (own ∷ L)) f.marks) (λ f k. own-marks n f.marks k) p.0.frames h.1.frames;
           })
 
-      pub record-law : (path version : List ℕ) (place : Span) (es : List (List ℕ × Tree)) (forms : List Tree) (r : LibRecord) → Each WasRead forms
+      pub record-law : (path version : List ℕ) (place : Span) (es : List (List ℕ × Tree)) (forms : List Tree) (r : CompiledLibrary) → Each WasRead forms
           → library_record (ready own path records imports codes) records version place es forms ≡ Ok r → RecordHasOnly Q (own ∷ L) r
       record-law path version place es forms r was e =
           of-record r (top (inside records full_room) (body_of (ready own path records imports codes) version place) es forms (started own records imports codes))

@@ -3,7 +3,7 @@ use Rattle.std.proofs.Common.{List, Option}
 use Rattle.sx_base.specs.declared.name.Label.{Label}
 use Rattle.sx_tree.specs.Context.{LeafContext}
 use Rattle.sx_core.specs.Core.{PlainCore}
-use Rattle.sx_core.specs.declared.record.LibRecord.{LibRecord}
+use Rattle.sx_core.specs.declared.record.CompiledLibrary.{CompiledLibrary}
 use Rattle.sx_stage.specs.declared.keyword.Keyword.{Keyword}
 use Rattle.sx_invariant_laws.proofs.Stages as stages
 use Rattle.sx_fresh_laws.specs.Leaves.{leaves}
@@ -17,5 +17,5 @@ module _ (P Q : LeafContext → Type 0) (more_met : (c : LeafContext) → P c �
   pub keywords-wider : (ks : List (Label × Keyword)) → KeywordsHold P ks → KeywordsHold Q ks
   keywords-wider ks h = stages.keywords-wider (leaves P) (leaves Q) (leaves_wider P Q more_met) ks h
 
-  pub records-wider : (rs : List LibRecord) → RecordsHold P rs → RecordsHold Q rs
+  pub records-wider : (rs : List CompiledLibrary) → RecordsHold P rs → RecordsHold Q rs
   records-wider rs h = stages.records-wider (leaves P) (leaves Q) (leaves_wider P Q more_met) rs h

@@ -10,10 +10,10 @@ use Rattle.sx_base.specs.declared.span.Span.{Span}
 use Rattle.sx_tree.specs.Context.{LeafContext}
 use Rattle.sx_tree.specs.Tree.{Tree}
 use Rattle.sx_core.specs.Core.{PlainCore}
-use Rattle.sx_core.specs.declared.record.LibRecord.{LibRecord}
+use Rattle.sx_core.specs.declared.record.CompiledLibrary.{CompiledLibrary}
 use Rattle.sx_value.specs.declared.value.Value.{Value}
 use Rattle.sx_stage.specs.Stage.{PlainStage, name_after}
-use Rattle.sx_stage.specs.Transformers.{begin_keyword, finish_keyword, keyword_value, is_variable_transformer}
+use Rattle.sx_stage.specs.Transformers.{begin_keyword, evaluate_transformer, keyword_value, is_variable_transformer}
 use Rattle.sx_stage.specs.Uses.{used}
 use Rattle.sx_invariant_laws.specs.Invariant.{Invariant}
 use Rattle.sx_invariant_laws.proofs.Stages as stages
@@ -65,7 +65,7 @@ module _ (own : LibName) (K : ℕ → Mark → Type 0) (J : ℕ → FrameNo → 
   abbrev pub IsTree : ℕ → Tree → Type 0
   IsTree n t = TreeHolds (P n) t
 
-  abbrev Rs : ℕ → List LibRecord → Type 0
+  abbrev Rs : ℕ → List CompiledLibrary → Type 0
   Rs n rs = RecordsHold (P n) rs
 
   pub stage-less : (m n : ℕ) (g : PlainStage) → m ≤ n → G n g → G m g
@@ -80,18 +80,18 @@ module _ (own : LibName) (K : ℕ → Mark → Type 0) (J : ℕ → FrameNo → 
   pub next-holds : (m : ℕ) (g : PlainStage) → G m g → G m (record g { names = name_after g.names })
   next-holds m g h = stages.next-holds own K I running m g h
 
-  pub value-holds : (place : Span) (rs : List LibRecord) (l : Label) (e : Option PlainCore) (m : ℕ) (g : PlainStage) → G m g → Rs g.names.number rs → ExpressionHolds (P g.names.number) e → GaveStage IsValue m (keyword_value place rs l e g)
+  pub value-holds : (place : Span) (rs : List CompiledLibrary) (l : Label) (e : Option PlainCore) (m : ℕ) (g : PlainStage) → G m g → Rs g.names.number rs → ExpressionHolds (P g.names.number) e → GaveStage IsValue m (keyword_value place rs l e g)
   value-holds place rs l e m g h k j = stages.value-holds own K I running place rs l e m g h k j
 
-  pub asks-holds : (place : Span) (rs : List LibRecord) (l : Label) (e : Option PlainCore) (m : ℕ) (g : PlainStage) → G m g → Rs g.names.number rs → ExpressionHolds (P g.names.number) e → GaveStage Told m (is_variable_transformer place rs l e g)
+  pub asks-holds : (place : Span) (rs : List CompiledLibrary) (l : Label) (e : Option PlainCore) (m : ℕ) (g : PlainStage) → G m g → Rs g.names.number rs → ExpressionHolds (P g.names.number) e → GaveStage Told m (is_variable_transformer place rs l e g)
   asks-holds place rs l e m g h k j = stages.asks-holds own K I running place rs l e m g h k j
 
   pub begin-holds : (l : Label) (place : Span) (m : ℕ) (g : PlainStage) → G m g → GaveStage Done m (begin_keyword l place g)
   begin-holds l place m g h = stages.begin-holds own K I running l place m g h
 
-  pub finish-holds : (place : Span) (rs : List LibRecord) (l : Label) (c : PlainCore) (m : ℕ) (g : PlainStage) → G m g → Rs g.names.number rs → CoreHolds (P g.names.number) c → GaveStage Done m (finish_keyword place rs l c g)
+  pub finish-holds : (place : Span) (rs : List CompiledLibrary) (l : Label) (c : PlainCore) (m : ℕ) (g : PlainStage) → G m g → Rs g.names.number rs → CoreHolds (P g.names.number) c → GaveStage Done m (evaluate_transformer place rs l c g)
   finish-holds place rs l c m g h k j = stages.finish-holds own K I running place rs l c m g h k j
 
-  pub used-holds : (place : Span) (rs : List LibRecord) (t : Tree) (l : Label) (e : Option PlainCore) (f : Option FrameNo) (m : ℕ) (g : PlainStage) → G m g → Rs g.names.number rs → ExpressionHolds (P g.names.number) e → IsTree g.names.number t → OptionHolds (J g.names.number) f
+  pub used-holds : (place : Span) (rs : List CompiledLibrary) (t : Tree) (l : Label) (e : Option PlainCore) (f : Option FrameNo) (m : ℕ) (g : PlainStage) → G m g → Rs g.names.number rs → ExpressionHolds (P g.names.number) e → IsTree g.names.number t → OptionHolds (J g.names.number) f
       → GaveStage IsTree m (used place rs t l e f g)
   used-holds place rs t l e f m g h k j i q = stages.used-holds own K J I Inner in-use place rs t l e f m g h k j i q

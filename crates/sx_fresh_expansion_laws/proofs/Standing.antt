@@ -22,7 +22,7 @@ use Rattle.sx_core.specs.declared.binding.Binding.{Binding}
 use Rattle.sx_core.specs.declared.binding.Binding.TheVariants as binding
 use Rattle.sx_core.specs.declared.binding.VarInfo.{VarInfo}
 use Rattle.sx_core.specs.declared.core_form.CoreForm.{CoreForm}
-use Rattle.sx_core.specs.declared.record.LibRecord.{LibRecord}
+use Rattle.sx_core.specs.declared.record.CompiledLibrary.{CompiledLibrary}
 use Rattle.sx_core.specs.declared.link.Link.{Link}
 use Rattle.sx_core.specs.declared.link.LinkKind.TheVariants as kinds
 use Rattle.sx_pattern.specs.Compile as patterns
@@ -44,7 +44,7 @@ use Rattle.sx_standing.specs.InScope.{leaving, within, restoring, apart}
 use Rattle.sx_standing.specs.Patterns.{pattern_of, check_literals, put_pattern_variable, bind_pattern_variable, bind_next, bind_pattern, has_variables, first_outside, outside_fault, template_in, template_of}
 use Rattle.sx_standing.specs.RecordUses.{at_state, defines_type, count_record_type, record_tree, record_marked, use_record}
 use Rattle.sx_standing.specs.State.{State, Does, stage_of, staged, on_stage, fresh, note}
-use Rattle.sx_standing.specs.Uses.{macro_expression, use_keyword, asks_variable, put_keyword, bind_keyword_as, bind_keyword, bind_keywords, finish_keyword}
+use Rattle.sx_standing.specs.Uses.{macro_expression, use_keyword, asks_variable, put_keyword, bind_keyword_as, bind_keyword, bind_keywords, evaluate_transformer}
 use Rattle.sx_standing.specs.declared.binders.BoundSpec.{BoundSpec}
 use Rattle.sx_standing.proofs.Noted.{noted-keeps}
 use Rattle.sx_template.specs.Compile as templates
@@ -57,7 +57,7 @@ use Rattle.sx_fresh_laws.proofs.Trees.{OkHolds}
 use Rattle.sx_fresh_laws.proofs.Variables.{looked_up}
 use Rattle.sx_fresh_laws.proofs.Wider.{tree_wider, core_wider}
 use Rattle.sx_fresh_expansion_laws.specs.Living.{Lives, RowsHold}
-use Rattle.sx_fresh_expansion_laws.specs.States.{ExpressionHolds, BindingHolds, BindingsHold, RecordsHold, StateHolds}
+use Rattle.sx_fresh_expansion_laws.specs.States.{ExpressionHolds, BindingHolds, BindingsHold, RecordsHold, FreshStateHolds}
 use Rattle.sx_fresh_expansion_laws.proofs.Changing.{In, rise, bound-holds, there-in, enter-holds, leave-holds, frame-up, row-marks}
 use Rattle.sx_fresh_expansion_laws.proofs.Runs.{records-wider, expression-wider}
 use Rattle.sx_fresh_expansion_laws.proofs.Patterns.{VariableHolds, GaveBy, CompiledFrom, compiled-holds}
@@ -78,11 +78,11 @@ bindings-wider P Q k bs h = each_mapped (λ (b : Label × Binding). BindingHolds
 
 module _ (own : LibName) (K : ℕ → Mark → Type 0) (J : ℕ → FrameNo → Type 0) (P : ℕ → LeafContext → Type 0) (lives : Lives own K J P) (first : ℕ) where
   abbrev pub F : State → Type 0
-  F s = StateHolds own K P first s
+  F s = FreshStateHolds own K P first s
 
   -- a later state, from a state on
   abbrev pub From : State → State → Type 0
-  From s t = StateHolds own K P s.names.number t
+  From s t = FreshStateHolds own K P s.names.number t
 
   abbrev pub T : ℕ → Tree → Type 0
   T n t = TreeHolds (P n) t
@@ -308,14 +308,14 @@ module _ (own : LibName) (K : ℕ → Mark → Type 0) (J : ℕ → FrameNo → 
   pub bind-keywords-holds : (frame : FrameNo) (place : Span) (level : ℕ) (bs : List BindingSpec) (s : State) → F s → Each (SpecAt s.names.number) bs → Gave (λ n xs. Each (BoundHolds n) xs) s (bind_keywords frame place level bs s)
   bind-keywords-holds frame place level bs s h k = gave-each SpecAt BoundHolds spec-up bound-up (bind_keyword frame place level) (λ b t i j. bind-keyword-holds frame place level b t i j) [] bs s h tt k
 
-  module _ (rs : List LibRecord) (records : RecordsHold (P first) rs) where
+  module _ (rs : List CompiledLibrary) (records : RecordsHold (P first) rs) where
     records-at : (s : State) → F s → RecordsHold (P s.names.number) rs
     records-at s h = records-wider (P first) (P s.names.number) (up first s.names.number h.stage.up) rs records
 
-    pub finish-keyword-holds : (place : Span) (l : Label) (c : PlainCore) (s : State) → F s → C s.names.number c → Gave Taken s (finish_keyword rs place l c s)
-    unfolding finish_keyword
+    pub finish-keyword-holds : (place : Span) (l : Label) (c : PlainCore) (s : State) → F s → C s.names.number c → Gave Taken s (evaluate_transformer rs place l c s)
+    unfolding evaluate_transformer
     finish-keyword-holds place l c s h k =
-        gave-staged Taken s (stage.finish_keyword place rs l c (stage_of s)) h (finish-holds own K J P lives place rs l c s.names.number (stage_of s) (stage-self own K J P lives first (stage_of s) h.stage) (records-at s h) k)
+        gave-staged Taken s (stage.evaluate_transformer place rs l c (stage_of s)) h (finish-holds own K J P lives place rs l c s.names.number (stage_of s) (stage-self own K J P lives first (stage_of s) h.stage) (records-at s h) k)
 
     -- Uses.
 

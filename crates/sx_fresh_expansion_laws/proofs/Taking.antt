@@ -12,7 +12,7 @@ use Rattle.sx_tree.specs.Context.{LeafContext}
 use Rattle.sx_tree.specs.Tree.{Tree}
 use Rattle.sx_core.specs.Core.{PlainCore}
 use Rattle.sx_core.specs.declared.core_form.CoreForm.{CoreForm}
-use Rattle.sx_core.specs.declared.record.LibRecord.{LibRecord}
+use Rattle.sx_core.specs.declared.record.CompiledLibrary.{CompiledLibrary}
 use Rattle.sx_hygiene_laws.specs.Marked.{Among, Untouched}
 use Rattle.sx_stage.specs.Stage.{PlainStage, fresh_mark, name_after}
 use Rattle.sx_stage.specs.Transformers.{keyword_value}
@@ -23,7 +23,7 @@ use Rattle.sx_value.specs.declared.value.Value.{Value}
 use Rattle.sx_fresh_laws.specs.Leaves.{TreeHolds}
 use Rattle.sx_fresh_laws.proofs.Wider.{tree_wider}
 use Rattle.sx_fresh_expansion_laws.specs.Known.{IsKnown, IsKnownFrame, HasKnown}
-use Rattle.sx_fresh_expansion_laws.specs.States.{ExpressionHolds, RecordsHold, StageHolds, StateHolds}
+use Rattle.sx_fresh_expansion_laws.specs.States.{ExpressionHolds, RecordsHold, StageHolds, FreshStateHolds}
 use Rattle.sx_fresh_expansion_laws.specs.Uses.{IsNewOn, IsNewIn, UsesTakeNewMarks}
 use Rattle.sx_fresh_expansion_laws.proofs.Changing.{rise}
 use Rattle.sx_fresh_expansion_laws.proofs.Knowing.{lives-known, new-tree, new-on, new-in-state}
@@ -40,7 +40,7 @@ module _ (libs : List LibName) (own : LibName) where
   P n c = HasKnown libs own n c
 
   module _ (core : Among libs library.Core) (new : Among libs own → ⊥) where
-    keyword-new : (place : Span) (records : List LibRecord) (t : Tree) (l : Label) (e : Option PlainCore) (frame : Option FrameNo) (g h : PlainStage) (v : Value)
+    keyword-new : (place : Span) (records : List CompiledLibrary) (t : Tree) (l : Label) (e : Option PlainCore) (frame : Option FrameNo) (g h : PlainStage) (v : Value)
         → StageHolds own K P g.names.number g → RecordsHold (P g.names.number) records → ExpressionHolds (P g.names.number) e → TreeHolds (P g.names.number) t → keyword_value place records l e g ≡ Ok (v, h)
         → (used place records t l e frame g ≡ transform_marked place v t frame (record { 0 = h.names }) (record h { names = name_after h.names })) × (IsNewOn (record { 0 = h.names }) h × Untouched (record { 0 = h.names }) t)
     unfolding used
@@ -50,7 +50,7 @@ module _ (libs : List LibName) (own : LibName) where
           (new-on libs own new g.names.number h given.0, new-tree libs own new h.names given.0.library t (tree_wider (P g.names.number) (P h.names.number) (rise own K J P (lives-known libs own core) g.names.number h.names.number given.0.up) t tr)),
         )
 
-  record-new : (new : Among libs own → ⊥) (place : Span) (t : Tree) (f : CoreForm) (frame : Option FrameNo) (s : State) → StateHolds own K P s.names.number s → TreeHolds (P s.names.number) t
+  record-new : (new : Among libs own → ⊥) (place : Span) (t : Tree) (f : CoreForm) (frame : Option FrameNo) (s : State) → FreshStateHolds own K P s.names.number s → TreeHolds (P s.names.number) t
       → (use_record place t f frame s ≡ record_marked place t f frame (record { 0 = s.names }) (record s { names = name_after s.names })) × (IsNewIn (record { 0 = s.names }) s × Untouched (record { 0 = s.names }) t)
   unfolding use_record fresh
   record-new new place t f frame s holds tr = (refl, (new-in-state libs own new s.names.number s holds, new-tree libs own new s.names holds.stage.library t tr))

@@ -6,7 +6,7 @@ use Rattle.sx_base.specs.declared.name.FrameNo.{FrameNo}
 use Rattle.sx_base.specs.declared.name.Label.{Label}
 use Rattle.sx_base.specs.declared.name.Mark.{Mark}
 use Rattle.sx_tree.specs.Context.{LeafContext}
-use Rattle.sx_core.specs.declared.record.LibRecord.{LibRecord}
+use Rattle.sx_core.specs.declared.record.CompiledLibrary.{CompiledLibrary}
 use Rattle.sx_eval.specs.Codes.{Codes}
 use Rattle.sx_hygiene_laws.specs.History.{Event, change_of, IsOnce, after}
 use Rattle.sx_hygiene_laws.specs.Marked.{Among}
@@ -16,11 +16,11 @@ use Rattle.sx_expand.specs.Expression.{inside}
 use Rattle.sx_expand.specs.Inside.{Inside}
 use Rattle.sx_fresh_laws.specs.Leaves.{CodesHold}
 use Rattle.sx_fresh_expansion_laws.specs.History.{IsBeginning}
-use Rattle.sx_fresh_expansion_laws.specs.Keeping.{Keeps, around}
+use Rattle.sx_fresh_expansion_laws.specs.Keeping.{KeepsFresh, around}
 use Rattle.sx_fresh_expansion_laws.specs.Known.{IsKnown, IsKnownFrame, libraries_of, IsNewAmong}
 use Rattle.sx_fresh_expansion_laws.specs.Living.{IsChangeOf}
 use Rattle.sx_fresh_expansion_laws.specs.RecordMarks.{HasOnly, RecordHasOnly, RecordsKeep}
-use Rattle.sx_fresh_expansion_laws.specs.States.{RecordsHold, StateHolds}
+use Rattle.sx_fresh_expansion_laws.specs.States.{RecordsHold, FreshStateHolds}
 
 -- a use of such a mark, or a stamp of such a frame
 abbrev pub IsEventOf : (Mark → Type 0) → (FrameNo → Type 0) → Event → Type 0
@@ -43,11 +43,11 @@ HasKnownEvents libs own n c = HasEvents (IsKnown libs own n) (IsKnownFrame libs 
 -- leaves have one, all that it comes to from these, and those that it puts into its record.
 pub record EventsStay : Type 0 where
   pub around_keeps : (libs : List LibName) (own : LibName) (go : Inside) → Among libs library.Core → IsNewAmong libs own
-      → Keeps own (IsKnown libs own) (IsKnownFrame libs own) (HasKnownEvents libs own) go → Keeps own (IsKnown libs own) (IsKnownFrame libs own) (HasKnownEvents libs own) (around go)
-  pub inside_keeps : (libs : List LibName) (own : LibName) (records : List LibRecord) (room : ℕ) → Among libs library.Core → IsNewAmong libs own
-      → Keeps own (IsKnown libs own) (IsKnownFrame libs own) (HasKnownEvents libs own) (inside records room)
-  pub starts : (own : LibName) (records : List LibRecord) (imports : List (List ℕ × Label)) (codes : Codes) → IsNewAmong (libraries_of records) own
+      → KeepsFresh own (IsKnown libs own) (IsKnownFrame libs own) (HasKnownEvents libs own) go → KeepsFresh own (IsKnown libs own) (IsKnownFrame libs own) (HasKnownEvents libs own) (around go)
+  pub inside_keeps : (libs : List LibName) (own : LibName) (records : List CompiledLibrary) (room : ℕ) → Among libs library.Core → IsNewAmong libs own
+      → KeepsFresh own (IsKnown libs own) (IsKnownFrame libs own) (HasKnownEvents libs own) (inside records room)
+  pub starts : (own : LibName) (records : List CompiledLibrary) (imports : List (List ℕ × Label)) (codes : Codes) → IsNewAmong (libraries_of records) own
       → Each (RecordHasOnly HasEvents (libraries_of records)) records → CodesHold (HasOnly HasEvents (libraries_of records)) codes
-      → StateHolds own (IsKnown (libraries_of records) own) (HasKnownEvents (libraries_of records) own) (started own records imports codes).names.number (started own records imports codes)
+      → FreshStateHolds own (IsKnown (libraries_of records) own) (HasKnownEvents (libraries_of records) own) (started own records imports codes).names.number (started own records imports codes)
       × RecordsHold (HasKnownEvents (libraries_of records) own (started own records imports codes).names.number) records
   pub records : RecordsKeep HasEvents

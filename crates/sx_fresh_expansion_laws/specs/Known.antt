@@ -7,7 +7,7 @@ use Rattle.sx_base.specs.declared.name.FrameNo.{FrameNo}
 use Rattle.sx_base.specs.declared.name.Mark.{Mark}
 use Rattle.sx_tree.specs.Context.{LeafContext}
 use Rattle.sx_tree.specs.declared.stamp.Stamp.{Stamp}
-use Rattle.sx_core.specs.declared.record.LibRecord.{LibRecord}
+use Rattle.sx_core.specs.declared.record.CompiledLibrary.{CompiledLibrary}
 use Rattle.sx_hygiene_laws.specs.Marked.{Among}
 use Rattle.sx_value.specs.Cells.{Each}
 
@@ -30,8 +30,8 @@ abbrev pub HasKnown : List LibName → LibName → ℕ → LeafContext → Type 
 HasKnown libs own n c = HasMarks (IsKnown libs own n) (IsKnownFrame libs own n) c
 
 -- the implementation, and the libraries of records
-abbrev pub libraries_of : List LibRecord → List LibName
-libraries_of rs = library.Core ∷ map (λ (r : LibRecord). r.name) rs
+abbrev pub libraries_of : List CompiledLibrary → List LibName
+libraries_of rs = library.Core ∷ map (λ (r : CompiledLibrary). r.name) rs
 
 -- a library with a new name
 abbrev pub IsNewAmong : List LibName → LibName → Type 0

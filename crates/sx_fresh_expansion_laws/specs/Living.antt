@@ -12,7 +12,7 @@ use Rattle.sx_quasi.specs.QuasiSyntax.{core_mark}
 use Rattle.sx_value.specs.Cells.{Each}
 use Rattle.sx_fresh_laws.specs.Leaves.{OptionHolds}
 use Rattle.sx_fresh_laws.specs.Below.{mark_named}
-use Rattle.sx_fresh_laws.specs.Names.{Rises, temporary_context}
+use Rattle.sx_fresh_laws.specs.Names.{FreshRises, temporary_context}
 pub use Rattle.sx_invariant_laws.specs.Stages.{RowsHold}
 
 -- a change with such a mark and such a frame
@@ -29,7 +29,7 @@ InUse own J P m n c = (k : ℕ) → n ≤ k → m < k → P k c × ((f : Option 
 -- K says which marks may be met before the name of this number is taken, J so of frames, and P of what is on leaves: what could be met before, the
 -- marks and frames of names that were taken, leaves as they are read, those of the implementation, and what these become by stamps and by uses.
 pub record Lives (own : LibName) (K : ℕ → Mark → Type 0) (J : ℕ → FrameNo → Type 0) (P : ℕ → LeafContext → Type 0) : Type 0 where
-  pub rises : Rises own 0 P
+  pub rises : FreshRises own 0 P
   pub known : (m n : ℕ) (x : Mark) → m ≤ n → K m x → K n x
   pub taken : (m n : ℕ) → m < n → K n (mark_named own m)
   pub frames : (m n : ℕ) (f : FrameNo) → m ≤ n → J m f → J n f

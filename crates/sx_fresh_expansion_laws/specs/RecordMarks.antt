@@ -8,7 +8,7 @@ use Rattle.sx_base.specs.declared.span.Span.{Span}
 use Rattle.sx_tree.specs.Context.{LeafContext, blank}
 use Rattle.sx_tree.specs.Tree.{Tree}
 use Rattle.sx_tree.specs.declared.frame_row.FrameRow.{FrameRow}
-use Rattle.sx_core.specs.declared.record.LibRecord.{LibRecord}
+use Rattle.sx_core.specs.declared.record.CompiledLibrary.{CompiledLibrary}
 use Rattle.sx_eval.specs.Codes.{Codes}
 use Rattle.sx_hygiene_laws.specs.Marked.{Among}
 use Rattle.sx_value.specs.Cells.{Each}
@@ -17,7 +17,7 @@ use Rattle.sx_expand.specs.Expanding.{ready, library_record}
 use Rattle.sx_fresh_laws.specs.Leaves.{TreeHolds, CodesHold, LinesHold}
 use Rattle.sx_fresh_expansion_laws.specs.History.{HasHistory}
 use Rattle.sx_fresh_expansion_laws.specs.Known.{IsKnown, IsKnownFrame, HasMarks, libraries_of, IsNewAmong}
-use Rattle.sx_fresh_expansion_laws.specs.States.{BindingsHold, RecordsHold, StateHolds}
+use Rattle.sx_fresh_expansion_laws.specs.States.{BindingsHold, RecordsHold, FreshStateHolds}
 
 -- a mark of one of these libraries
 abbrev pub IsOfOne : List LibName → Mark → Type 0
@@ -31,7 +31,7 @@ abbrev pub HasOnly : ((Mark → Type 0) → (FrameNo → Type 0) → LeafContext
 HasOnly Q libs c = Q (IsOfOne libs) (IsFrameOfOne libs) c
 
 -- so it is in a record of the constants of its lines and of its keywords; and of the marks of its rows
-pub record RecordHasOnly (Q : (Mark → Type 0) → (FrameNo → Type 0) → LeafContext → Type 0) (libs : List LibName) (r : LibRecord) : Type 0 where
+pub record RecordHasOnly (Q : (Mark → Type 0) → (FrameNo → Type 0) → LeafContext → Type 0) (libs : List LibName) (r : CompiledLibrary) : Type 0 where
   pub run : LinesHold (HasOnly Q libs) r.run
   pub bindings : BindingsHold (HasOnly Q libs) r.bindings
   pub frames : Each (λ (f : FrameRow). Each (IsOfOne libs) f.marks) r.frames
@@ -41,8 +41,8 @@ abbrev pub KnownBy : ((Mark → Type 0) → (FrameNo → Type 0) → LeafContext
 KnownBy Q libs own n c = Q (IsKnown libs own n) (IsKnownFrame libs own n) c
 
 abbrev pub StartsKnownBy : ((Mark → Type 0) → (FrameNo → Type 0) → LeafContext → Type 0) → Type 0
-StartsKnownBy Q = (own : LibName) (records : List LibRecord) (imports : List (List ℕ × Label)) (codes : Codes) → Each (RecordHasOnly Q (libraries_of records)) records → CodesHold (HasOnly Q (libraries_of records)) codes
-    → StateHolds own (IsKnown (libraries_of records) own) (KnownBy Q (libraries_of records) own) (started own records imports codes).names.number (started own records imports codes)
+StartsKnownBy Q = (own : LibName) (records : List CompiledLibrary) (imports : List (List ℕ × Label)) (codes : Codes) → Each (RecordHasOnly Q (libraries_of records)) records → CodesHold (HasOnly Q (libraries_of records)) codes
+    → FreshStateHolds own (IsKnown (libraries_of records) own) (KnownBy Q (libraries_of records) own) (started own records imports codes).names.number (started own records imports codes)
     × RecordsHold (KnownBy Q (libraries_of records) own (started own records imports codes).names.number) records
 
 -- Behind records with no other marks and frames than those of their libraries and of the implementation, and codes of texts without others,
@@ -56,7 +56,7 @@ abbrev pub WasRead : Tree → Type 0
 WasRead t = TreeHolds (λ c. c ≡ blank) t
 
 abbrev pub RecordsKeep : ((Mark → Type 0) → (FrameNo → Type 0) → LeafContext → Type 0) → Type 0
-RecordsKeep Q = (own : LibName) (path : List ℕ) (records : List LibRecord) (imports : List (List ℕ × Label)) (version : List ℕ) (place : Span) (exports : List (List ℕ × Tree)) (forms : List Tree) (codes : Codes) (r : LibRecord)
+RecordsKeep Q = (own : LibName) (path : List ℕ) (records : List CompiledLibrary) (imports : List (List ℕ × Label)) (version : List ℕ) (place : Span) (exports : List (List ℕ × Tree)) (forms : List Tree) (codes : Codes) (r : CompiledLibrary)
     → IsNewAmong (libraries_of records) own → Each (RecordHasOnly Q (libraries_of records)) records → CodesHold (HasOnly Q (libraries_of records)) codes → Each WasRead forms
     → library_record (ready own path records imports codes) records version place exports forms ≡ Ok r → RecordHasOnly Q (own ∷ libraries_of records) r
 

@@ -7,7 +7,7 @@ use Rattle.sx_tree.specs.Context.{LeafContext}
 use Rattle.sx_core.specs.Core.{PlainCore}
 use Rattle.sx_core.specs.declared.binding.Binding.{Binding}
 use Rattle.sx_core.specs.declared.binding.Binding.TheVariants as binding
-use Rattle.sx_core.specs.declared.record.LibRecord.{LibRecord}
+use Rattle.sx_core.specs.declared.record.CompiledLibrary.{CompiledLibrary}
 use Rattle.sx_stage.specs.Stage.{PlainStage}
 use Rattle.sx_stage.specs.declared.keyword.Keyword.{Keyword}
 use Rattle.sx_standing.specs.State.{State, stage_of}
@@ -37,7 +37,7 @@ module _ (P : LeafContext → Type 0) where
   BindingsHold bs = Each (λ (b : Label × Binding). BindingHolds b.1) bs
 
   -- the lines of libraries, which are evaluated on demand
-  abbrev pub RecordsHold : List LibRecord → Type 0
+  abbrev pub RecordsHold : List CompiledLibrary → Type 0
   RecordsHold = stages.RecordsHold (leaves P)
 
 -- All that is kept on a stage, from when this was the next name.
@@ -45,6 +45,6 @@ abbrev pub StageHolds : (own : LibName) (K : ℕ → Mark → Type 0) (P : ℕ �
 StageHolds own K P m = stages.StageHolds own K (λ n. leaves (P n)) m
 
 -- And all that is kept in an expansion.
-pub record StateHolds (own : LibName) (K : ℕ → Mark → Type 0) (P : ℕ → LeafContext → Type 0) (m : ℕ) (s : State) : Type 0 where
+pub record FreshStateHolds (own : LibName) (K : ℕ → Mark → Type 0) (P : ℕ → LeafContext → Type 0) (m : ℕ) (s : State) : Type 0 where
   pub stage : StageHolds own K P m (stage_of s)
   pub bindings : BindingsHold (P s.names.number) s.bindings

@@ -9,7 +9,7 @@ use Rattle.sx_base.specs.declared.span.Span.{Span}
 use Rattle.sx_tree.specs.Tree.{Tree}
 use Rattle.sx_core.specs.Core.{PlainCore}
 use Rattle.sx_core.specs.declared.core_form.CoreForm.{CoreForm}
-use Rattle.sx_core.specs.declared.record.LibRecord.{LibRecord}
+use Rattle.sx_core.specs.declared.record.CompiledLibrary.{CompiledLibrary}
 use Rattle.sx_hygiene_laws.specs.Binder.{IsNew}
 use Rattle.sx_hygiene_laws.specs.Marked.{Among, Lacks, Untouched}
 use Rattle.sx_stage.specs.Stage.{PlainStage, name_after}
@@ -20,7 +20,7 @@ use Rattle.sx_standing.specs.State.{State, stage_of}
 use Rattle.sx_value.specs.declared.value.Value.{Value}
 use Rattle.sx_fresh_laws.specs.Leaves.{TreeHolds, CellsHold, CodesHold, GlobalsHold}
 use Rattle.sx_fresh_expansion_laws.specs.Known.{IsKnown, HasKnown}
-use Rattle.sx_fresh_expansion_laws.specs.States.{ExpressionHolds, KeywordsHold, BindingsHold, RecordsHold, StageHolds, StateHolds}
+use Rattle.sx_fresh_expansion_laws.specs.States.{ExpressionHolds, KeywordsHold, BindingsHold, RecordsHold, StageHolds, FreshStateHolds}
 
 -- no row and no leaf of what is kept on a stage has to do with a mark
 pub record IsNewOn (m : Mark) (g : PlainStage) : Type 0 where
@@ -39,11 +39,11 @@ pub record IsNewIn (m : Mark) (s : State) : Type 0 where
 pub record UsesTakeNewMarks : Type 0 where
   -- A use of a keyword transforms the form under the mark of the name that is next when the transformer is there. This mark is new then, on
   -- the stage and in the form.
-  pub keywords : (libs : List LibName) (own : LibName) (place : Span) (records : List LibRecord) (t : Tree) (l : Label) (e : Option PlainCore) (frame : Option FrameNo) (g h : PlainStage) (v : Value) → Among libs library.Core → (Among libs own → ⊥)
+  pub keywords : (libs : List LibName) (own : LibName) (place : Span) (records : List CompiledLibrary) (t : Tree) (l : Label) (e : Option PlainCore) (frame : Option FrameNo) (g h : PlainStage) (v : Value) → Among libs library.Core → (Among libs own → ⊥)
       → StageHolds own (IsKnown libs own) (HasKnown libs own) g.names.number g → RecordsHold (HasKnown libs own g.names.number) records → ExpressionHolds (HasKnown libs own g.names.number) e → TreeHolds (HasKnown libs own g.names.number) t
       → keyword_value place records l e g ≡ Ok (v, h)
       → (used place records t l e frame g ≡ transform_marked place v t frame (record { 0 = h.names }) (record h { names = name_after h.names })) × (IsNewOn (record { 0 = h.names }) h × Untouched (record { 0 = h.names }) t)
   -- A use of a record form is read under the mark of the next name, which is new in the state and in the form.
   pub records : (libs : List LibName) (own : LibName) (place : Span) (t : Tree) (f : CoreForm) (frame : Option FrameNo) (s : State) → (Among libs own → ⊥)
-      → StateHolds own (IsKnown libs own) (HasKnown libs own) s.names.number s → TreeHolds (HasKnown libs own s.names.number) t
+      → FreshStateHolds own (IsKnown libs own) (HasKnown libs own) s.names.number s → TreeHolds (HasKnown libs own s.names.number) t
       → (use_record place t f frame s ≡ record_marked place t f frame (record { 0 = s.names }) (record s { names = name_after s.names })) × (IsNewIn (record { 0 = s.names }) s × Untouched (record { 0 = s.names }) t)

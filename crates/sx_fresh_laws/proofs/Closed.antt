@@ -13,7 +13,7 @@ use Rattle.sx_invariant_laws.specs.Invariant.{DatumHolds}
 use Rattle.sx_invariant_laws.proofs.Eachs.{each_all}
 use Rattle.sx_invariant_laws.proofs.Trees.{any_datum}
 use Rattle.sx_fresh_laws.specs.Leaves.{TreeHolds, leaves}
-use Rattle.sx_fresh_laws.specs.Names.{Rises}
+use Rattle.sx_fresh_laws.specs.Names.{FreshRises}
 use Rattle.sx_fresh_laws.proofs.Trees.{OkHolds, rest_holds, list_of_holds, vector_of_holds, within_holds}
 use Rattle.sx_fresh_laws.proofs.Wider.{leaves_wider}
 
@@ -52,7 +52,7 @@ module _ (P : LeafContext → Type 0) where
     constants = λ d h. any d;
   }
 
-pub leaves-rise : (own : LibName) (first : ℕ) (P : ℕ → LeafContext → Type 0) → Rises own first P → invariant.Rises own first (λ n. leaves (P n))
+pub leaves-rise : (own : LibName) (first : ℕ) (P : ℕ → LeafContext → Type 0) → FreshRises own first P → invariant.Rises own first (λ n. leaves (P n))
 leaves-rise own first P rises = record {
   closed = λ n. leaves-closed (P n);
   later = λ m n le. leaves_wider (P m) (P n) (λ c h. rises.later m n c le h);

@@ -21,11 +21,11 @@ use Rattle.sx_hygiene_laws.specs.Marked.{has_mark, StampedWithout, Lacks, Each, 
 use Rattle.sx_eval.specs.Lines.{lines_from}
 use Rattle.sx_eval.specs.Meaning.{eval_of, applied}
 use Rattle.sx_eval.specs.Setting.{PlainSetting}
-use Rattle.sx_eval.specs.State.{State}
+use Rattle.sx_eval.specs.State.{WorldState}
 use Rattle.sx_fresh_laws.specs.Below.{IsBefore, AreBefore, MarkedBefore, RowsBefore, mark_named, StartsBefore, MarksStayBefore, TheNextIsNew}
 use Rattle.sx_fresh_laws.specs.Coming.{WasThere, WasThereOrNew, HasNoOthers, LeavesWereThere}
 use Rattle.sx_fresh_laws.specs.Leaves.{TreeHolds, ValuesHold, CoreHolds, LinesHold}
-use Rattle.sx_fresh_laws.specs.Names.{Rises, SettingHolds, StateHolds, OutcomeHolds}
+use Rattle.sx_fresh_laws.specs.Names.{FreshRises, SettingHolds, StateHolds, OutcomeHolds}
 use Rattle.sx_fresh_laws.proofs.Meaning.{holds-eval, holds-call, holds-lines}
 use Rattle.sx_fresh_laws.proofs.Read.{was-read}
 use Rattle.sx_fresh_laws.proofs.Wider.{values_wider, cells_wider, core_wider, codes_wider, globals_wider, lines_wider}
@@ -33,14 +33,14 @@ use Rattle.sx_fresh_laws.proofs.Wider.{values_wider, cells_wider, core_wider, co
 -- What was there, and temporaries.
 
 module _ (there : LeafContext → Bool) (own : LibName) where
-  there-rises : (first : ℕ) → Rises own first (WasThereOrNew there own first)
+  there-rises : (first : ℕ) → FreshRises own first (WasThereOrNew there own first)
   there-rises first = record { later = later; temporary = λ m n low lt. inr (m, (low, (lt, refl))) }
     where
       later : (m n : ℕ) (c : LeafContext) → m ≤ n → WasThereOrNew there own first m c → WasThereOrNew there own first n c
       later m n c le (inl h) = inl h
       later m n c le (inr (k, (low, (lt, e)))) = inr (k, (low, (omega (arith, lt, le), e)))
 
-  module _ (w : PlainSetting) (s : State) (h : HasNoOthers there own w s) where
+  module _ (w : PlainSetting) (s : WorldState) (h : HasNoOthers there own w s) where
     abbrev N : LeafContext → Type 0
     N c = WasThereOrNew there own s.names.number s.names.number c
 
@@ -86,10 +86,10 @@ stamps-later own m n le (t ∷ ts) h = (before-later own m n le t.marks h.0, sta
 pub marked-later : (own : LibName) (m n : ℕ) (c : LeafContext) → m ≤ n → MarkedBefore own m c → MarkedBefore own n c
 marked-later own m n c le h = record { marks = before-later own m n le c.marks h.marks; stamps = stamps-later own m n le c.stamps h.stamps }
 
-pub marked-rises : (own : LibName) (first : ℕ) → Rises own first (MarkedBefore own)
+pub marked-rises : (own : LibName) (first : ℕ) → FreshRises own first (MarkedBefore own)
 marked-rises own first = record { later = marked-later own; temporary = λ m n low lt. record { marks = ((λ e. lt), tt); stamps = tt } }
 
-starts : (own : LibName) (w : PlainSetting) (s : State) → StartsBefore own w s → StateHolds own (MarkedBefore own) s.names.number s
+starts : (own : LibName) (w : PlainSetting) (s : WorldState) → StartsBefore own w s → StateHolds own (MarkedBefore own) s.names.number s
 starts own w s h = record { up = omega arith; library = h.library; cells = h.cells }
 
 pub stay-before : MarksStayBefore

@@ -9,22 +9,22 @@ use Rattle.sx_value.specs.declared.value.Value.{Value}
 use Rattle.sx_eval.specs.Lines.{lines_from}
 use Rattle.sx_eval.specs.Meaning.{eval_of, applied}
 use Rattle.sx_eval.specs.Setting.{PlainSetting}
-use Rattle.sx_eval.specs.State.{State}
+use Rattle.sx_eval.specs.State.{WorldState}
 use Rattle.sx_invariant_laws.specs.Invariant.{Invariant}
 use Rattle.sx_invariant_laws.proofs.Meaning as meaning
 use Rattle.sx_fresh_laws.specs.Leaves.{ValuesHold, CoreHolds, LinesHold, leaves}
-use Rattle.sx_fresh_laws.specs.Names.{Rises, SettingHolds, StateHolds, OutcomeHolds}
+use Rattle.sx_fresh_laws.specs.Names.{FreshRises, SettingHolds, StateHolds, OutcomeHolds}
 use Rattle.sx_fresh_laws.proofs.Closed.{leaves-rise}
 
-module _ (own : LibName) (m : ℕ) (P : ℕ → LeafContext → Type 0) (rises : Rises own m P) (w : PlainSetting) (setting : SettingHolds (P m) w) where
+module _ (own : LibName) (m : ℕ) (P : ℕ → LeafContext → Type 0) (rises : FreshRises own m P) (w : PlainSetting) (setting : SettingHolds (P m) w) where
   abbrev I : ℕ → Invariant
   I n = leaves (P n)
 
-  pub holds-eval : (c : PlainCore) (scope : Place) (s : State) (n : ℕ) → CoreHolds (P m) c → StateHolds own P m s → OutcomeHolds own P s.names.number (eval_of w c scope s n)
+  pub holds-eval : (c : PlainCore) (scope : Place) (s : WorldState) (n : ℕ) → CoreHolds (P m) c → StateHolds own P m s → OutcomeHolds own P s.names.number (eval_of w c scope s n)
   holds-eval c scope s n k h = meaning.holds-eval own m I (leaves-rise own m P rises) w setting c scope s n k h
 
-  pub holds-call : (vs : List Value) (s : State) (n : ℕ) → StateHolds own P m s → ValuesHold (P s.names.number) vs → OutcomeHolds own P s.names.number (applied w (eval_of w) vs s n)
+  pub holds-call : (vs : List Value) (s : WorldState) (n : ℕ) → StateHolds own P m s → ValuesHold (P s.names.number) vs → OutcomeHolds own P s.names.number (applied w (eval_of w) vs s n)
   holds-call vs s n h k = meaning.holds-call own m I (leaves-rise own m P rises) w setting vs s n h k
 
-  pub holds-lines : (ls : List Line) (scope : Place) (s : State) (n : ℕ) → LinesHold (P m) ls → StateHolds own P m s → OutcomeHolds own P s.names.number (lines_from (eval_of w) ls scope s n)
+  pub holds-lines : (ls : List Line) (scope : Place) (s : WorldState) (n : ℕ) → LinesHold (P m) ls → StateHolds own P m s → OutcomeHolds own P s.names.number (lines_from (eval_of w) ls scope s n)
   holds-lines ls scope s n k h = meaning.holds-lines own m I (leaves-rise own m P rises) w setting ls scope s n k h

@@ -17,7 +17,7 @@ use Rattle.sx_hygiene_laws.specs.Marked.{Each, Untouched}
 use Rattle.sx_eval.specs.Lines.{lines_from}
 use Rattle.sx_eval.specs.Meaning.{eval_of, applied}
 use Rattle.sx_eval.specs.Setting.{PlainSetting}
-use Rattle.sx_eval.specs.State.{State}
+use Rattle.sx_eval.specs.State.{WorldState}
 use Rattle.sx_fresh_laws.specs.Leaves.{TreeHolds, ValuesHold, CellsHold, CoreHolds, LinesHold}
 use Rattle.sx_fresh_laws.specs.Names.{SettingHolds, OutcomeHolds}
 
@@ -40,18 +40,18 @@ abbrev pub mark_named : LibName → ℕ → Mark
 mark_named own n = record { 0 = record { library = own; number = n } }
 
 -- the code, the cells and what is read have no marks but those that were taken
-pub record StartsBefore (own : LibName) (w : PlainSetting) (s : State) : Type 0 where
+pub record StartsBefore (own : LibName) (w : PlainSetting) (s : WorldState) : Type 0 where
   pub setting : SettingHolds (MarkedBefore own s.names.number) w
   pub cells : CellsHold (MarkedBefore own s.names.number) s.cells
   pub library : s.names.library ≡ own
 
 -- So there are none others in a value that an evaluation comes to and in the cells then, and no name that was taken is free again.
 pub record MarksStayBefore : Type 0 where
-  pub expressions : (own : LibName) (w : PlainSetting) (c : PlainCore) (scope : Place) (s : State) (n : ℕ) → StartsBefore own w s
+  pub expressions : (own : LibName) (w : PlainSetting) (c : PlainCore) (scope : Place) (s : WorldState) (n : ℕ) → StartsBefore own w s
       → CoreHolds (MarkedBefore own s.names.number) c → OutcomeHolds own (MarkedBefore own) s.names.number (eval_of w c scope s n)
-  pub calls : (own : LibName) (w : PlainSetting) (vs : List Value) (s : State) (n : ℕ) → StartsBefore own w s
+  pub calls : (own : LibName) (w : PlainSetting) (vs : List Value) (s : WorldState) (n : ℕ) → StartsBefore own w s
       → ValuesHold (MarkedBefore own s.names.number) vs → OutcomeHolds own (MarkedBefore own) s.names.number (applied w (eval_of w) vs s n)
-  pub libraries : (own : LibName) (w : PlainSetting) (ls : List Line) (scope : Place) (s : State) (n : ℕ) → StartsBefore own w s
+  pub libraries : (own : LibName) (w : PlainSetting) (ls : List Line) (scope : Place) (s : WorldState) (n : ℕ) → StartsBefore own w s
       → LinesHold (MarkedBefore own s.names.number) ls → OutcomeHolds own (MarkedBefore own) s.names.number (lines_from (eval_of w) ls scope s n)
 
 -- The mark of the next name is new: no tree whose marks were taken before has to do with it, and no row of frames has it.

@@ -12,7 +12,7 @@ use Rattle.sx_value.specs.declared.value.Value.{Value}
 use Rattle.sx_eval.specs.Lines.{lines_from}
 use Rattle.sx_eval.specs.Meaning.{eval_of, applied}
 use Rattle.sx_eval.specs.Setting.{PlainSetting}
-use Rattle.sx_eval.specs.State.{State}
+use Rattle.sx_eval.specs.State.{WorldState}
 use Rattle.sx_fresh_laws.specs.Leaves.{TreeHolds, ValueHolds, ValuesHold, CellsHold, CoreHolds, LinesHold}
 use Rattle.sx_fresh_laws.specs.Names.{temporary_context, SettingHolds, OutcomeHolds}
 
@@ -28,7 +28,7 @@ abbrev pub WasThereOrNew : (LeafContext → Bool) → LibName → ℕ → ℕ �
 WasThereOrNew there own first next c = WasThere there c ⊎ IsTemporary own first next c
 
 -- what is read, and the cells, have no leaves but those that were there
-pub record HasNoOthers (there : LeafContext → Bool) (own : LibName) (w : PlainSetting) (s : State) : Type 0 where
+pub record HasNoOthers (there : LeafContext → Bool) (own : LibName) (w : PlainSetting) (s : WorldState) : Type 0 where
   pub setting : SettingHolds (WasThere there) w
   pub cells : CellsHold (WasThere there) s.cells
   pub library : s.names.library ≡ own
@@ -36,11 +36,11 @@ pub record HasNoOthers (there : LeafContext → Bool) (own : LibName) (w : Plain
 -- Each leaf of a value that an evaluation comes to, and each leaf in the cells then, was in the code, the arguments, the cells or the
 -- variables of libraries, or it is a temporary of a name that the evaluation took.
 pub record LeavesWereThere : Type 0 where
-  pub expressions : (there : LeafContext → Bool) (own : LibName) (w : PlainSetting) (c : PlainCore) (scope : Place) (s : State) (n : ℕ) → HasNoOthers there own w s
+  pub expressions : (there : LeafContext → Bool) (own : LibName) (w : PlainSetting) (c : PlainCore) (scope : Place) (s : WorldState) (n : ℕ) → HasNoOthers there own w s
       → CoreHolds (WasThere there) c → OutcomeHolds own (WasThereOrNew there own s.names.number) s.names.number (eval_of w c scope s n)
-  pub calls : (there : LeafContext → Bool) (own : LibName) (w : PlainSetting) (vs : List Value) (s : State) (n : ℕ) → HasNoOthers there own w s
+  pub calls : (there : LeafContext → Bool) (own : LibName) (w : PlainSetting) (vs : List Value) (s : WorldState) (n : ℕ) → HasNoOthers there own w s
       → ValuesHold (WasThere there) vs → OutcomeHolds own (WasThereOrNew there own s.names.number) s.names.number (applied w (eval_of w) vs s n)
-  pub libraries : (there : LeafContext → Bool) (own : LibName) (w : PlainSetting) (ls : List Line) (scope : Place) (s : State) (n : ℕ) → HasNoOthers there own w s
+  pub libraries : (there : LeafContext → Bool) (own : LibName) (w : PlainSetting) (ls : List Line) (scope : Place) (s : WorldState) (n : ℕ) → HasNoOthers there own w s
       → LinesHold (WasThere there) ls → OutcomeHolds own (WasThereOrNew there own s.names.number) s.names.number (lines_from (eval_of w) ls scope s n)
   -- and each leaf of a tree that is read of a value was in it or in the cells
   pub trees : (there : LeafContext → Bool) (cells : List Cell) (v : Value) (fuel left : ℕ) (t : Tree) → CellsHold (WasThere there) cells → ValueHolds (WasThere there) v

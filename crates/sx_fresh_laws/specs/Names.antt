@@ -3,7 +3,7 @@ use Rattle.std.specs.Prelude.{◌≤◌, ◌<◌, ℕ, [], ◌∷◌}
 use Rattle.sx_base.specs.declared.library.LibName.{LibName}
 use Rattle.sx_tree.specs.Context.{LeafContext}
 use Rattle.sx_eval.specs.Setting.{PlainSetting}
-use Rattle.sx_eval.specs.State.{State, Outcome}
+use Rattle.sx_eval.specs.State.{WorldState, Outcome}
 use Rattle.sx_invariant_laws.specs.Outcome as outcome
 use Rattle.sx_fresh_laws.specs.Leaves.{leaves}
 
@@ -13,7 +13,7 @@ temporary_context own n = record { marks = record { 0 = record { library = own; 
 
 -- P says what may be met on a leaf before the name of this number is taken: what could be met before, and temporaries of the names from a
 -- first one on.
-pub record Rises (own : LibName) (first : ℕ) (P : ℕ → LeafContext → Type 0) : Type 0 where
+pub record FreshRises (own : LibName) (first : ℕ) (P : ℕ → LeafContext → Type 0) : Type 0 where
   pub later : (m n : ℕ) (c : LeafContext) → m ≤ n → P m c → P n c
   pub temporary : (m n : ℕ) → first ≤ m → m < n → P n (temporary_context own m)
 
@@ -22,7 +22,7 @@ abbrev pub SettingHolds : (P : LeafContext → Type 0) → PlainSetting → Type
 SettingHolds P = outcome.SettingHolds (leaves P)
 
 -- No name that was taken is free again, and each leaf in the cells may be met by then.
-abbrev pub StateHolds : (own : LibName) (P : ℕ → LeafContext → Type 0) (m : ℕ) → State → Type 0
+abbrev pub StateHolds : (own : LibName) (P : ℕ → LeafContext → Type 0) (m : ℕ) → WorldState → Type 0
 StateHolds own P m = outcome.StateHolds own (λ n. leaves (P n)) m
 
 -- an outcome from when this was the next name, with what may be met then

@@ -7,7 +7,7 @@ use Rattle.sx_prims.specs.Chains.{list_elements}
 use Rattle.sx_eval.specs.Meaning.{eval_of, first_called, applied}
 use Rattle.sx_eval.specs.Setting.{PlainSetting}
 use Rattle.sx_eval.specs.Spread.{Call, apply_args, before_last, parted, with_elements, with_front, on_parts, spread_once, spread_on, spread_to, spread}
-use Rattle.sx_eval.specs.State.{State}
+use Rattle.sx_eval.specs.State.{WorldState}
 use Rattle.sx_eval.proofs.Paid.{within_or_past, charged_paid, charged_short}
 use Rattle.sx_eval.proofs.Spreading.{parted_last, args_shorter}
 use Rattle.sx_given_laws.specs.Calls.{End, ended, call_of, CallEnds, Calls}
@@ -26,7 +26,7 @@ front_shorter : (xs : List Value) (p : List Value × Value) → parted xs ≡ So
 front_shorter [] p e = cc
 front_shorter (x ∷ xs) p e = front_length xs x ∙ ap (λ (q : List Value × Value). length q.0 + 1) (ap (parts_or p) e)
 
-module _ (s : State) where
+module _ (s : WorldState) where
   -- two ways to go on are the same where there is so much fuel and so many values
   abbrev SameBelow : ℕ → ℕ → Call → Call → Type 0
   SameBelow i j g h = (ws : List Value) (m : ℕ) → m + length ws < i → m + length ws < j → g ws m ≡ h ws m
@@ -63,7 +63,7 @@ module _ (s : State) where
   turns-same (suc i) zero go vs n k l = absurd (omega (arith, l))
   turns-same (suc i) (suc j) go vs n k l = same-on i j (spread_to i s go) (spread_to j s go) (turns-same i j go) go vs n (apply_args vs) refl k l
 
-module _ (w : PlainSetting) (f : Value) (front xs : List Value) (l : Value) (s : State) where
+module _ (w : PlainSetting) (f : Value) (front xs : List Value) (l : Value) (s : WorldState) where
   -- with so much fuel beside the cost of the elements
   pub applies : (n m : ℕ) → n ≡ m + length xs → list_elements s.cells l ≡ Some xs → call_of w (value.Prim (record { 0 = names.APPLY })) (f ∷ (front ++ l ∷ [])) s n ≡ call_of w f (front ++ xs) s m
   unfolding applied spread spread_once
@@ -75,14 +75,14 @@ module _ (w : PlainSetting) (f : Value) (front xs : List Value) (l : Value) (s :
       ∙ turns-same s (n + suc (suc (length (front ++ l ∷ [])))) (suc (m + suc (length (front ++ xs)))) (first_called w (eval_of w) s) (f ∷ (front ++ xs)) m
       (omega (arith, e, length-append front (l ∷ []), length-append front xs)) (omega arith)
 
-  pub apply-ends : (r : End) (t : State) → list_elements s.cells l ≡ Some xs → CallEnds w f (front ++ xs) s r t → CallEnds w (value.Prim (record { 0 = names.APPLY })) (f ∷ (front ++ l ∷ [])) s r t
+  pub apply-ends : (r : End) (t : WorldState) → list_elements s.cells l ≡ Some xs → CallEnds w f (front ++ xs) s r t → CallEnds w (value.Prim (record { 0 = names.APPLY })) (f ∷ (front ++ l ∷ [])) s r t
   apply-ends r t has h = (h.0 + length xs, by)
     where
       by : (left : ℕ) → call_of w (value.Prim (record { 0 = names.APPLY })) (f ∷ (front ++ l ∷ [])) s (left + (h.0 + length xs)) ≡ ended r t left
       by left = applies (left + (h.0 + length xs)) (left + h.0) (omega arith) has ∙ h.1 left
 
   -- where the last argument has no elements, the call itself
-  pub apply-none : list_elements s.cells l ≡ Some xs → xs ≡ [] → (v : Value) (t : State) → Calls w (value.Prim (record { 0 = names.APPLY })) (f ∷ (front ++ l ∷ [])) s v t → Calls w f (front ++ xs) s v t
+  pub apply-none : list_elements s.cells l ≡ Some xs → xs ≡ [] → (v : Value) (t : WorldState) → Calls w (value.Prim (record { 0 = names.APPLY })) (f ∷ (front ++ l ∷ [])) s v t → Calls w f (front ++ xs) s v t
   apply-none has empty v t h =
       let none : length xs ≡ 0 = ap (λ (ys : List Value). length ys) empty in
       gives-same (call_of w (value.Prim (record { 0 = names.APPLY })) (f ∷ (front ++ l ∷ [])) s) (call_of w f (front ++ xs) s) v t (λ n. sym (applies n n (omega (arith, none)) has)) h

@@ -2,7 +2,7 @@
 use Rattle.std.proofs.Common.{◌≡◌, ◌≤◌, ◌-◌, ◌+◌, ℕ, List, ◌∷◌, ap, sym, subst, ◌∙◌, arith}
 use Rattle.sx_value.specs.declared.value.Value.{Value}
 use Rattle.sx_eval.specs.Setting.{PlainSetting}
-use Rattle.sx_eval.specs.State.{State, Outcome, done, faulted, unfit}
+use Rattle.sx_eval.specs.State.{WorldState, Outcome, done, faulted, unfit}
 use Rattle.sx_eval_laws.specs.MoreFuel.{more_left, IsSpent, MoreIsLeft, LeavesAtLeast, LeftIsNotNeeded, LeavesAtMost, FuelFalls}
 use Rattle.sx_eval_laws.specs.Runs.{ByFuel}
 use Rattle.sx_eval_laws.proofs.Carried.{everywhere, more_is_left, left_is_not_needed, fuel_falls}
@@ -15,7 +15,7 @@ fuel_or d (faulted f s n) = d
 fuel_or d unfit = d
 
 -- nothing was left before that much more was
-nothing-left : (m : ℕ) (o : Outcome) (v : Value) (t : State) → more_left m o ≡ done v t m → o ≡ done v t 0
+nothing-left : (m : ℕ) (o : Outcome) (v : Value) (t : WorldState) → more_left m o ≡ done v t m → o ≡ done v t 0
 nothing-left m (done x u j) v t e =
     let p : x ≡ v = ap (value_or v) e in
     let q : u ≡ t = ap (state_or t) e in
@@ -26,11 +26,11 @@ nothing-left m (faulted f s n) v t e = absurd (cc)
 nothing-left m unfit v t e = absurd (cc)
 
 module _ (run : ByFuel) (falls : FuelFalls run) (free : LeftIsNotNeeded run) (more : MoreIsLeft run) where
-  pub enough-least : (n m : ℕ) (v : Value) (t : State) → run n ≡ done v t m → m ≤ n
+  pub enough-least : (n m : ℕ) (v : Value) (t : WorldState) → run n ≡ done v t m → m ≤ n
   enough-least n m v t e = subst (LeavesAtMost n) e (falls n)
 
   -- with what was spent, and whatever is left beside that
-  pub enough-by : (n m : ℕ) (v : Value) (t : State) → run n ≡ done v t m → (left : ℕ) → run (left + (n - m)) ≡ done v t left
+  pub enough-by : (n m : ℕ) (v : Value) (t : WorldState) → run n ≡ done v t m → (left : ℕ) → run (left + (n - m)) ≡ done v t left
   enough-by n m v t e = by
     where
       least : m ≤ n
@@ -57,10 +57,10 @@ module _ (run : ByFuel) (falls : FuelFalls run) (free : LeftIsNotNeeded run) (mo
           let none : 0 + left ≡ left = omega arith in
           ap run turned ∙ more (n - m) left not-spent ∙ ap (more_left left) exact ∙ ap (done v t) none
 
-  pub enough-gives : (n m : ℕ) (v : Value) (t : State) → run n ≡ done v t m → Gives run v t
+  pub enough-gives : (n m : ℕ) (v : Value) (t : WorldState) → run n ≡ done v t m → Gives run v t
   enough-gives n m v t e = (n - m, enough-by n m v t e)
 
-pub some-fuel : (w : PlainSetting) (f : Value) (args : List Value) (s : State) (n m : ℕ) (v : Value) (t : State) → call_of w f args s n ≡ done v t m → Calls w f args s v t
+pub some-fuel : (w : PlainSetting) (f : Value) (args : List Value) (s : WorldState) (n m : ℕ) (v : Value) (t : WorldState) → call_of w f args s n ≡ done v t m → Calls w f args s v t
 some-fuel w f args s n m v t e =
     enough-gives (call_of w f args s) ((everywhere FuelFalls fuel_falls).calls w (f ∷ args) s) ((everywhere LeftIsNotNeeded left_is_not_needed).calls w (f ∷ args) s)
     ((everywhere MoreIsLeft more_is_left).calls w (f ∷ args) s) n m v t e

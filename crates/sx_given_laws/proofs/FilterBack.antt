@@ -11,9 +11,9 @@ use Rattle.sx_eval.specs.Codes.{code_at, procedure_code}
 use Rattle.sx_eval.specs.Meaning.{eval_of, two_arms}
 use Rattle.sx_eval.specs.Procedures.{has_text, truth_of}
 use Rattle.sx_eval.specs.Setting.{PlainSetting}
-use Rattle.sx_eval.specs.State.{State, next_place, with_cell}
+use Rattle.sx_eval.specs.State.{WorldState, next_place, with_cell}
 use Rattle.sx_eval.specs.Variables.{Entries}
-use Rattle.sx_eval_laws.specs.Kept.{Later}
+use Rattle.sx_eval_laws.specs.Kept.{LaterWorld}
 use Rattle.sx_list_laws.specs.Runs.{IsList}
 use Rattle.sx_given_laws.specs.Calls.{call_of, Calls}
 use Rattle.sx_given_laws.specs.Codes.{label, code_no, var, one_case, app, car, cdr, cons, filter_some, filter_loop}
@@ -44,18 +44,18 @@ module _ (w : PlainSetting) (known : code_at w.codes (code_no 61) ≡ Some (proc
   names : Names 60 63 64 home g
   names = record { procedure = λ f l. refl; list = λ f l. refl; no_loop = λ f l. refl; loop = refl }
 
-  abbrev Did : List Value → State → Value → State → Type 0
+  abbrev Did : List Value → WorldState → Value → WorldState → Type 0
   Did xs s v t = Filtered w f chosen xs s v t
 
-  module _ (x l d : Value) (xs : List Value) (s : State) (round : Home s.cells p home) (pair : pair_of s.cells l ≡ Some (x, d)) (v : Value) (t : State) (called : Calls w g (f ∷ l ∷ []) s v t)
-      (again : (u : State) → Later s u → (y : Value) (r : State) → Calls w g (f ∷ d ∷ []) u y r → Did xs u y r) where
-    abbrev at : State
+  module _ (x l d : Value) (xs : List Value) (s : WorldState) (round : Home s.cells p home) (pair : pair_of s.cells l ≡ Some (x, d)) (v : Value) (t : WorldState) (called : Calls w g (f ∷ l ∷ []) s v t)
+      (again : (u : WorldState) → LaterWorld s u → (y : Value) (r : WorldState) → Calls w g (f ∷ d ∷ []) u y r → Did xs u y r) where
+    abbrev at : WorldState
     at = loop.entered w 61 60 63 64 filter_loop known p home names f l s round
 
     abbrev q : Place
     q = next_place s
 
-    enter : Later s at
+    enter : LaterWorld s at
     enter = loop.entered-later w 61 60 63 64 filter_loop known p home names f l s round
 
     choice : Evaluates w filter_some q at v t
@@ -69,10 +69,10 @@ module _ (w : PlainSetting) (known : code_at w.codes (code_no 61) ≡ Some (proc
     first : Calls w f (x ∷ []) at parts.value parts.state
     first = first-back w 61 60 63 64 filter_loop known p home names f l s round at (later-refl at) x d pair parts.value parts.state parts.first
 
-    behind : Later at parts.state
+    behind : LaterWorld at parts.state
     behind = calls-later w f (x ∷ []) at parts.value parts.state first
 
-    far : Later s parts.state
+    far : LaterWorld s parts.state
     far = later-then s at parts.state enter behind
 
     taken : truth_of parts.value ≡ true → Did (x ∷ xs) s v t
@@ -81,7 +81,7 @@ module _ (w : PlainSetting) (known : code_at w.codes (code_no 61) ≡ Some (proc
       in_turn = subst (λ a. InTurn w f (x ∷ xs) s (parts.value ∷ rest.answers) a) made.state_is
           (one_call enter first (in-turn-to w f xs rest.answers parts.state made.behind after rest.in_turn (later-with made.behind (cell.Pair made.car_value made.cdr_value))));
       list = subst (λ b. IsList t.cells (when_true b x (chosen xs rest.answers)) v) (sym e)
-          (subst (λ (a : State). IsList a.cells (x ∷ chosen xs rest.answers) v) made.state_is
+          (subst (λ (a : WorldState). IsList a.cells (x ∷ chosen xs rest.answers) v) made.state_is
           (subst (λ b. IsList after.cells (x ∷ chosen xs rest.answers) b) made.value_is
           (subst (λ b. IsList after.cells (b ∷ chosen xs rest.answers) (next_pair w made.behind)) car_is (list-more made.behind.cells made.car_value made.cdr_value (chosen xs rest.answers) rest.list))));
     }
@@ -92,7 +92,7 @@ module _ (w : PlainSetting) (known : code_at w.codes (code_no 61) ≡ Some (proc
         made : Consed w (car (var 64)) (app (var 60) (var 63 ∷ cdr (var 64) ∷ [])) q parts.state v t
         made = cons-back w (car (var 64)) (app (var 60) (var 63 ∷ cdr (var 64) ∷ [])) q parts.state v t arm
 
-        after : State
+        after : WorldState
         after = with_cell (cell.Pair made.car_value made.cdr_value) made.behind
 
         read : Evaluates w (car (var 64)) q parts.state x parts.state
@@ -126,7 +126,7 @@ module _ (w : PlainSetting) (known : code_at w.codes (code_no 61) ≡ Some (proc
     some-did : Did (x ∷ xs) s v t
     some-did = by-truth (truth_of parts.value) (Did (x ∷ xs) s v t) taken left_out
 
-  loop-did : (xs : List Value) (l : Value) (s : State) (v : Value) (t : State) → Home s.cells p home → IsList s.cells xs l → Calls w g (f ∷ l ∷ []) s v t → Did xs s v t
+  loop-did : (xs : List Value) (l : Value) (s : WorldState) (v : Value) (t : WorldState) → Home s.cells p home → IsList s.cells xs l → Calls w g (f ∷ l ∷ []) s v t → Did xs s v t
   loop-did [] l s v t round r called =
       let m : Filters w g (f ∷ l ∷ []) f chosen [] s = filter-loop w known f p [] l s round r tt in
       let value_is = gives-one-value (call_of w g (f ∷ l ∷ []) s) m.value v m.state t m.called called in
@@ -134,13 +134,13 @@ module _ (w : PlainSetting) (known : code_at w.codes (code_no 61) ≡ Some (proc
       record {
         answers = m.answers;
         in_turn = subst (λ a. InTurn w f [] s m.answers a) state_is m.in_turn;
-        list = subst (λ (a : State). IsList a.cells (chosen [] m.answers) v) state_is (subst (λ b. IsList m.state.cells (chosen [] m.answers) b) value_is m.list);
+        list = subst (λ (a : WorldState). IsList a.cells (chosen [] m.answers) v) state_is (subst (λ b. IsList m.state.cells (chosen [] m.answers) b) value_is m.list);
       }
   loop-did (x ∷ xs) l s v t round r called =
       let c = list-some r in
       some-did x l c.0 xs s round c.1 v t called (λ u k y z h. loop-did xs c.0 u y z (home-later s u k p home round) (list-later s u k xs c.0 c.2) h)
 
-pub filter-only : (w : PlainSetting) (knows : Knows w.codes) (f l : Value) (xs : List Value) (s : State) (v : Value) (t : State) → IsList s.cells xs l → Calls w (value.Prim (record { 0 = ops.FILTER })) (f ∷ l ∷ []) s v t
+pub filter-only : (w : PlainSetting) (knows : Knows w.codes) (f l : Value) (xs : List Value) (s : WorldState) (v : Value) (t : WorldState) → IsList s.cells xs l → Calls w (value.Prim (record { 0 = ops.FILTER })) (f ∷ l ∷ []) s v t
     → Filtered w f chosen xs s v t
 unfolding has_text
 filter-only w knows f l xs s v t r called = record { answers = m.answers; in_turn = in-turn-from w f xs m.answers s (ready w s 60 61) t (ready-later w s 60 61) m.in_turn; list = m.list }

@@ -11,9 +11,9 @@ use Rattle.sx_prims.specs.Chains.{pair_of}
 use Rattle.sx_eval.specs.Codes.{code_at, procedure_code}
 use Rattle.sx_eval.specs.Procedures.{has_text, truth_of}
 use Rattle.sx_eval.specs.Setting.{PlainSetting}
-use Rattle.sx_eval.specs.State.{State, next_place}
+use Rattle.sx_eval.specs.State.{WorldState, next_place}
 use Rattle.sx_eval.specs.Variables.{Entries}
-use Rattle.sx_eval_laws.specs.Kept.{Later}
+use Rattle.sx_eval_laws.specs.Kept.{LaterWorld}
 use Rattle.sx_list_laws.specs.Runs.{IsList}
 use Rattle.sx_given_laws.specs.Calls.{End, CallEnds, Calls}
 use Rattle.sx_given_laws.specs.Codes.{label, code_no, var, one_case, app, car, cdr, filter_some, filter_loop}
@@ -37,32 +37,32 @@ module _ (w : PlainSetting) (known : code_at w.codes (code_no 61) ≡ Some (proc
   abbrev g : Value
   g = value.Closure (code_no 61) p
 
-  abbrev Kept : List Value → Value → State → Type 0
+  abbrev Kept : List Value → Value → WorldState → Type 0
   Kept xs l s = Filters w g (f ∷ l ∷ []) f chosen xs s
 
-  abbrev Faulted : List Value → Value → State → Type 0
+  abbrev Faulted : List Value → Value → WorldState → Type 0
   Faulted xs l s = Faults w g (f ∷ l ∷ []) f xs s
 
   abbrev names : Names 60 63 64 home g
   names = record { procedure = λ f l. refl; list = λ f l. refl; no_loop = λ f l. refl; loop = refl }
 
-  module _ (x l d : Value) (xs : List Value) (s : State) (round : Home s.cells p home) (pair : pair_of s.cells l ≡ Some (x, d)) where
-    abbrev at : State
+  module _ (x l d : Value) (xs : List Value) (s : WorldState) (round : Home s.cells p home) (pair : pair_of s.cells l ≡ Some (x, d)) where
+    abbrev at : WorldState
     at = loop.entered w 61 60 63 64 filter_loop known p home names f l s round
 
     abbrev q : Place
     q = next_place s
 
-    enter : Later s at
+    enter : LaterWorld s at
     enter = loop.entered-later w 61 60 63 64 filter_loop known p home names f l s round
 
-    with-null : (r : End) (t : State) → ExpressionEnds w filter_some q at r t → CallEnds w g (f ∷ l ∷ []) s r t
+    with-null : (r : End) (t : WorldState) → ExpressionEnds w filter_some q at r t → CallEnds w g (f ∷ l ∷ []) s r t
     with-null r t h =
         loop.loop-ends w 61 60 63 64 filter_loop known p home names f l s round r t
         (false-ends w _ _ _ q at at t (truth false) r (loop.not-null w 61 60 63 64 filter_loop known p home names f l s round at (later-refl at) x d pair) refl h)
 
     -- the call faults
-    stopped : (e : Bare) (u : State) → CallEnds w f (x ∷ []) at (Err e) u → Faulted (x ∷ xs) l s
+    stopped : (e : Bare) (u : WorldState) → CallEnds w f (x ∷ []) at (Err e) u → Faulted (x ∷ xs) l s
     stopped e u h = record {
       fault = e;
       state = u;
@@ -71,7 +71,7 @@ module _ (w : PlainSetting) (known : code_at w.codes (code_no 61) ≡ Some (proc
     }
 
     -- a later call faults
-    stopped-behind : (y : Value) (u : State) → Calls w f (x ∷ []) at y u → Faulted xs d u → Faulted (x ∷ xs) l s
+    stopped-behind : (y : Value) (u : WorldState) → Calls w f (x ∷ []) at y u → Faulted xs d u → Faulted (x ∷ xs) l s
     stopped-behind y u called rest = record {
       fault = rest.fault;
       state = rest.state;
@@ -79,7 +79,7 @@ module _ (w : PlainSetting) (known : code_at w.codes (code_no 61) ≡ Some (proc
       stops = stops_behind enter called rest.stops;
     }
       where
-        behind : Later at u
+        behind : LaterWorld at u
         behind = calls-later w f (x ∷ []) at y u called
 
         test : Evaluates w (app (var 63) (car (var 64) ∷ [])) q at y u
@@ -95,15 +95,15 @@ module _ (w : PlainSetting) (known : code_at w.codes (code_no 61) ≡ Some (proc
         by false e = false-ends w _ _ _ q at u rest.state y (Err rest.fault) test e again
 
     -- by the end of the call
-    ends-by : (r : End) (u : State) → CallEnds w f (x ∷ []) at r u → AfterValue r (AllEnd w f xs u)
-        → ((v : State) → Later s v → AllEnd w f xs v → Kept xs d v ⊎ Faulted xs d v) → Kept (x ∷ xs) l s ⊎ Faulted (x ∷ xs) l s
+    ends-by : (r : End) (u : WorldState) → CallEnds w f (x ∷ []) at r u → AfterValue r (AllEnd w f xs u)
+        → ((v : WorldState) → LaterWorld s v → AllEnd w f xs v → Kept xs d v ⊎ Faulted xs d v) → Kept (x ∷ xs) l s ⊎ Faulted (x ∷ xs) l s
     ends-by (Ok y) u h a again = elim (again u (later-then s at u enter (calls-later w f (x ∷ []) at y u h)) a) [
       | inl m ↦ inl (some w known f p x l d xs s round pair y u h m)
       | inr m ↦ inr (stopped-behind y u h m)
     ]
     ends-by (Err e) u h a again = inr (stopped e u h)
 
-  filter-ends : (xs : List Value) (l : Value) (s : State) → Home s.cells p home → IsList s.cells xs l → AllEnd w f xs s → Kept xs l s ⊎ Faulted xs l s
+  filter-ends : (xs : List Value) (l : Value) (s : WorldState) → Home s.cells p home → IsList s.cells xs l → AllEnd w f xs s → Kept xs l s ⊎ Faulted xs l s
   filter-ends [] l s round r give = inl (subst (λ x. Kept [] x s) (sym (list-none r)) (nothing w known f p s round))
   filter-ends (x ∷ xs) l s round r give =
       let c = list-some r in
@@ -111,7 +111,7 @@ module _ (w : PlainSetting) (known : code_at w.codes (code_no 61) ≡ Some (proc
       ends-by x l c.0 xs s round c.1 made.0 made.1 made.2 made.3
       (λ v k a. filter-ends xs c.0 v (home-later s v k p home round) (list-later s v k xs c.0 c.2) a)
 
-pub filter-ended : (w : PlainSetting) (knows : Knows w.codes) (f l : Value) (xs : List Value) (s : State) → IsList s.cells xs l → AllEnd w f xs s
+pub filter-ended : (w : PlainSetting) (knows : Knows w.codes) (f l : Value) (xs : List Value) (s : WorldState) → IsList s.cells xs l → AllEnd w f xs s
     → Filters w (value.Prim (record { 0 = ops.FILTER })) (f ∷ l ∷ []) f chosen xs s ⊎ Faults w (value.Prim (record { 0 = ops.FILTER })) (f ∷ l ∷ []) f xs s
 unfolding has_text
 filter-ended w knows f l xs s r give =
@@ -132,8 +132,8 @@ filter-ended w knows f l xs s r give =
       })
     ]
   where
-    at : State
+    at : WorldState
     at = ready w s 60 61
 
-    behind : Later s at
+    behind : LaterWorld s at
     behind = ready-later w s 60 61

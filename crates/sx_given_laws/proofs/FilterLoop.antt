@@ -10,9 +10,9 @@ use Rattle.sx_prims.specs.Lists.{nil}
 use Rattle.sx_eval.specs.Codes.{code_at, procedure_code}
 use Rattle.sx_eval.specs.Procedures.{truth_of}
 use Rattle.sx_eval.specs.Setting.{PlainSetting}
-use Rattle.sx_eval.specs.State.{State, next_place, with_cell}
+use Rattle.sx_eval.specs.State.{WorldState, next_place, with_cell}
 use Rattle.sx_eval.specs.Variables.{Entries}
-use Rattle.sx_eval_laws.specs.Kept.{Later}
+use Rattle.sx_eval_laws.specs.Kept.{LaterWorld}
 use Rattle.sx_list_laws.specs.Runs.{here, IsList}
 use Rattle.sx_given_laws.specs.Calls.{Calls}
 use Rattle.sx_given_laws.specs.Codes.{label, code_no, var, one_case, app, car, cdr, filter_some, filter_loop}
@@ -33,13 +33,13 @@ module _ (w : PlainSetting) (known : code_at w.codes (code_no 61) ≡ Some (proc
   abbrev g : Value
   g = value.Closure (code_no 61) p
 
-  abbrev Filtered : List Value → Value → State → Type 0
+  abbrev Filtered : List Value → Value → WorldState → Type 0
   Filtered xs l s = Filters w g (f ∷ l ∷ []) f chosen xs s
 
   abbrev names : Names 60 63 64 home g
   names = record { procedure = λ f l. refl; list = λ f l. refl; no_loop = λ f l. refl; loop = refl }
 
-  pub nothing : (s : State) → Home s.cells p home → Filtered [] nil s
+  pub nothing : (s : WorldState) → Home s.cells p home → Filtered [] nil s
   nothing s round = record {
     value = nil;
     state = s1;
@@ -50,23 +50,23 @@ module _ (w : PlainSetting) (known : code_at w.codes (code_no 61) ≡ Some (proc
     list = here;
   }
     where
-      s1 : State
+      s1 : WorldState
       s1 = loop.entered w 61 60 63 64 filter_loop known p home names f nil s round
 
-  module _ (x l d : Value) (xs : List Value) (s : State) (round : Home s.cells p home) (pair : pair_of s.cells l ≡ Some (x, d)) where
-    abbrev s1 : State
+  module _ (x l d : Value) (xs : List Value) (s : WorldState) (round : Home s.cells p home) (pair : pair_of s.cells l ≡ Some (x, d)) where
+    abbrev s1 : WorldState
     s1 = loop.entered w 61 60 63 64 filter_loop known p home names f l s round
 
-    pub some : (y : Value) (u : State) → Calls w f (x ∷ []) s1 y u → Filtered xs d u → Filtered (x ∷ xs) l s
+    pub some : (y : Value) (u : WorldState) → Calls w f (x ∷ []) s1 y u → Filtered xs d u → Filtered (x ∷ xs) l s
     some y u called rest = by (truth_of y) refl
       where
         q : Place
         q = next_place s
 
-        behind : Later s1 u
+        behind : LaterWorld s1 u
         behind = calls-later w f (x ∷ []) s1 y u called
 
-        enter : Later s s1
+        enter : LaterWorld s s1
         enter = loop.entered-later w 61 60 63 64 filter_loop known p home names f l s round
 
         test : Evaluates w (app (var 63) (car (var 64) ∷ [])) q s1 y u
@@ -75,7 +75,7 @@ module _ (w : PlainSetting) (known : code_at w.codes (code_no 61) ≡ Some (proc
         others : Evaluates w (app (var 60) (var 63 ∷ cdr (var 64) ∷ [])) q u rest.value rest.state
         others = loop.loop-again w 61 60 63 64 filter_loop known p home names f l s round u behind x d pair rest.value rest.state rest.called
 
-        with-null : (v : Value) (t : State) → Evaluates w filter_some q s1 v t → Calls w g (f ∷ l ∷ []) s v t
+        with-null : (v : Value) (t : WorldState) → Evaluates w filter_some q s1 v t → Calls w g (f ∷ l ∷ []) s v t
         with-null v t h =
             loop.loop-called w 61 60 63 64 filter_loop known p home names f l s round v t
             (if-false w _ _ _ q s1 s1 t (truth false) v (loop.not-null w 61 60 63 64 filter_loop known p home names f l s round s1 (later-refl s1) x d pair) refl h)
@@ -101,7 +101,7 @@ module _ (w : PlainSetting) (known : code_at w.codes (code_no 61) ≡ Some (proc
           list = subst (λ b. IsList rest.state.cells (when_true b x (chosen xs rest.answers)) rest.value) (sym e) rest.list;
         }
 
-  pub filter-loop : (xs : List Value) (l : Value) (s : State) → Home s.cells p home → IsList s.cells xs l → AllGive w f xs s → Filtered xs l s
+  pub filter-loop : (xs : List Value) (l : Value) (s : WorldState) → Home s.cells p home → IsList s.cells xs l → AllGive w f xs s → Filtered xs l s
   filter-loop [] l s round r give = subst (λ x. Filtered [] x s) (sym (list-none r)) (nothing s round)
   filter-loop (x ∷ xs) l s round r give =
       let c = list-some r in

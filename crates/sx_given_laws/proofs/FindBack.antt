@@ -10,14 +10,14 @@ use Rattle.sx_eval.specs.Codes.{code_at, procedure_code}
 use Rattle.sx_eval.specs.Meaning.{eval_of, two_arms}
 use Rattle.sx_eval.specs.Procedures.{has_text, truth_of}
 use Rattle.sx_eval.specs.Setting.{PlainSetting}
-use Rattle.sx_eval.specs.State.{State, next_place}
+use Rattle.sx_eval.specs.State.{WorldState, next_place}
 use Rattle.sx_eval.specs.Variables.{Entries}
-use Rattle.sx_eval_laws.specs.Kept.{Later}
+use Rattle.sx_eval_laws.specs.Kept.{LaterWorld}
 use Rattle.sx_list_laws.specs.Runs.{IsList}
 use Rattle.sx_given_laws.specs.Calls.{call_of, Calls}
 use Rattle.sx_given_laws.specs.Codes.{label, code_no, var, one_case, app, car, cdr, find_some, find_loop}
-use Rattle.sx_given_laws.specs.Given.{Finds, Found, first_or_false}
-use Rattle.sx_given_laws.specs.InTurn.{Search, passed, there}
+use Rattle.sx_given_laws.specs.Given.{Finds, FoundGiven, first_or_false}
+use Rattle.sx_given_laws.specs.InTurn.{SearchCalls, passed, there}
 use Rattle.sx_given_laws.proofs.Giving.{Evaluates}
 use Rattle.sx_given_laws.proofs.FindLoop.{find-loop, by-truth}
 use Rattle.sx_given_laws.proofs.Inside.{Home, home-later, one_home}
@@ -41,15 +41,15 @@ module _ (w : PlainSetting) (known : code_at w.codes (code_no 78) ≡ Some (proc
   names : Names 77 80 81 home g
   names = record { procedure = λ f l. refl; list = λ f l. refl; no_loop = λ f l. refl; loop = refl }
 
-  module _ (x l d : Value) (xs : List Value) (s : State) (round : Home s.cells p home) (pair : pair_of s.cells l ≡ Some (x, d)) (v : Value) (t : State) (called : Calls w g (f ∷ l ∷ []) s v t)
-      (again : (u : State) → Later s u → (y : Value) (r : State) → Calls w g (f ∷ d ∷ []) u y r → Found w f xs u y r) where
-    abbrev at : State
+  module _ (x l d : Value) (xs : List Value) (s : WorldState) (round : Home s.cells p home) (pair : pair_of s.cells l ≡ Some (x, d)) (v : Value) (t : WorldState) (called : Calls w g (f ∷ l ∷ []) s v t)
+      (again : (u : WorldState) → LaterWorld s u → (y : Value) (r : WorldState) → Calls w g (f ∷ d ∷ []) u y r → FoundGiven w f xs u y r) where
+    abbrev at : WorldState
     at = loop.entered w 78 77 80 81 find_loop known p home names f l s round
 
     abbrev q : Place
     q = next_place s
 
-    enter : Later s at
+    enter : LaterWorld s at
     enter = loop.entered-later w 78 77 80 81 find_loop known p home names f l s round
 
     choice : Evaluates w find_some q at v t
@@ -63,16 +63,16 @@ module _ (w : PlainSetting) (known : code_at w.codes (code_no 78) ≡ Some (proc
     first : Calls w f (x ∷ []) at parts.value parts.state
     first = first-back w 78 77 80 81 find_loop known p home names f l s round at (later-refl at) x d pair parts.value parts.state parts.first
 
-    behind : Later at parts.state
+    behind : LaterWorld at parts.state
     behind = calls-later w f (x ∷ []) at parts.value parts.state first
 
-    far : Later s parts.state
+    far : LaterWorld s parts.state
     far = later-then s at parts.state enter behind
 
-    taken : truth_of parts.value ≡ true → Found w f (x ∷ xs) s v t
+    taken : truth_of parts.value ≡ true → FoundGiven w f (x ∷ xs) s v t
     taken e = record {
       rest = x ∷ xs;
-      search = subst (λ a. Search w f (x ∷ xs) s (x ∷ xs) a) (gives-one-state (eval_of w (car (var 81)) q parts.state) x v parts.state t read arm) (there enter first e (later-refl parts.state));
+      search = subst (λ a. SearchCalls w f (x ∷ xs) s (x ∷ xs) a) (gives-one-state (eval_of w (car (var 81)) q parts.state) x v parts.state t read arm) (there enter first e (later-refl parts.state));
       value_is = sym (gives-one-value (eval_of w (car (var 81)) q parts.state) x v parts.state t read arm);
     }
       where
@@ -82,33 +82,33 @@ module _ (w : PlainSetting) (known : code_at w.codes (code_no 78) ≡ Some (proc
         read : Evaluates w (car (var 81)) q parts.state x parts.state
         read = loop.first-read w 78 77 80 81 find_loop known p home names f l s round parts.state behind x d pair
 
-    missed : truth_of parts.value ≡ false → Found w f (x ∷ xs) s v t
+    missed : truth_of parts.value ≡ false → FoundGiven w f (x ∷ xs) s v t
     missed e = record { rest = rest.rest; search = passed enter first e rest.search; value_is = rest.value_is }
       where
-        rest : Found w f xs parts.state v t
+        rest : FoundGiven w f xs parts.state v t
         rest =
             again parts.state far v t
             (again-back w 78 77 80 81 find_loop known p home names f l s round parts.state behind x d pair v t
             (arms-false w (truth_of parts.value) (eval_of w (car (var 81)) q parts.state) (eval_of w (app (var 77) (var 80 ∷ cdr (var 81) ∷ [])) q parts.state) v t e parts.onward))
 
-    some-did : Found w f (x ∷ xs) s v t
-    some-did = by-truth (truth_of parts.value) (Found w f (x ∷ xs) s v t) taken missed
+    some-did : FoundGiven w f (x ∷ xs) s v t
+    some-did = by-truth (truth_of parts.value) (FoundGiven w f (x ∷ xs) s v t) taken missed
 
-  loop-did : (xs : List Value) (l : Value) (s : State) (v : Value) (t : State) → Home s.cells p home → IsList s.cells xs l → Calls w g (f ∷ l ∷ []) s v t → Found w f xs s v t
+  loop-did : (xs : List Value) (l : Value) (s : WorldState) (v : Value) (t : WorldState) → Home s.cells p home → IsList s.cells xs l → Calls w g (f ∷ l ∷ []) s v t → FoundGiven w f xs s v t
   loop-did [] l s v t round r called =
       let m : Finds w g (f ∷ l ∷ []) f [] s = find-loop w known f p [] l s round r tt in
       let value_is = gives-one-value (call_of w g (f ∷ l ∷ []) s) (first_or_false m.rest) v m.state t m.called called in
       let state_is = gives-one-state (call_of w g (f ∷ l ∷ []) s) (first_or_false m.rest) v m.state t m.called called in
-      record { rest = m.rest; search = subst (λ a. Search w f [] s m.rest a) state_is m.search; value_is = sym value_is }
+      record { rest = m.rest; search = subst (λ a. SearchCalls w f [] s m.rest a) state_is m.search; value_is = sym value_is }
   loop-did (x ∷ xs) l s v t round r called =
       let c = list-some r in
       some-did x l c.0 xs s round c.1 v t called (λ u k y z h. loop-did xs c.0 u y z (home-later s u k p home round) (list-later s u k xs c.0 c.2) h)
 
-pub find-only : (w : PlainSetting) (knows : Knows w.codes) (f l : Value) (xs : List Value) (s : State) (v : Value) (t : State) → IsList s.cells xs l → Calls w (value.Prim (record { 0 = ops.FIND })) (f ∷ l ∷ []) s v t → Found w f xs s v t
+pub find-only : (w : PlainSetting) (knows : Knows w.codes) (f l : Value) (xs : List Value) (s : WorldState) (v : Value) (t : WorldState) → IsList s.cells xs l → Calls w (value.Prim (record { 0 = ops.FIND })) (f ∷ l ∷ []) s v t → FoundGiven w f xs s v t
 unfolding has_text
 find-only w knows f l xs s v t r called = record { rest = m.rest; search = search-from w f xs m.rest s (ready w s 77 78) t (ready-later w s 77 78) m.search; value_is = m.value_is }
   where
-    m : Found w f xs (ready w s 77 78) v t
+    m : FoundGiven w f xs (ready w s 77 78) v t
     m =
         loop-did w knows.find_loop f (home_place w s 77 78) xs l (ready w s 77 78) v t (ready-home w s 77 78) (list-later s (ready w s 77 78) (ready-later w s 77 78) xs l r)
         (loop-back w s 77 78 ops.FIND (80 ∷ 81 ∷ []) find_loop refl refl refl (f ∷ l ∷ []) v t knows.find_text refl called)

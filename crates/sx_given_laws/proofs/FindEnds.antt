@@ -11,9 +11,9 @@ use Rattle.sx_prims.specs.Chains.{pair_of}
 use Rattle.sx_eval.specs.Codes.{code_at, procedure_code}
 use Rattle.sx_eval.specs.Procedures.{has_text, truth_of}
 use Rattle.sx_eval.specs.Setting.{PlainSetting}
-use Rattle.sx_eval.specs.State.{State, next_place}
+use Rattle.sx_eval.specs.State.{WorldState, next_place}
 use Rattle.sx_eval.specs.Variables.{Entries}
-use Rattle.sx_eval_laws.specs.Kept.{Later}
+use Rattle.sx_eval_laws.specs.Kept.{LaterWorld}
 use Rattle.sx_list_laws.specs.Runs.{IsList}
 use Rattle.sx_given_laws.specs.Calls.{End, CallEnds, Calls}
 use Rattle.sx_given_laws.specs.Codes.{label, code_no, one_case, find_some, find_loop}
@@ -37,32 +37,32 @@ module _ (w : PlainSetting) (known : code_at w.codes (code_no 78) ≡ Some (proc
   abbrev g : Value
   g = value.Closure (code_no 78) p
 
-  abbrev Ended : List Value → Value → State → Type 0
+  abbrev Ended : List Value → Value → WorldState → Type 0
   Ended xs l s = Finds w g (f ∷ l ∷ []) f xs s
 
-  abbrev Faulted : List Value → Value → State → Type 0
+  abbrev Faulted : List Value → Value → WorldState → Type 0
   Faulted xs l s = SearchFaults w g (f ∷ l ∷ []) f xs s
 
   abbrev names : Names 77 80 81 home g
   names = record { procedure = λ f l. refl; list = λ f l. refl; no_loop = λ f l. refl; loop = refl }
 
-  module _ (x l d : Value) (xs : List Value) (s : State) (round : Home s.cells p home) (pair : pair_of s.cells l ≡ Some (x, d)) where
-    abbrev at : State
+  module _ (x l d : Value) (xs : List Value) (s : WorldState) (round : Home s.cells p home) (pair : pair_of s.cells l ≡ Some (x, d)) where
+    abbrev at : WorldState
     at = loop.entered w 78 77 80 81 find_loop known p home names f l s round
 
     abbrev q : Place
     q = next_place s
 
-    enter : Later s at
+    enter : LaterWorld s at
     enter = loop.entered-later w 78 77 80 81 find_loop known p home names f l s round
 
-    with-null : (r : End) (t : State) → ExpressionEnds w find_some q at r t → CallEnds w g (f ∷ l ∷ []) s r t
+    with-null : (r : End) (t : WorldState) → ExpressionEnds w find_some q at r t → CallEnds w g (f ∷ l ∷ []) s r t
     with-null r t h =
         loop.loop-ends w 78 77 80 81 find_loop known p home names f l s round r t
         (false-ends w _ _ _ q at at t (truth false) r (loop.not-null w 78 77 80 81 find_loop known p home names f l s round at (later-refl at) x d pair) refl h)
 
     -- the call faults
-    stopped : (e : Bare) (u : State) → CallEnds w f (x ∷ []) at (Err e) u → Faulted (x ∷ xs) l s
+    stopped : (e : Bare) (u : WorldState) → CallEnds w f (x ∷ []) at (Err e) u → Faulted (x ∷ xs) l s
     stopped e u h = record {
       fault = e;
       state = u;
@@ -71,7 +71,7 @@ module _ (w : PlainSetting) (known : code_at w.codes (code_no 78) ≡ Some (proc
     }
 
     -- a later call faults
-    stopped-behind : (y : Value) (u : State) → Calls w f (x ∷ []) at y u → truth_of y ≡ false → Faulted xs d u → Faulted (x ∷ xs) l s
+    stopped-behind : (y : Value) (u : WorldState) → Calls w f (x ∷ []) at y u → truth_of y ≡ false → Faulted xs d u → Faulted (x ∷ xs) l s
     stopped-behind y u called e rest = record {
       fault = rest.fault;
       state = rest.state;
@@ -82,8 +82,8 @@ module _ (w : PlainSetting) (known : code_at w.codes (code_no 78) ≡ Some (proc
     }
 
     -- by the end of the call
-    ends-by : (r : End) (u : State) → CallEnds w f (x ∷ []) at r u → AfterFalse r (SearchEnds w f xs u)
-        → ((v : State) → Later s v → SearchEnds w f xs v → Ended xs d v ⊎ Faulted xs d v) → Ended (x ∷ xs) l s ⊎ Faulted (x ∷ xs) l s
+    ends-by : (r : End) (u : WorldState) → CallEnds w f (x ∷ []) at r u → AfterFalse r (SearchEnds w f xs u)
+        → ((v : WorldState) → LaterWorld s v → SearchEnds w f xs v → Ended xs d v ⊎ Faulted xs d v) → Ended (x ∷ xs) l s ⊎ Faulted (x ∷ xs) l s
     ends-by (Ok y) u h a again =
         by-truth (truth_of y) (Ended (x ∷ xs) l s ⊎ Faulted (x ∷ xs) l s) (λ e. inl (found w known f p x l d xs s round pair y u h e))
         (λ e. elim (again u (later-then s at u enter (calls-later w f (x ∷ []) at y u h)) (a e)) [
@@ -92,7 +92,7 @@ module _ (w : PlainSetting) (known : code_at w.codes (code_no 78) ≡ Some (proc
         ])
     ends-by (Err e) u h a again = inr (stopped e u h)
 
-  find-ends : (xs : List Value) (l : Value) (s : State) → Home s.cells p home → IsList s.cells xs l → SearchEnds w f xs s → Ended xs l s ⊎ Faulted xs l s
+  find-ends : (xs : List Value) (l : Value) (s : WorldState) → Home s.cells p home → IsList s.cells xs l → SearchEnds w f xs s → Ended xs l s ⊎ Faulted xs l s
   find-ends [] l s round r give = inl (subst (λ x. Ended [] x s) (sym (list-none r)) (nothing w known f p s round))
   find-ends (x ∷ xs) l s round r give =
       let c = list-some r in
@@ -100,7 +100,7 @@ module _ (w : PlainSetting) (known : code_at w.codes (code_no 78) ≡ Some (proc
       ends-by x l c.0 xs s round c.1 made.0 made.1 made.2 made.3
       (λ v k a. find-ends xs c.0 v (home-later s v k p home round) (list-later s v k xs c.0 c.2) a)
 
-pub find-ended : (w : PlainSetting) (knows : Knows w.codes) (f l : Value) (xs : List Value) (s : State) → IsList s.cells xs l → SearchEnds w f xs s
+pub find-ended : (w : PlainSetting) (knows : Knows w.codes) (f l : Value) (xs : List Value) (s : WorldState) → IsList s.cells xs l → SearchEnds w f xs s
     → Finds w (value.Prim (record { 0 = ops.FIND })) (f ∷ l ∷ []) f xs s ⊎ SearchFaults w (value.Prim (record { 0 = ops.FIND })) (f ∷ l ∷ []) f xs s
 unfolding has_text
 find-ended w knows f l xs s r give =
@@ -119,8 +119,8 @@ find-ended w knows f l xs s r give =
       })
     ]
   where
-    at : State
+    at : WorldState
     at = ready w s 77 78
 
-    behind : Later s at
+    behind : LaterWorld s at
     behind = ready-later w s 77 78

@@ -9,9 +9,9 @@ use Rattle.sx_prims.specs.Lists.{nil}
 use Rattle.sx_eval.specs.Codes.{code_at, procedure_code}
 use Rattle.sx_eval.specs.Procedures.{truth_of}
 use Rattle.sx_eval.specs.Setting.{PlainSetting}
-use Rattle.sx_eval.specs.State.{State, next_place}
+use Rattle.sx_eval.specs.State.{WorldState, next_place}
 use Rattle.sx_eval.specs.Variables.{Entries}
-use Rattle.sx_eval_laws.specs.Kept.{Later}
+use Rattle.sx_eval_laws.specs.Kept.{LaterWorld}
 use Rattle.sx_list_laws.specs.Runs.{IsList}
 use Rattle.sx_given_laws.specs.Calls.{Calls}
 use Rattle.sx_given_laws.specs.Codes.{label, code_no, var, one_case, app, car, find_some, find_loop}
@@ -37,13 +37,13 @@ module _ (w : PlainSetting) (known : code_at w.codes (code_no 78) ≡ Some (proc
   abbrev g : Value
   g = value.Closure (code_no 78) p
 
-  abbrev Found : List Value → Value → State → Type 0
-  Found xs l s = Finds w g (f ∷ l ∷ []) f xs s
+  abbrev FoundGiven : List Value → Value → WorldState → Type 0
+  FoundGiven xs l s = Finds w g (f ∷ l ∷ []) f xs s
 
   abbrev names : Names 77 80 81 home g
   names = record { procedure = λ f l. refl; list = λ f l. refl; no_loop = λ f l. refl; loop = refl }
 
-  pub nothing : (s : State) → Home s.cells p home → Found [] nil s
+  pub nothing : (s : WorldState) → Home s.cells p home → FoundGiven [] nil s
   nothing s round = record {
     state = s1;
     rest = [];
@@ -52,24 +52,24 @@ module _ (w : PlainSetting) (known : code_at w.codes (code_no 78) ≡ Some (proc
         (if-true w _ _ _ (next_place s) s1 s1 s1 (truth true) (truth false) (loop.is-null w 78 77 80 81 find_loop known p home names f nil s round s1 (later-refl s1) refl) refl (bool-is w _ false (next_place s) s1));
   }
     where
-      s1 : State
+      s1 : WorldState
       s1 = loop.entered w 78 77 80 81 find_loop known p home names f nil s round
 
-  module _ (x l d : Value) (xs : List Value) (s : State) (round : Home s.cells p home) (pair : pair_of s.cells l ≡ Some (x, d)) where
-    abbrev s1 : State
+  module _ (x l d : Value) (xs : List Value) (s : WorldState) (round : Home s.cells p home) (pair : pair_of s.cells l ≡ Some (x, d)) where
+    abbrev s1 : WorldState
     s1 = loop.entered w 78 77 80 81 find_loop known p home names f l s round
 
-    enter : Later s s1
+    enter : LaterWorld s s1
     enter = loop.entered-later w 78 77 80 81 find_loop known p home names f l s round
 
-    with-test : (y : Value) (u : State) (v : Value) (t : State) → Calls w f (x ∷ []) s1 y u
+    with-test : (y : Value) (u : WorldState) (v : Value) (t : WorldState) → Calls w f (x ∷ []) s1 y u
         → (Evaluates w (app (var 80) (car (var 81) ∷ [])) (next_place s) s1 y u → Evaluates w find_some (next_place s) s1 v t) → Calls w g (f ∷ l ∷ []) s v t
     with-test y u v t called h =
         loop.loop-called w 78 77 80 81 find_loop known p home names f l s round v t
         (if-false w _ _ _ (next_place s) s1 s1 t (truth false) v (loop.not-null w 78 77 80 81 find_loop known p home names f l s round s1 (later-refl s1) x d pair) refl
         (h (loop.first-called w 78 77 80 81 find_loop known p home names f l s round s1 (later-refl s1) x d pair y u called)))
 
-    pub found : (y : Value) (u : State) → Calls w f (x ∷ []) s1 y u → truth_of y ≡ true → Found (x ∷ xs) l s
+    pub found : (y : Value) (u : WorldState) → Calls w f (x ∷ []) s1 y u → truth_of y ≡ true → FoundGiven (x ∷ xs) l s
     found y u called e = record {
       state = u;
       rest = x ∷ xs;
@@ -78,7 +78,7 @@ module _ (w : PlainSetting) (known : code_at w.codes (code_no 78) ≡ Some (proc
           (λ test. if-true w _ _ _ (next_place s) s1 u u y x test e (loop.first-read w 78 77 80 81 find_loop known p home names f l s round u (calls-later w f (x ∷ []) s1 y u called) x d pair));
     }
 
-    pub missed : (y : Value) (u : State) → Calls w f (x ∷ []) s1 y u → truth_of y ≡ false → Found xs d u → Found (x ∷ xs) l s
+    pub missed : (y : Value) (u : WorldState) → Calls w f (x ∷ []) s1 y u → truth_of y ≡ false → FoundGiven xs d u → FoundGiven (x ∷ xs) l s
     missed y u called e rest = record {
       state = rest.state;
       rest = rest.rest;
@@ -88,11 +88,11 @@ module _ (w : PlainSetting) (known : code_at w.codes (code_no 78) ≡ Some (proc
           (loop.loop-again w 78 77 80 81 find_loop known p home names f l s round u (calls-later w f (x ∷ []) s1 y u called) x d pair (first_or_false rest.rest) rest.state rest.called));
     }
 
-  pub find-loop : (xs : List Value) (l : Value) (s : State) → Home s.cells p home → IsList s.cells xs l → SearchGives w f xs s → Found xs l s
-  find-loop [] l s round r give = subst (λ x. Found [] x s) (sym (list-none r)) (nothing s round)
+  pub find-loop : (xs : List Value) (l : Value) (s : WorldState) → Home s.cells p home → IsList s.cells xs l → SearchGives w f xs s → FoundGiven xs l s
+  find-loop [] l s round r give = subst (λ x. FoundGiven [] x s) (sym (list-none r)) (nothing s round)
   find-loop (x ∷ xs) l s round r give =
       let c = list-some r in
       let made = give (s1 x l c.0 xs s round c.1) (enter x l c.0 xs s round c.1) in
       let behind = later-then s (s1 x l c.0 xs s round c.1) made.1 (enter x l c.0 xs s round c.1) (calls-later w f (x ∷ []) _ made.0 made.1 made.2) in
-      by-truth (truth_of made.0) (Found (x ∷ xs) l s) (λ e. found x l c.0 xs s round c.1 made.0 made.1 made.2 e)
+      by-truth (truth_of made.0) (FoundGiven (x ∷ xs) l s) (λ e. found x l c.0 xs s round c.1 made.0 made.1 made.2 e)
       (λ e. missed x l c.0 xs s round c.1 made.0 made.1 made.2 e (find-loop xs c.0 made.1 (home-later s made.1 behind p home round) (list-later s made.1 behind xs c.0 c.2) (made.3 e)))

@@ -14,9 +14,9 @@ use Rattle.sx_prims.specs.Lists.{nil}
 use Rattle.sx_eval.specs.Codes.{procedure_code}
 use Rattle.sx_eval.specs.Procedures.{has_text}
 use Rattle.sx_eval.specs.Setting.{PlainSetting}
-use Rattle.sx_eval.specs.State.{State, next_place, with_cell}
+use Rattle.sx_eval.specs.State.{WorldState, next_place, with_cell}
 use Rattle.sx_eval.specs.Variables.{Entries}
-use Rattle.sx_eval_laws.specs.Kept.{Later}
+use Rattle.sx_eval_laws.specs.Kept.{LaterWorld}
 use Rattle.sx_list_laws.specs.Runs.{IsList}
 use Rattle.sx_given_laws.specs.Calls.{End, CallEnds, Calls}
 use Rattle.sx_given_laws.specs.Codes.{label, code_no, var, prim, formals, one_case, app, datum_at, text_code, for_each_body, for_each_text}
@@ -46,8 +46,8 @@ pub nil-elements : (cells : List Cell) → list_elements cells nil ≡ Some []
 unfolding chain
 nil-elements cells = ap (λ (c : Chain). if is_nil c.end then Some c.elements else None) (chain-of-nil (length cells) cells)
 
-module _ (w : PlainSetting) (knows : Knows w.codes) (f l : Value) (s : State) where
-  abbrev outside : State
+module _ (w : PlainSetting) (knows : Knows w.codes) (f l : Value) (s : WorldState) where
+  abbrev outside : WorldState
   outside = with_cell (cell.Scope [] None) s
 
   abbrev p : Place
@@ -56,13 +56,13 @@ module _ (w : PlainSetting) (knows : Knows w.codes) (f l : Value) (s : State) wh
   abbrev vars : Entries
   vars = (label 23, Some f) ∷ (label 24, Some l) ∷ (label 25, Some nil) ∷ []
 
-  abbrev inner : State
+  abbrev inner : WorldState
   inner = with_cell (cell.Scope vars (Some p)) outside
 
   abbrev q : Place
   q = next_place outside
 
-  body-ends : (r : End) (t : State) → ExpressionEnds w for_each_body q inner r t → CallEnds w (value.Prim (record { 0 = names.FOR_EACH })) (f ∷ l ∷ []) s r t
+  body-ends : (r : End) (t : WorldState) → ExpressionEnds w for_each_body q inner r t → CallEnds w (value.Prim (record { 0 = names.FOR_EACH })) (f ∷ l ∷ []) s r t
   unfolding has_text
   body-ends r t h =
       text-ends w (record { 0 = names.FOR_EACH }) (f ∷ l ∷ []) s outside t (text_code names.FOR_EACH for_each_text) for_each_text (code_no 21) p r refl refl knows.for_each_text refl
@@ -72,11 +72,11 @@ module _ (w : PlainSetting) (knows : Knows w.codes) (f l : Value) (s : State) wh
   inside : Inside inner.cells q vars p []
   inside = entered-inside outside vars p [] (record { around = None; is = slice_get-added s.cells (cell.Scope [] None) })
 
-  behind : Later s inner
+  behind : LaterWorld s inner
   behind = later-then s outside inner (later-with s (cell.Scope [] None)) (later-with outside (cell.Scope vars (Some p)))
 
   -- (apply map f l ls)
-  mapping : (r : End) (t : State) → CallEnds w (value.Prim (record { 0 = names.MAP })) (f ∷ l ∷ []) inner r t → ExpressionEnds w (app (prim names.APPLY) (prim names.MAP ∷ var 23 ∷ var 24 ∷ var 25 ∷ [])) q inner r t
+  mapping : (r : End) (t : WorldState) → CallEnds w (value.Prim (record { 0 = names.MAP })) (f ∷ l ∷ []) inner r t → ExpressionEnds w (app (prim names.APPLY) (prim names.MAP ∷ var 23 ∷ var 24 ∷ var 25 ∷ [])) q inner r t
   mapping r t h =
       call-four-ends w (prim names.APPLY) (prim names.MAP) (var 23) (var 24) (var 25) q inner inner inner inner inner inner t
       (value.Prim (record { 0 = names.APPLY })) (value.Prim (record { 0 = names.MAP })) f l nil r
@@ -109,7 +109,7 @@ module _ (w : PlainSetting) (knows : Knows w.codes) (f l : Value) (s : State) wh
   ]
 
   -- what a call that gave a value did
-  pub for-each-only : (xs : List Value) (v : Value) (t : State) → IsList s.cells xs l → Calls w (value.Prim (record { 0 = names.FOR_EACH })) (f ∷ l ∷ []) s v t → Visited w f xs s v t
+  pub for-each-only : (xs : List Value) (v : Value) (t : WorldState) → IsList s.cells xs l → Calls w (value.Prim (record { 0 = names.FOR_EACH })) (f ∷ l ∷ []) s v t → Visited w f xs s v t
   unfolding has_text
   for-each-only xs v t r called = record {
     answers = m.answers;

@@ -13,9 +13,9 @@ use Rattle.sx_value.specs.declared.cell.Cell.{Cell}
 use Rattle.sx_value.specs.declared.cell.Cell.TheVariants as cell
 use Rattle.sx_eval.specs.Meaning.{eval_of, at_once}
 use Rattle.sx_eval.specs.Setting.{PlainSetting}
-use Rattle.sx_eval.specs.State.{State, store, next_place, with_cell}
+use Rattle.sx_eval.specs.State.{WorldState, store, next_place, with_cell}
 use Rattle.sx_eval.specs.Variables.{Entries}
-use Rattle.sx_eval_laws.specs.Kept.{Later}
+use Rattle.sx_eval_laws.specs.Kept.{LaterWorld}
 use Rattle.sx_list_laws.proofs.RunLemmas.{stay_added}
 use Rattle.sx_given_laws.proofs.Giving.{gives-same, gives-then, Evaluates, evaluates-step, procedure-is}
 use Rattle.sx_given_laws.proofs.Looking.{get-below, later-stay, in_cell, in_parent, variable-is, assigned-last}
@@ -31,10 +31,10 @@ pub record Home (cells : List Cell) (p : Place) (hs : Entries) : Type 0 where
   pub around : Option Place
   pub is : slice_get cells p.0 ≡ Some (cell.Scope hs around)
 
-pub home-later : (s t : State) → Later s t → (p : Place) (home : Entries) → Home s.cells p home → Home t.cells p home
+pub home-later : (s t : WorldState) → LaterWorld s t → (p : Place) (home : Entries) → Home s.cells p home → Home t.cells p home
 home-later s t k p home h = record { around = h.around; is = later-stay s t k p.0 (cell.Scope home h.around) h.is }
 
-pub inside-later : (s t : State) → Later s t → (q : Place) (es : Entries) (p : Place) (home : Entries) → Inside s.cells q es p home → Inside t.cells q es p home
+pub inside-later : (s t : WorldState) → LaterWorld s t → (q : Place) (es : Entries) (p : Place) (home : Entries) → Inside s.cells q es p home → Inside t.cells q es p home
 inside-later s t k q es p home h = record {
   frame = later-stay s t k q.0 (cell.Scope es (Some p)) h.frame;
   around = h.around;
@@ -42,14 +42,14 @@ inside-later s t k q es p home h = record {
 }
 
 -- the cell of a call that begins
-pub entered-inside : (s : State) (es : Entries) (p : Place) (home : Entries) → Home s.cells p home → Inside (s.cells ++ cell.Scope es (Some p) ∷ []) (next_place s) es p home
+pub entered-inside : (s : WorldState) (es : Entries) (p : Place) (home : Entries) → Home s.cells p home → Inside (s.cells ++ cell.Scope es (Some p) ∷ []) (next_place s) es p home
 entered-inside s es p home h = record {
   frame = slice_get-added s.cells (cell.Scope es (Some p));
   around = h.around;
   home = stay_added s.cells (cell.Scope es (Some p)) p.0 (cell.Scope home h.around) h.is;
 }
 
-module _ (w : PlainSetting) (s : State) (q : Place) (es : Entries) (p : Place) (home : Entries) (h : Inside s.cells q es p home) where
+module _ (w : PlainSetting) (s : WorldState) (q : Place) (es : Entries) (p : Place) (home : Entries) (h : Inside s.cells q es p home) where
   -- a variable of the call
   pub own : (l : Label) (v : Value) → lookup (same_label l) es ≡ Some (Some v) → Evaluates w (variable l) q s v s
   own l v e = variable-is w l q s v 1 (in_cell h.frame e) (omega arith)
@@ -65,15 +65,15 @@ module _ (w : PlainSetting) (s : State) (q : Place) (es : Entries) (p : Place) (
 abbrev pub one_home : Label → CodeNo → Place → Entries
 one_home l number p = (l, Some (value.Closure number p)) ∷ []
 
-module _ (w : PlainSetting) (l : Label) (self : same_label l l ≡ true) (number : CodeNo) (cs : PlainCases) (plain : Bool) (body : PlainCore) (scope : Place) (s : State) where
+module _ (w : PlainSetting) (l : Label) (self : same_label l l ≡ true) (number : CodeNo) (cs : PlainCases) (plain : Bool) (body : PlainCore) (scope : Place) (s : WorldState) where
   -- the place of its cell, and the state in which its body is evaluated
   abbrev pub letrec_place : Place
   letrec_place = next_place s
 
-  abbrev pub letrec_state : State
+  abbrev pub letrec_state : WorldState
   letrec_state = with_cell (cell.Scope (one_home l number (next_place s)) (Some scope)) s
 
-  pub letrec-is : (v : Value) (t : State) → Evaluates w body (next_place s) letrec_state v t → Evaluates w (letrec false (init l (procedure number cs plain) no_init) body) scope s v t
+  pub letrec-is : (v : Value) (t : WorldState) → Evaluates w body (next_place s) letrec_state v t → Evaluates w (letrec false (init l (procedure number cs plain) no_init) body) scope s v t
   letrec-is v t h =
       evaluates-step w (letrec false (init l (procedure number cs plain) no_init) body) scope s v t
       (gives-then (eval_of w (procedure number cs plain) p begun) (λ x. at_once w (eval_of w) no_init (init l (procedure number cs plain) no_init) body p (x ∷ [])) x begun v t
@@ -86,7 +86,7 @@ module _ (w : PlainSetting) (l : Label) (self : same_label l l ≡ true) (number
       x : Value
       x = value.Closure number p
 
-      begun : State
+      begun : WorldState
       begun = with_cell (cell.Scope ((l, None) ∷ []) (Some scope)) s
 
       by : (n : ℕ) → at_once w (eval_of w) no_init (init l (procedure number cs plain) no_init) body p (x ∷ []) begun n ≡ eval_of w body p letrec_state n

@@ -14,7 +14,7 @@ use Rattle.sx_eval.specs.Meaning.{eval_of, expressed, unrolled, operands, in_seq
 use Rattle.sx_eval.specs.Meaning.{op_called}
 use Rattle.sx_eval.specs.Procedures.{first_case, bindings, has_text, text_number, text_body, truth_of}
 use Rattle.sx_eval.specs.Setting.{PlainSetting}
-use Rattle.sx_eval.specs.State.{State, Outcome, done, faulted, unfit, Go, then_do, next_place, with_cell}
+use Rattle.sx_eval.specs.State.{WorldState, Outcome, done, faulted, unfit, Go, then_do, next_place, with_cell}
 use Rattle.sx_eval.proofs.Fuel.{eval_of_is}
 use Rattle.sx_eval_laws.specs.MoreFuel.{MoreIsLeft, LeftIsNotNeeded, FuelFalls}
 use Rattle.sx_eval_laws.specs.Runs.{ByFuel}
@@ -34,13 +34,13 @@ pub record Steady (run : ByFuel) : Type 0 where
   pub more_is : MoreIsLeft run
 
 -- A value comes of a value.
-pub record Parted (p : ByFuel) (go : Go) (v : Value) (t : State) : Type 0 where
+pub record Parted (p : ByFuel) (go : Go) (v : Value) (t : WorldState) : Type 0 where
   pub value : Value
-  pub state : State
+  pub state : WorldState
   pub first : Gives p value state
   pub onward : Gives (go value state) v t
 
-module _ (p : ByFuel) (go : Go) (v : Value) (t : State) (steady : Steady p) (cost : ℕ) (gives : (left : ℕ) → then_do (p (left + cost)) go ≡ done v t left) where
+module _ (p : ByFuel) (go : Go) (v : Value) (t : WorldState) (steady : Steady p) (cost : ℕ) (gives : (left : ℕ) → then_do (p (left + cost)) go ≡ done v t left) where
   parted-by : (o : Outcome) → p (0 + cost) ≡ o → Parted p go v t
   parted-by (done x u m) e = record { value = x; state = u; first = (0 + cost - m, first); onward = (m, onward) }
     where
@@ -57,17 +57,17 @@ module _ (p : ByFuel) (go : Go) (v : Value) (t : State) (steady : Steady p) (cos
   parted-by (faulted f u m) e = let wrong : faulted f u m ≡ done v t 0 = sym (ap (λ o. then_do o go) e) ∙ gives 0 in absurd (cc)
   parted-by unfit e = let wrong : unfit ≡ done v t 0 = sym (ap (λ o. then_do o go) e) ∙ gives 0 in absurd (cc)
 
-parted : (p : ByFuel) (go : Go) (v : Value) (t : State) → Steady p → Gives (λ n. then_do (p n) go) v t → Parted p go v t
+parted : (p : ByFuel) (go : Go) (v : Value) (t : WorldState) → Steady p → Gives (λ n. then_do (p n) go) v t → Parted p go v t
 parted p go v t steady g = parted-by p go v t steady g.0 g.1 (p (0 + g.0)) refl
 
 -- where the first value is known
-known-first : (p : ByFuel) (go : Go) (v x : Value) (t u : State) → Steady p → Gives p x u → Gives (λ n. then_do (p n) go) v t → Gives (go x u) v t
+known-first : (p : ByFuel) (go : Go) (v x : Value) (t u : WorldState) → Steady p → Gives p x u → Gives (λ n. then_do (p n) go) v t → Gives (go x u) v t
 known-first p go v x t u steady h g =
     let i = parted p go v t steady g in
     subst (λ a. Gives (go a u) v t) (gives-one-value p i.value x i.state u i.first h) (subst (λ b. Gives (go i.value b) v t) (gives-one-state p i.value x i.state u i.first h) i.onward)
 
 module _ (w : PlainSetting) where
-  steady : (c : PlainCore) (scope : Place) (s : State) → Steady (eval_of w c scope s)
+  steady : (c : PlainCore) (scope : Place) (s : WorldState) → Steady (eval_of w c scope s)
   steady c scope s = record {
     falls = (everywhere FuelFalls fuel_falls).expressions w c scope s;
     free = (everywhere LeftIsNotNeeded left_is_not_needed).expressions w c scope s;
@@ -75,7 +75,7 @@ module _ (w : PlainSetting) where
   }
 
   -- a unit was spent at the start
-  expressed-by : (c : PlainCore) (scope : Place) (s : State) (v : Value) (t : State) (cost : ℕ) → ((left : ℕ) → eval_of w c scope s (left + cost) ≡ done v t left) → Gives (expressed w (eval_of w) c scope s) v t
+  expressed-by : (c : PlainCore) (scope : Place) (s : WorldState) (v : Value) (t : WorldState) (cost : ℕ) → ((left : ℕ) → eval_of w c scope s (left + cost) ≡ done v t left) → Gives (expressed w (eval_of w) c scope s) v t
   expressed-by c scope s v t zero h =
       let none : 0 + zero ≡ zero = omega arith in
       let wrong : unrolled w (eval_of w) c scope s zero ≡ done v t 0 = ap (λ n. unrolled w (eval_of w) c scope s n) (sym none) ∙ sym (eval_of_is w c scope s (0 + zero)) ∙ h 0 in
@@ -87,42 +87,42 @@ module _ (w : PlainSetting) where
           let e : suc (left + k) ≡ left + suc k = omega arith in
           ap (λ n. unrolled w (eval_of w) c scope s n) e ∙ sym (eval_of_is w c scope s (left + suc k)) ∙ h left
 
-  expressed-gives : (c : PlainCore) (scope : Place) (s : State) (v : Value) (t : State) → Evaluates w c scope s v t → Gives (expressed w (eval_of w) c scope s) v t
+  expressed-gives : (c : PlainCore) (scope : Place) (s : WorldState) (v : Value) (t : WorldState) → Evaluates w c scope s v t → Gives (expressed w (eval_of w) c scope s) v t
   expressed-gives c scope s v t g = expressed-by c scope s v t g.0 g.1
 
   -- Of an `if` whose test is known.
 
-  pub arms-true : (b : Bool) (o p : ByFuel) (v : Value) (t : State) → b ≡ true → Gives (λ n. if b then o n else p n) v t → Gives o v t
+  pub arms-true : (b : Bool) (o p : ByFuel) (v : Value) (t : WorldState) → b ≡ true → Gives (λ n. if b then o n else p n) v t → Gives o v t
   arms-true true o p v t e g = g
   arms-true false o p v t e g = absurd (cc)
 
-  pub arms-false : (b : Bool) (o p : ByFuel) (v : Value) (t : State) → b ≡ false → Gives (λ n. if b then o n else p n) v t → Gives p v t
+  pub arms-false : (b : Bool) (o p : ByFuel) (v : Value) (t : WorldState) → b ≡ false → Gives (λ n. if b then o n else p n) v t → Gives p v t
   arms-false false o p v t e g = g
   arms-false true o p v t e g = absurd (cc)
 
-  pub true-back : (c d e : PlainCore) (scope : Place) (s t u : State) (x v : Value) → Evaluates w c scope s x t → truth_of x ≡ true → Evaluates w (two_armed c d e) scope s v u → Evaluates w d scope t v u
+  pub true-back : (c d e : PlainCore) (scope : Place) (s t u : WorldState) (x v : Value) → Evaluates w c scope s x t → truth_of x ≡ true → Evaluates w (two_armed c d e) scope s v u → Evaluates w d scope t v u
   true-back c d e scope s t u x v test is g =
       arms-true (truth_of x) (eval_of w d scope t) (eval_of w e scope t) v u is
       (known-first (eval_of w c scope s) (two_arms w (eval_of w) d e scope) v x u t (steady c scope s) test (expressed-gives (two_armed c d e) scope s v u g))
 
-  pub false-back : (c d e : PlainCore) (scope : Place) (s t u : State) (x v : Value) → Evaluates w c scope s x t → truth_of x ≡ false → Evaluates w (two_armed c d e) scope s v u → Evaluates w e scope t v u
+  pub false-back : (c d e : PlainCore) (scope : Place) (s t u : WorldState) (x v : Value) → Evaluates w c scope s x t → truth_of x ≡ false → Evaluates w (two_armed c d e) scope s v u → Evaluates w e scope t v u
   false-back c d e scope s t u x v test is g =
       arms-false (truth_of x) (eval_of w d scope t) (eval_of w e scope t) v u is
       (known-first (eval_of w c scope s) (two_arms w (eval_of w) d e scope) v x u t (steady c scope s) test (expressed-gives (two_armed c d e) scope s v u g))
 
   -- Of an `if` whose test isn't known.
-  pub if-back : (c d e : PlainCore) (scope : Place) (s : State) (v : Value) (t : State) → Evaluates w (two_armed c d e) scope s v t → Parted (eval_of w c scope s) (two_arms w (eval_of w) d e scope) v t
+  pub if-back : (c d e : PlainCore) (scope : Place) (s : WorldState) (v : Value) (t : WorldState) → Evaluates w (two_armed c d e) scope s v t → Parted (eval_of w c scope s) (two_arms w (eval_of w) d e scope) v t
   if-back c d e scope s v t g = parted (eval_of w c scope s) (two_arms w (eval_of w) d e scope) v t (steady c scope s) (expressed-gives (two_armed c d e) scope s v t g)
 
   -- Of calls whose operands are known.
 
-  pub call-one-back : (c d : PlainCore) (scope : Place) (s t u q : State) (f x v : Value)
+  pub call-one-back : (c d : PlainCore) (scope : Place) (s t u q : WorldState) (f x v : Value)
       → Evaluates w c scope s f t → Evaluates w d scope t x u → Evaluates w (call c (more d none)) scope s v q → Calls w f (x ∷ []) u v q
   call-one-back c d scope s t u q f x v h k g =
       known-first (eval_of w d scope t) (λ a. operands w (eval_of w) none scope ((f ∷ []) ++ a ∷ [])) v x q u (steady d scope t) k
       (known-first (eval_of w c scope s) (λ a. operands w (eval_of w) (more d none) scope (a ∷ [])) v f q t (steady c scope s) h (expressed-gives (call c (more d none)) scope s v q g))
 
-  pub call-two-back : (c d e : PlainCore) (scope : Place) (s t u q p : State) (f x y v : Value)
+  pub call-two-back : (c d e : PlainCore) (scope : Place) (s t u q p : WorldState) (f x y v : Value)
       → Evaluates w c scope s f t → Evaluates w d scope t x u → Evaluates w e scope u y q → Evaluates w (call c (more d (more e none))) scope s v p → Calls w f (x ∷ y ∷ []) q v p
   call-two-back c d e scope s t u q p f x y v h k j g =
       known-first (eval_of w e scope u) (λ a. operands w (eval_of w) none scope ((f ∷ x ∷ []) ++ a ∷ [])) v y p q (steady e scope u) j
@@ -130,7 +130,7 @@ module _ (w : PlainSetting) where
       (known-first (eval_of w c scope s) (λ a. operands w (eval_of w) (more d (more e none)) scope (a ∷ [])) v f p t (steady c scope s) h
       (expressed-gives (call c (more d (more e none))) scope s v p g)))
 
-  pub call-four-back : (c d e a b : PlainCore) (scope : Place) (s t u q p o l : State) (f x y z k v : Value)
+  pub call-four-back : (c d e a b : PlainCore) (scope : Place) (s t u q p o l : WorldState) (f x y z k v : Value)
       → Evaluates w c scope s f t → Evaluates w d scope t x u → Evaluates w e scope u y q → Evaluates w a scope q z p → Evaluates w b scope p k o
       → Evaluates w (call c (more d (more e (more a (more b none))))) scope s v l → Calls w f (x ∷ y ∷ z ∷ k ∷ []) o v l
   call-four-back c d e a b scope s t u q p o l f x y z k v g h i j m given =
@@ -142,30 +142,30 @@ module _ (w : PlainSetting) where
       (expressed-gives (call c (more d (more e (more a (more b none))))) scope s v l given)))))
 
   -- the first of two expressions gave a value, and the second the value of both
-  pub sequence-back : (c d : PlainCore) (scope : Place) (s : State) (v : Value) (t : State) → Evaluates w (sequence (more c (more d none))) scope s v t
+  pub sequence-back : (c d : PlainCore) (scope : Place) (s : WorldState) (v : Value) (t : WorldState) → Evaluates w (sequence (more c (more d none))) scope s v t
       → Parted (eval_of w c scope s) (λ x. in_sequence w (eval_of w) (more d none) scope) v t
   sequence-back c d scope s v t g =
       parted (eval_of w c scope s) (λ x. in_sequence w (eval_of w) (more d none) scope) v t (steady c scope s) (expressed-gives (sequence (more c (more d none))) scope s v t g)
 
   -- the one operand gave a value, and the call on that the value of all
-  pub argument-back : (c d : PlainCore) (scope : Place) (s t : State) (f v : Value) (q : State) → Evaluates w c scope s f t → Evaluates w (call c (more d none)) scope s v q
+  pub argument-back : (c d : PlainCore) (scope : Place) (s t : WorldState) (f v : Value) (q : WorldState) → Evaluates w c scope s f t → Evaluates w (call c (more d none)) scope s v q
       → Parted (eval_of w d scope t) (λ r. operands w (eval_of w) none scope ((f ∷ []) ++ r ∷ [])) v q
   argument-back c d scope s t f v q h given =
       parted (eval_of w d scope t) (λ r. operands w (eval_of w) none scope ((f ∷ []) ++ r ∷ [])) v q (steady d scope t)
       (known-first (eval_of w c scope s) (λ r. operands w (eval_of w) (more d none) scope (r ∷ [])) v f q t (steady c scope s) h (expressed-gives (call c (more d none)) scope s v q given))
 
   -- a pair is made of what its parts gave
-  pub record Consed (c d : PlainCore) (scope : Place) (s : State) (v : Value) (t : State) : Type 0 where
+  pub record Consed (c d : PlainCore) (scope : Place) (s : WorldState) (v : Value) (t : WorldState) : Type 0 where
     pub car_value : Value
-    pub between : State
+    pub between : WorldState
     pub car_given : Evaluates w c scope s car_value between
     pub cdr_value : Value
-    pub behind : State
+    pub behind : WorldState
     pub cdr_given : Evaluates w d scope between cdr_value behind
     pub value_is : next_pair w behind ≡ v
     pub state_is : with_cell (cell.Pair car_value cdr_value) behind ≡ t
 
-  pub cons-back : (c d : PlainCore) (scope : Place) (s : State) (v : Value) (t : State) → Evaluates w (cons c d) scope s v t → Consed c d scope s v t
+  pub cons-back : (c d : PlainCore) (scope : Place) (s : WorldState) (v : Value) (t : WorldState) → Evaluates w (cons c d) scope s v t → Consed c d scope s v t
   cons-back c d scope s v t g = record {
     car_value = first.value;
     between = first.state;
@@ -196,7 +196,7 @@ module _ (w : PlainSetting) where
 
   -- Of procedures and texts.
 
-  pub case-back : (number : CodeNo) (parent : Place) (args : List Value) (s : State) (code : PlainCode) (f : Formals) (body : PlainCore) (v : Value) (t : State)
+  pub case-back : (number : CodeNo) (parent : Place) (args : List Value) (s : WorldState) (code : PlainCode) (f : Formals) (body : PlainCore) (v : Value) (t : WorldState)
       → code_at w.codes number ≡ Some code → first_case code.cases (length args) ≡ Some (f, body)
       → Gives (procedure_called w (eval_of w) number parent args s) v t
       → Gives (λ n. entered w (eval_of w) body parent s.names n (bindings f.rest f.required args s.cells)) v t
@@ -205,7 +205,7 @@ module _ (w : PlainSetting) where
       gives-same (procedure_called w (eval_of w) number parent args s) (λ n. entered w (eval_of w) body parent s.names n (bindings f.rest f.required args s.cells)) v t
       (λ n. sym (ap (by_code w (eval_of w) parent args s n) is ∙ ap (by_case w (eval_of w) parent args s n) takes)) h
 
-  pub text-back : (op : Op) (args : List Value) (s t u : State) (code : PlainCode) (body : PlainCore) (number : CodeNo) (parent : Place) (v : Value)
+  pub text-back : (op : Op) (args : List Value) (s t u : WorldState) (code : PlainCode) (body : PlainCore) (number : CodeNo) (parent : Place) (v : Value)
       → nat_eq op.0 names.APPLY ≡ false → has_text op.0 ≡ true → code_at w.codes (text_number op.0) ≡ Some code → text_body (Some code) ≡ Some body
       → Evaluates w body (next_place s) (with_cell (cell.Scope [] None) s) (value.Closure number parent) t
       → Calls w (value.Prim op) args s v u → Gives (procedure_called w (eval_of w) number parent args t) v u

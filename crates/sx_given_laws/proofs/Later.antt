@@ -5,75 +5,75 @@ use Rattle.sx_value.proofs.Stored.{keeps_refl, keeps_then, keeps_added}
 use Rattle.sx_value.specs.declared.value.Value.{Value}
 use Rattle.sx_value.specs.declared.cell.Cell.{Cell}
 use Rattle.sx_eval.specs.Setting.{PlainSetting}
-use Rattle.sx_eval.specs.State.{State, with_cell}
-use Rattle.sx_eval_laws.specs.Kept.{Later, EndsLater}
+use Rattle.sx_eval.specs.State.{WorldState, with_cell}
+use Rattle.sx_eval_laws.specs.Kept.{LaterWorld, EndsLater}
 use Rattle.sx_eval_laws.specs.Runs.{ByFuel}
 use Rattle.sx_eval_laws.proofs.Keeping.{keeps-call}
 use Rattle.sx_list_laws.specs.Runs.{IsList}
 use Rattle.sx_list_laws.proofs.RunLemmas.{runs_still}
 use Rattle.sx_given_laws.specs.Calls.{End, Ends, call_of, CallEnds, Calls}
-use Rattle.sx_given_laws.specs.InTurn.{InTurn, no_call, one_call, Stops, stops_here, stops_behind, AllGive, AllEnd, Search, not_there, passed, there, SearchGives, SearchStops, search_stops, search_goes_on, SearchEnds}
+use Rattle.sx_given_laws.specs.InTurn.{InTurn, no_call, one_call, Stops, stops_here, stops_behind, AllGive, AllEnd, SearchCalls, not_there, passed, there, SearchGives, SearchStops, search_stops, search_goes_on, SearchEnds}
 use Rattle.sx_given_laws.proofs.Looking.{later-stay}
 
-pub later-refl : (s : State) → Later s s
+pub later-refl : (s : WorldState) → LaterWorld s s
 later-refl s = record { cells = keeps_refl s.cells; library = refl; names = omega arith }
 
-pub later-then : (r s t : State) → Later r s → Later s t → Later r t
+pub later-then : (r s t : WorldState) → LaterWorld r s → LaterWorld s t → LaterWorld r t
 later-then r s t h k = record { cells = keeps_then r.cells s.cells t.cells h.cells k.cells; library = k.library ∙ h.library; names = omega (arith, h.names, k.names) }
 
 -- a cell more
-pub later-with : (s : State) (c : Cell) → Later s (with_cell c s)
+pub later-with : (s : WorldState) (c : Cell) → LaterWorld s (with_cell c s)
 later-with s c = record { cells = keeps_added s.cells s.cells c (keeps_refl s.cells); library = refl; names = omega arith }
 
-ends-later : (run : ByFuel) (r : End) (s t : State) → ((n : ℕ) → EndsLater s (run n)) → Ends run r t → Later s t
+ends-later : (run : ByFuel) (r : End) (s t : WorldState) → ((n : ℕ) → EndsLater s (run n)) → Ends run r t → LaterWorld s t
 ends-later run (Ok v) s t ends g = subst (EndsLater s) (g.1 0) (ends (0 + g.0))
 ends-later run (Err f) s t ends g = subst (EndsLater s) (g.1 0) (ends (0 + g.0))
 
-pub call-ends-later : (w : PlainSetting) (f : Value) (args : List Value) (s : State) (r : End) (t : State) → CallEnds w f args s r t → Later s t
+pub call-ends-later : (w : PlainSetting) (f : Value) (args : List Value) (s : WorldState) (r : End) (t : WorldState) → CallEnds w f args s r t → LaterWorld s t
 call-ends-later w f args s r t h = ends-later (call_of w f args s) r s t (λ n. keeps-call w (f ∷ args) s n) h
 
-pub calls-later : (w : PlainSetting) (f : Value) (args : List Value) (s : State) (v : Value) (t : State) → Calls w f args s v t → Later s t
+pub calls-later : (w : PlainSetting) (f : Value) (args : List Value) (s : WorldState) (v : Value) (t : WorldState) → Calls w f args s v t → LaterWorld s t
 calls-later w f args s v t h = call-ends-later w f args s (Ok v) t h
 
-pub list-later : (s t : State) → Later s t → (xs : List Value) (x : Value) → IsList s.cells xs x → IsList t.cells xs x
+pub list-later : (s t : WorldState) → LaterWorld s t → (xs : List Value) (x : Value) → IsList s.cells xs x → IsList t.cells xs x
 list-later s t k xs x r = runs_still s.cells t.cells (later-stay s t k) r
 
 module _ (w : PlainSetting) (f : Value) where
   -- Calls in turn, from an earlier state on and to a later one.
 
-  pub in-turn-from : (xs ys : List Value) (r s t : State) → Later r s → InTurn w f xs s ys t → InTurn w f xs r ys t
+  pub in-turn-from : (xs ys : List Value) (r s t : WorldState) → LaterWorld r s → InTurn w f xs s ys t → InTurn w f xs r ys t
   in-turn-from xs ys r s t k (no_call h) = no_call (later-then r s t k h)
   in-turn-from xs ys r s t k (one_call {t = u} h c i) = one_call (later-then r s u k h) c i
 
-  pub in-turn-to : (xs ys : List Value) (s t u : State) → InTurn w f xs s ys t → Later t u → InTurn w f xs s ys u
+  pub in-turn-to : (xs ys : List Value) (s t u : WorldState) → InTurn w f xs s ys t → LaterWorld t u → InTurn w f xs s ys u
   in-turn-to xs ys s t u (no_call h) k = no_call (later-then s t u h k)
   in-turn-to xs ys s t u (one_call {xs = xs'} {ys = ys'} {u = r} h c i) k = one_call h c (in-turn-to xs' ys' r t u i k)
 
-  pub all-give-later : (xs : List Value) (s t : State) → Later s t → AllGive w f xs s → AllGive w f xs t
+  pub all-give-later : (xs : List Value) (s t : WorldState) → LaterWorld s t → AllGive w f xs s → AllGive w f xs t
   all-give-later [] s t k g = tt
   all-give-later (x ∷ xs) s t k g = λ u h. g u (later-then s t u k h)
 
-  pub search-from : (xs rest : List Value) (r s t : State) → Later r s → Search w f xs s rest t → Search w f xs r rest t
+  pub search-from : (xs rest : List Value) (r s t : WorldState) → LaterWorld r s → SearchCalls w f xs s rest t → SearchCalls w f xs r rest t
   search-from xs rest r s t k (not_there h) = not_there (later-then r s t k h)
   search-from xs rest r s t k (passed {t = u} h c e i) = passed (later-then r s u k h) c e i
   search-from xs rest r s t k (there {t = u} h c e i) = there (later-then r s u k h) c e i
 
-  pub search-gives-later : (xs : List Value) (s t : State) → Later s t → SearchGives w f xs s → SearchGives w f xs t
+  pub search-gives-later : (xs : List Value) (s t : WorldState) → LaterWorld s t → SearchGives w f xs s → SearchGives w f xs t
   search-gives-later [] s t k g = tt
   search-gives-later (x ∷ xs) s t k g = λ u h. g u (later-then s t u k h)
 
-  pub stops-from : (xs : List Value) (e : Bare) (r s t : State) → Later r s → Stops w f xs s e t → Stops w f xs r e t
+  pub stops-from : (xs : List Value) (e : Bare) (r s t : WorldState) → LaterWorld r s → Stops w f xs s e t → Stops w f xs r e t
   stops-from xs e r s t k (stops_here {t = u} h c) = stops_here (later-then r s u k h) c
   stops-from xs e r s t k (stops_behind {t = u} h c i) = stops_behind (later-then r s u k h) c i
 
-  pub search-stops-from : (xs : List Value) (e : Bare) (r s t : State) → Later r s → SearchStops w f xs s e t → SearchStops w f xs r e t
+  pub search-stops-from : (xs : List Value) (e : Bare) (r s t : WorldState) → LaterWorld r s → SearchStops w f xs s e t → SearchStops w f xs r e t
   search-stops-from xs e r s t k (search_stops {t = u} h c) = search_stops (later-then r s u k h) c
   search-stops-from xs e r s t k (search_goes_on {t = u} h c e' i) = search_goes_on (later-then r s u k h) c e' i
 
-  pub search-ends-later : (xs : List Value) (s t : State) → Later s t → SearchEnds w f xs s → SearchEnds w f xs t
+  pub search-ends-later : (xs : List Value) (s t : WorldState) → LaterWorld s t → SearchEnds w f xs s → SearchEnds w f xs t
   search-ends-later [] s t k g = tt
   search-ends-later (x ∷ xs) s t k g = λ u h. g u (later-then s t u k h)
 
-  pub all-end-later : (xs : List Value) (s t : State) → Later s t → AllEnd w f xs s → AllEnd w f xs t
+  pub all-end-later : (xs : List Value) (s t : WorldState) → LaterWorld s t → AllEnd w f xs s → AllEnd w f xs t
   all-end-later [] s t k g = tt
   all-end-later (x ∷ xs) s t k g = λ u h. g u (later-then s t u k h)

@@ -5,8 +5,8 @@ use Rattle.sx_value.specs.declared.value.Value.{Value}
 use Rattle.sx_value.specs.declared.value.Value.TheVariants as value
 use Rattle.sx_eval.specs.Procedures.{has_text}
 use Rattle.sx_eval.specs.Setting.{PlainSetting}
-use Rattle.sx_eval.specs.State.{State}
-use Rattle.sx_eval_laws.specs.Kept.{Later}
+use Rattle.sx_eval.specs.State.{WorldState}
+use Rattle.sx_eval_laws.specs.Kept.{LaterWorld}
 use Rattle.sx_list_laws.specs.Runs.{IsList}
 use Rattle.sx_given_laws.specs.Codes.{code_no, filter_loop, find_loop, memp_loop}
 use Rattle.sx_given_laws.specs.Given.{Filters, Finds, first_or_false, FindsTail}
@@ -18,7 +18,7 @@ use Rattle.sx_given_laws.proofs.FilterLoop.{filter-loop}
 use Rattle.sx_given_laws.proofs.FindLoop.{find-loop}
 use Rattle.sx_given_laws.proofs.MempLoop.{memp-loop}
 
-module _ (w : PlainSetting) (knows : Knows w.codes) (f l : Value) (xs : List Value) (s : State) (r : IsList s.cells xs l) where
+module _ (w : PlainSetting) (knows : Knows w.codes) (f l : Value) (xs : List Value) (s : WorldState) (r : IsList s.cells xs l) where
   pub filter-given : AllGive w f xs s → Filters w (value.Prim (record { 0 = names.FILTER })) (f ∷ l ∷ []) f chosen xs s
   unfolding has_text
   filter-given give = record {
@@ -30,10 +30,10 @@ module _ (w : PlainSetting) (knows : Knows w.codes) (f l : Value) (xs : List Val
     list = m.list;
   }
     where
-      at : State
+      at : WorldState
       at = ready w s 60 61
 
-      behind : Later s at
+      behind : LaterWorld s at
       behind = ready-later w s 60 61
 
       m : Filters w (value.Closure (code_no 61) (home_place w s 60 61)) (f ∷ l ∷ []) f chosen xs at
@@ -48,10 +48,10 @@ module _ (w : PlainSetting) (knows : Knows w.codes) (f l : Value) (xs : List Val
     called = loop-by w s 77 78 names.FIND (80 ∷ 81 ∷ []) find_loop refl refl refl (f ∷ l ∷ []) (first_or_false m.rest) m.state knows.find_text refl m.called;
   }
     where
-      at : State
+      at : WorldState
       at = ready w s 77 78
 
-      behind : Later s at
+      behind : LaterWorld s at
       behind = ready-later w s 77 78
 
       m : Finds w (value.Closure (code_no 78) (home_place w s 77 78)) (f ∷ l ∷ []) f xs at
@@ -68,10 +68,10 @@ module _ (w : PlainSetting) (knows : Knows w.codes) (f l : Value) (xs : List Val
     tail = m.tail;
   }
     where
-      at : State
+      at : WorldState
       at = ready w s 85 86
 
-      behind : Later s at
+      behind : LaterWorld s at
       behind = ready-later w s 85 86
 
       m : FindsTail w (value.Closure (code_no 86) (home_place w s 85 86)) (f ∷ l ∷ []) f l xs at

@@ -13,9 +13,9 @@ use Rattle.sx_value.specs.declared.cell.Cell.{Cell}
 use Rattle.sx_value.specs.declared.cell.Cell.TheVariants as cell
 use Rattle.sx_eval.specs.Meaning.{variable_read, variable_value}
 use Rattle.sx_eval.specs.Setting.{PlainSetting}
-use Rattle.sx_eval.specs.State.{State, done}
+use Rattle.sx_eval.specs.State.{WorldState, done}
 use Rattle.sx_eval.specs.Variables.{Entries, entry_in, here_or_up, found, cell_with, assigned_in, assigned}
-use Rattle.sx_eval_laws.specs.Kept.{Later}
+use Rattle.sx_eval_laws.specs.Kept.{LaterWorld}
 use Rattle.sx_list_laws.proofs.RunLemmas.{Stay}
 use Rattle.sx_given_laws.proofs.Giving.{gives-same, gives-done, Evaluates, evaluates-step}
 
@@ -27,7 +27,7 @@ get-below (y ∷ ys) (suc n) x e = let h = get-below ys n x e in omega (arith, h
 pub keeps-stay : (old new : List Cell) → Keeps old new → Stay old new
 keeps-stay old new k n c e = sym (slice_get-released new (length old) n (get-below old n c e)) ∙ ap (λ xs. slice_get xs n) k ∙ e
 
-pub later-stay : (s t : State) → Later s t → Stay s.cells t.cells
+pub later-stay : (s t : WorldState) → LaterWorld s t → Stay s.cells t.cells
 later-stay s t h = keeps-stay s.cells t.cells h.cells
 
 -- so many cells are looked into
@@ -49,11 +49,11 @@ module _ (globals : List (Label × Value)) (cells : List Cell) where
       ap (λ c. here_or_up (entry_in l) (found m globals cells l) c) e ∙ ap (λ o. or_else o (found m globals cells l (Some q))) f ∙ looks-found m r (omega (arith, h))
 
 module _ (w : PlainSetting) where
-  value-read : (l : Label) (p : Place) (s : State) (v : Value) (n : ℕ) → Looks s.cells l v n p → n ≤ suc (length s.cells) → (m : ℕ) → variable_value w l p s m ≡ done v s m
+  value-read : (l : Label) (p : Place) (s : WorldState) (v : Value) (n : ℕ) → Looks s.cells l v n p → n ≤ suc (length s.cells) → (m : ℕ) → variable_value w l p s m ≡ done v s m
   unfolding variable_value
   value-read l p s v n r h m = ap (variable_read w l s m) (looks-found w.globals s.cells (suc (length s.cells)) r h)
 
-  pub variable-is : (l : Label) (p : Place) (s : State) (v : Value) (n : ℕ) → Looks s.cells l v n p → n ≤ suc (length s.cells) → Evaluates w (variable l) p s v s
+  pub variable-is : (l : Label) (p : Place) (s : WorldState) (v : Value) (n : ℕ) → Looks s.cells l v n p → n ≤ suc (length s.cells) → Evaluates w (variable l) p s v s
   variable-is l p s v n r h =
       evaluates-step w (variable l) p s v s (gives-same (λ m. done v s m) (λ m. variable_value w l p s m) v s (value-read l p s v n r h) (gives-done v s))
 

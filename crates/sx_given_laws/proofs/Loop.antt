@@ -12,9 +12,9 @@ use Rattle.sx_prims.specs.Chains.{pair_of, is_nil}
 use Rattle.sx_prims.specs.Lists.{nil}
 use Rattle.sx_eval.specs.Codes.{code_at, procedure_code}
 use Rattle.sx_eval.specs.Setting.{PlainSetting}
-use Rattle.sx_eval.specs.State.{State, next_place, with_cell}
+use Rattle.sx_eval.specs.State.{WorldState, next_place, with_cell}
 use Rattle.sx_eval.specs.Variables.{Entries}
-use Rattle.sx_eval_laws.specs.Kept.{Later}
+use Rattle.sx_eval_laws.specs.Kept.{LaterWorld}
 use Rattle.sx_list_laws.proofs.RunLemmas.{pair_still}
 use Rattle.sx_given_laws.specs.Calls.{End, CallEnds, Calls}
 use Rattle.sx_given_laws.specs.Codes.{label, code_no, var, formals, one_case, app, car, cdr, is_null}
@@ -38,29 +38,29 @@ pub record Names (go m n : ℕ) (home : Entries) (g : Value) : Type 0 where
   pub loop : lookup (same_label (label go)) home ≡ Some (Some g)
 
 module _ (w : PlainSetting) (code go m n : ℕ) (body : PlainCore) (known : code_at w.codes (code_no code) ≡ Some (procedure_code (code_no code) (one_case (m ∷ n ∷ []) None body) true))
-    (p : Place) (home : Entries) (names : Names go m n home (value.Closure (code_no code) p)) (f l : Value) (s : State) (round : Home s.cells p home) where
+    (p : Place) (home : Entries) (names : Names go m n home (value.Closure (code_no code) p)) (f l : Value) (s : WorldState) (round : Home s.cells p home) where
   abbrev g : Value
   g = value.Closure (code_no code) p
 
   -- the state in which the body is evaluated, at the place of the call's cell
-  abbrev pub entered : State
+  abbrev pub entered : WorldState
   entered = with_cell (cell.Scope (two_vars m n f l) (Some p)) s
 
   abbrev q : Place
   q = next_place s
 
-  pub loop-ends : (r : End) (t : State) → ExpressionEnds w body q entered r t → CallEnds w g (f ∷ l ∷ []) s r t
+  pub loop-ends : (r : End) (t : WorldState) → ExpressionEnds w body q entered r t → CallEnds w g (f ∷ l ∷ []) s r t
   loop-ends r t h =
       closure-ends w (code_no code) p (f ∷ l ∷ []) s r t
       (case-ends w (code_no code) p (f ∷ l ∷ []) s (procedure_code (code_no code) (one_case (m ∷ n ∷ []) None body) true) (formals (m ∷ n ∷ []) None) body r t known refl h)
 
-  pub loop-called : (v : Value) (t : State) → Evaluates w body q entered v t → Calls w g (f ∷ l ∷ []) s v t
+  pub loop-called : (v : Value) (t : WorldState) → Evaluates w body q entered v t → Calls w g (f ∷ l ∷ []) s v t
   loop-called v t h = loop-ends (Ok v) t h
 
-  pub entered-later : Later s entered
+  pub entered-later : LaterWorld s entered
   entered-later = later-with s (cell.Scope (two_vars m n f l) (Some p))
 
-  module _ (u : State) (behind : Later entered u) where
+  module _ (u : WorldState) (behind : LaterWorld entered u) where
     inside : Inside u.cells q (two_vars m n f l) p home
     inside = inside-later entered u behind q (two_vars m n f l) p home (entered-inside s (two_vars m n f l) p home round)
 
@@ -87,17 +87,17 @@ module _ (w : PlainSetting) (code go m n : ℕ) (body : PlainCore) (known : code
       rest-read = cdr-is w (var n) q u u l list-read x d pair-then
 
       -- the call on the first element
-      pub first-ends : (r : End) (t : State) → CallEnds w f (x ∷ []) u r t → ExpressionEnds w (app (var m) (car (var n) ∷ [])) q u r t
+      pub first-ends : (r : End) (t : WorldState) → CallEnds w f (x ∷ []) u r t → ExpressionEnds w (app (var m) (car (var n) ∷ [])) q u r t
       first-ends r t h = call-one-ends w (var m) (car (var n)) q u u u t f x r procedure-read first-read h
 
-      pub first-called : (y : Value) (t : State) → Calls w f (x ∷ []) u y t → Evaluates w (app (var m) (car (var n) ∷ [])) q u y t
+      pub first-called : (y : Value) (t : WorldState) → Calls w f (x ∷ []) u y t → Evaluates w (app (var m) (car (var n) ∷ [])) q u y t
       first-called y t h = first-ends (Ok y) t h
 
       -- the loop along the rest
-      pub again-ends : (r : End) (t : State) → CallEnds w g (f ∷ d ∷ []) u r t → ExpressionEnds w (app (var go) (var m ∷ cdr (var n) ∷ [])) q u r t
+      pub again-ends : (r : End) (t : WorldState) → CallEnds w g (f ∷ d ∷ []) u r t → ExpressionEnds w (app (var go) (var m ∷ cdr (var n) ∷ [])) q u r t
       again-ends r t h =
           call-two-ends w (var go) (var m) (cdr (var n)) q u u u u t g f d r
           (outer w u q (two_vars m n f l) p home inside (label go) g (names.no_loop f l) names.loop) procedure-read rest-read h
 
-      pub loop-again : (v : Value) (t : State) → Calls w g (f ∷ d ∷ []) u v t → Evaluates w (app (var go) (var m ∷ cdr (var n) ∷ [])) q u v t
+      pub loop-again : (v : Value) (t : WorldState) → Calls w g (f ∷ d ∷ []) u v t → Evaluates w (app (var go) (var m ∷ cdr (var n) ∷ [])) q u v t
       loop-again v t h = again-ends (Ok v) t h

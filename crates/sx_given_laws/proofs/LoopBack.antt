@@ -11,9 +11,9 @@ use Rattle.sx_prims.specs.Chains.{pair_of}
 use Rattle.sx_eval.specs.Codes.{code_at, procedure_code}
 use Rattle.sx_eval.specs.Procedures.{has_text, text_number}
 use Rattle.sx_eval.specs.Setting.{PlainSetting}
-use Rattle.sx_eval.specs.State.{State, next_place}
+use Rattle.sx_eval.specs.State.{WorldState, next_place}
 use Rattle.sx_eval.specs.Variables.{Entries}
-use Rattle.sx_eval_laws.specs.Kept.{Later}
+use Rattle.sx_eval_laws.specs.Kept.{LaterWorld}
 use Rattle.sx_given_laws.specs.Calls.{Calls}
 use Rattle.sx_given_laws.specs.Codes.{label, code_no, var, formals, one_case, app, car, cdr, text_code}
 use Rattle.sx_given_laws.proofs.Giving.{Evaluates}
@@ -26,34 +26,34 @@ use Rattle.sx_given_laws.proofs.Loop.{Names, two_vars}
 use Rattle.sx_given_laws.proofs.LoopText.{loop_text, outside, home_place, ready, ready-home}
 
 module _ (w : PlainSetting) (code go m n : ℕ) (body : PlainCore) (known : code_at w.codes (code_no code) ≡ Some (procedure_code (code_no code) (one_case (m ∷ n ∷ []) None body) true))
-    (p : Place) (home : Entries) (names : Names go m n home (value.Closure (code_no code) p)) (f l : Value) (s : State) (round : Home s.cells p home) where
-  abbrev at : State
+    (p : Place) (home : Entries) (names : Names go m n home (value.Closure (code_no code) p)) (f l : Value) (s : WorldState) (round : Home s.cells p home) where
+  abbrev at : WorldState
   at = loop.entered w code go m n body known p home names f l s round
 
   abbrev q : Place
   q = next_place s
 
-  pub body-back : (v : Value) (t : State) → Calls w (value.Closure (code_no code) p) (f ∷ l ∷ []) s v t → Evaluates w body q at v t
+  pub body-back : (v : Value) (t : WorldState) → Calls w (value.Closure (code_no code) p) (f ∷ l ∷ []) s v t → Evaluates w body q at v t
   body-back v t h =
       case-back w (code_no code) p (f ∷ l ∷ []) s (procedure_code (code_no code) (one_case (m ∷ n ∷ []) None body) true) (formals (m ∷ n ∷ []) None) body v t known refl
       (closure-back w (code_no code) p (f ∷ l ∷ []) s v t h)
 
-  module _ (u : State) (behind : Later at u) (x d : Value) (pair : pair_of s.cells l ≡ Some (x, d)) where
-    pub first-back : (y : Value) (t : State) → Evaluates w (app (var m) (car (var n) ∷ [])) q u y t → Calls w f (x ∷ []) u y t
+  module _ (u : WorldState) (behind : LaterWorld at u) (x d : Value) (pair : pair_of s.cells l ≡ Some (x, d)) where
+    pub first-back : (y : Value) (t : WorldState) → Evaluates w (app (var m) (car (var n) ∷ [])) q u y t → Calls w f (x ∷ []) u y t
     first-back y t h =
         call-one-back w (var m) (car (var n)) q u u u t f x y (loop.procedure-read w code go m n body known p home names f l s round u behind)
         (loop.first-read w code go m n body known p home names f l s round u behind x d pair) h
 
-    pub again-back : (v : Value) (t : State) → Evaluates w (app (var go) (var m ∷ cdr (var n) ∷ [])) q u v t → Calls w (value.Closure (code_no code) p) (f ∷ d ∷ []) u v t
+    pub again-back : (v : Value) (t : WorldState) → Evaluates w (app (var go) (var m ∷ cdr (var n) ∷ [])) q u v t → Calls w (value.Closure (code_no code) p) (f ∷ d ∷ []) u v t
     again-back v t h =
         call-two-back w (var go) (var m) (cdr (var n)) q u u u u t (value.Closure (code_no code) p) f d v
         (outer w u q (two_vars m n f l) p home (inside-later at u behind q (two_vars m n f l) p home (entered-inside s (two_vars m n f l) p home round)) (label go) (value.Closure (code_no code) p) (names.no_loop f l) names.loop)
         (loop.procedure-read w code go m n body known p home names f l s round u behind)
         (loop.rest-read w code go m n body known p home names f l s round u behind x d pair) h
 
-module _ (w : PlainSetting) (s : State) (go code op : ℕ) (ns : List ℕ) (body : PlainCore) (self : same_label (label go) (label go) ≡ true) (other : nat_eq op APPLY ≡ false) (yes_text : has_text op ≡ true) where
+module _ (w : PlainSetting) (s : WorldState) (go code op : ℕ) (ns : List ℕ) (body : PlainCore) (self : same_label (label go) (label go) ≡ true) (other : nat_eq op APPLY ≡ false) (yes_text : has_text op ≡ true) where
   -- the procedure of the `letrec` was called
-  pub loop-back : (args : List Value) (v : Value) (t : State)
+  pub loop-back : (args : List Value) (v : Value) (t : WorldState)
       → code_at w.codes (text_number op) ≡ Some (text_code op (loop_text go code ns body (var go)))
       → lookup (same_label (label go)) (one_home (label go) (code_no code) (home_place w s go code)) ≡ Some (Some (value.Closure (code_no code) (home_place w s go code)))
       → Calls w (value.Prim (record { 0 = op })) args s v t → Calls w (value.Closure (code_no code) (home_place w s go code)) args (ready w s go code) v t

@@ -13,8 +13,8 @@ use Rattle.sx_eval.specs.Codes.{code_at}
 use Rattle.sx_eval.specs.Meaning.{eval_of, procedure_called}
 use Rattle.sx_eval.specs.Procedures.{has_text, text_number}
 use Rattle.sx_eval.specs.Setting.{PlainSetting}
-use Rattle.sx_eval.specs.State.{State, next_place, with_cell}
-use Rattle.sx_eval_laws.specs.Kept.{Later}
+use Rattle.sx_eval.specs.State.{WorldState, next_place, with_cell}
+use Rattle.sx_eval_laws.specs.Kept.{LaterWorld}
 use Rattle.sx_given_laws.specs.Calls.{End, Ends, CallEnds, Calls}
 use Rattle.sx_given_laws.specs.Codes.{label, code_no, var, lambda, one_case, text_code}
 use Rattle.sx_given_laws.proofs.Giving.{Evaluates}
@@ -26,25 +26,25 @@ use Rattle.sx_given_laws.proofs.Later.{later-then, later-with}
 abbrev pub loop_text : ℕ → ℕ → List ℕ → PlainCore → PlainCore → PlainCore
 loop_text go code formals loop body = letrec false (init (label go) (lambda code formals None loop) no_init) body
 
-module _ (w : PlainSetting) (s : State) (go code : ℕ) where
-  abbrev pub outside : State
+module _ (w : PlainSetting) (s : WorldState) (go code : ℕ) where
+  abbrev pub outside : WorldState
   outside = with_cell (cell.Scope [] None) s
 
   abbrev pub home_place : Place
   home_place = next_place outside
 
-  abbrev pub ready : State
+  abbrev pub ready : WorldState
   ready = with_cell (cell.Scope (one_home (label go) (code_no code) home_place) (Some (next_place s))) outside
 
   pub ready-home : Home ready.cells home_place (one_home (label go) (code_no code) home_place)
   ready-home = record { around = Some (next_place s); is = slice_get-added outside.cells (cell.Scope (one_home (label go) (code_no code) home_place) (Some (next_place s))) }
 
-  pub ready-later : Later s ready
+  pub ready-later : LaterWorld s ready
   ready-later = later-then s outside ready (later-with s (cell.Scope [] None)) (later-with outside (cell.Scope (one_home (label go) (code_no code) home_place) (Some (next_place s))))
 
   module _ (op : ℕ) (formals : List ℕ) (loop : PlainCore) (self : same_label (label go) (label go) ≡ true) (other : nat_eq op names.APPLY ≡ false) (yes : has_text op ≡ true) where
     -- the text gives a procedure, which is called
-    pub text-by-ends : (body : PlainCore) (number : ℕ) (args : List Value) (r : End) (t : State)
+    pub text-by-ends : (body : PlainCore) (number : ℕ) (args : List Value) (r : End) (t : WorldState)
         → code_at w.codes (text_number op) ≡ Some (text_code op (loop_text go code formals loop body))
         → Evaluates w body home_place ready (value.Closure (code_no number) home_place) ready
         → Ends (procedure_called w (eval_of w) (code_no number) home_place args ready) r t
@@ -54,7 +54,7 @@ module _ (w : PlainSetting) (s : State) (go code : ℕ) where
         (letrec-is w (label go) self (code_no code) (one_case formals None loop) true body (next_place s) outside (value.Closure (code_no number) home_place) ready is) h
 
     -- the procedure of the `letrec` itself
-    pub loop-by-ends : (args : List Value) (r : End) (t : State)
+    pub loop-by-ends : (args : List Value) (r : End) (t : WorldState)
         → code_at w.codes (text_number op) ≡ Some (text_code op (loop_text go code formals loop (var go)))
         → lookup (same_label (label go)) (one_home (label go) (code_no code) home_place) ≡ Some (Some (value.Closure (code_no code) home_place))
         → CallEnds w (value.Closure (code_no code) home_place) args ready r t
@@ -64,7 +64,7 @@ module _ (w : PlainSetting) (s : State) (go code : ℕ) where
         (variable-is w (label go) home_place ready (value.Closure (code_no code) home_place) 1 (in_cell ready-home.is found) (omega arith))
         (closure-ends-back w (code_no code) home_place args ready r t h)
 
-    pub loop-by : (args : List Value) (v : Value) (t : State)
+    pub loop-by : (args : List Value) (v : Value) (t : WorldState)
         → code_at w.codes (text_number op) ≡ Some (text_code op (loop_text go code formals loop (var go)))
         → lookup (same_label (label go)) (one_home (label go) (code_no code) home_place) ≡ Some (Some (value.Closure (code_no code) home_place))
         → Calls w (value.Closure (code_no code) home_place) args ready v t

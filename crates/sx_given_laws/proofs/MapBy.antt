@@ -3,7 +3,7 @@ use Rattle.std.proofs.Common.{List, [], ◌∷◌, subst}
 use Rattle.sx_base.specs.declared.op.names.TheConstants as names
 use Rattle.sx_value.specs.declared.value.Value.{Value}
 use Rattle.sx_eval.specs.Setting.{PlainSetting}
-use Rattle.sx_eval.specs.State.{State}
+use Rattle.sx_eval.specs.State.{WorldState}
 use Rattle.sx_list_laws.specs.Runs.{IsList}
 use Rattle.sx_given_laws.specs.Given.{built_in, Maps, MapsBy}
 use Rattle.sx_given_laws.specs.InTurn.{AllGiveBy}
@@ -11,7 +11,7 @@ use Rattle.sx_given_laws.proofs.Knows.{Knows}
 use Rattle.sx_given_laws.proofs.MapText.{map-given}
 use Rattle.sx_given_laws.proofs.Unique.{by-all, by-answers}
 
-pub map-by : (w : PlainSetting) (knows : Knows w.codes) (f l : Value) (g : Value → Value) (xs : List Value) (s : State) → IsList s.cells xs l → AllGiveBy w f g xs s
+pub map-by : (w : PlainSetting) (knows : Knows w.codes) (f l : Value) (g : Value → Value) (xs : List Value) (s : WorldState) → IsList s.cells xs l → AllGiveBy w f g xs s
     → MapsBy w (built_in names.MAP) (f ∷ l ∷ []) g xs s
 map-by w knows f l g xs s r give = record {
   value = m.value;

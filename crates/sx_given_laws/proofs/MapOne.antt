@@ -16,9 +16,9 @@ use Rattle.sx_prims.specs.Chains.{pair_of}
 use Rattle.sx_prims.specs.Lists.{nil}
 use Rattle.sx_eval.specs.Codes.{code_at, procedure_code}
 use Rattle.sx_eval.specs.Setting.{PlainSetting}
-use Rattle.sx_eval.specs.State.{State, next_place, with_cell}
+use Rattle.sx_eval.specs.State.{WorldState, next_place, with_cell}
 use Rattle.sx_eval.specs.Variables.{Entries}
-use Rattle.sx_eval_laws.specs.Kept.{Later}
+use Rattle.sx_eval_laws.specs.Kept.{LaterWorld}
 use Rattle.sx_list_laws.specs.Runs.{here, next, IsList}
 use Rattle.sx_list_laws.proofs.RunLemmas.{stay_added, pair_still, runs_still}
 use Rattle.sx_given_laws.specs.Calls.{End, call_of, CallEnds, Calls}
@@ -47,7 +47,7 @@ pub list-more : (cells : List Cell) (y x : Value) (ys : List Value) → IsList c
 list-more cells y x ys r = next (ap pair_in (slice_get-added cells (cell.Pair y x))) (runs_still cells (cells ++ cell.Pair y x ∷ []) (stay_added cells (cell.Pair y x)) r)
 
 -- a pair is one still
-pub pair-later : (s : State) (c : Cell) (x y d : Value) → pair_of s.cells x ≡ Some (y, d) → pair_of (with_cell c s).cells x ≡ Some (y, d)
+pub pair-later : (s : WorldState) (c : Cell) (x y d : Value) → pair_of s.cells x ≡ Some (y, d) → pair_of (with_cell c s).cells x ≡ Some (y, d)
 pair-later s c x y d e = pair_still s.cells (s.cells ++ c ∷ []) (stay_added s.cells c) x y d e
 
 -- the cell of the two procedures in the text of `map`
@@ -58,28 +58,28 @@ module _ (w : PlainSetting) (known : code_at w.codes (code_no 4) ≡ Some (proce
   abbrev g : Value
   g = value.Closure (code_no 4) p
 
-  abbrev MapGives : List Value → Value → State → Type 0
+  abbrev MapGives : List Value → Value → WorldState → Type 0
   MapGives xs l s = Maps w g (f ∷ l ∷ []) f xs s
 
-  abbrev Faulted : List Value → Value → State → Type 0
+  abbrev Faulted : List Value → Value → WorldState → Type 0
   Faulted xs l s = Faults w g (f ∷ l ∷ []) f xs s
 
   abbrev vars : Value → Entries
   vars l = (label 6, Some f) ∷ (label 7, Some l) ∷ []
 
-  abbrev begun : Value → State → State
+  abbrev begun : Value → WorldState → WorldState
   begun l s = with_cell (cell.Scope (vars l) (Some p)) s
 
   -- the call, by its body
-  body-ends : (l : Value) (s : State) (r : End) (t : State) → ExpressionEnds w map_one (next_place s) (begun l s) r t → CallEnds w g (f ∷ l ∷ []) s r t
+  body-ends : (l : Value) (s : WorldState) (r : End) (t : WorldState) → ExpressionEnds w map_one (next_place s) (begun l s) r t → CallEnds w g (f ∷ l ∷ []) s r t
   body-ends l s r t h =
       closure-ends w (code_no 4) p (f ∷ l ∷ []) s r t
       (case-ends w (code_no 4) p (f ∷ l ∷ []) s (procedure_code (code_no 4) (one_case (6 ∷ 7 ∷ []) None map_one) true) (formals (6 ∷ 7 ∷ []) None) map_one r t known refl h)
 
-  body-called : (l : Value) (s : State) (v : Value) (t : State) → Evaluates w map_one (next_place s) (begun l s) v t → Calls w g (f ∷ l ∷ []) s v t
+  body-called : (l : Value) (s : WorldState) (v : Value) (t : WorldState) → Evaluates w map_one (next_place s) (begun l s) v t → Calls w g (f ∷ l ∷ []) s v t
   body-called l s v t h = body-ends l s (Ok v) t h
 
-  nothing : (s : State) → Home s.cells p (map_home p) → MapGives [] nil s
+  nothing : (s : WorldState) → Home s.cells p (map_home p) → MapGives [] nil s
   nothing s home = record {
     value = nil;
     state = s1;
@@ -90,7 +90,7 @@ module _ (w : PlainSetting) (known : code_at w.codes (code_no 4) ≡ Some (proce
     list = here;
   }
     where
-      s1 : State
+      s1 : WorldState
       s1 = begun nil s
 
       q : Place
@@ -99,14 +99,14 @@ module _ (w : PlainSetting) (known : code_at w.codes (code_no 4) ≡ Some (proce
       inside : Inside s1.cells q (vars nil) p (map_home p)
       inside = entered-inside s (vars nil) p (map_home p) home
 
-  module _ (x l d : Value) (xs : List Value) (s : State) (home : Home s.cells p (map_home p)) (pair : pair_of s.cells l ≡ Some (x, d)) where
-    abbrev at : State
+  module _ (x l d : Value) (xs : List Value) (s : WorldState) (home : Home s.cells p (map_home p)) (pair : pair_of s.cells l ≡ Some (x, d)) where
+    abbrev at : WorldState
     at = begun l s
 
     abbrev q : Place
     q = next_place s
 
-    enter : Later s at
+    enter : LaterWorld s at
     enter = later-with s (cell.Scope (vars l) (Some p))
 
     inside : Inside at.cells q (vars l) p (map_home p)
@@ -119,16 +119,16 @@ module _ (w : PlainSetting) (known : code_at w.codes (code_no 4) ≡ Some (proce
     list-read = own w at q (vars l) p (map_home p) inside (label 7) l refl
 
     -- what the pair's making ends with, the whole ends with
-    by-cons : (r : End) (t : State) → ExpressionEnds w (cons map_first map_others) q at r t → CallEnds w g (f ∷ l ∷ []) s r t
+    by-cons : (r : End) (t : WorldState) → ExpressionEnds w (cons map_first map_others) q at r t → CallEnds w g (f ∷ l ∷ []) s r t
     by-cons r t h =
         body-ends l s r t
         (false-ends w _ _ _ q at at t (truth false) r (null-is w (var 7) q at at l list-read false (pair-not-nil at.cells l x d pair-at)) refl h)
 
-    first-ends : (r : End) (u : State) → CallEnds w f (x ∷ []) at r u → ExpressionEnds w map_first q at r u
+    first-ends : (r : End) (u : WorldState) → CallEnds w f (x ∷ []) at r u → ExpressionEnds w map_first q at r u
     first-ends r u h = call-one-ends w (var 6) (car (var 7)) q at at at u f x r (own w at q (vars l) p (map_home p) inside (label 6) f refl) (car-is w (var 7) q at at l list-read x d pair-at) h
 
     -- the call faults
-    stops-here : (e : Bare) (u : State) → CallEnds w f (x ∷ []) at (Err e) u → Faulted (x ∷ xs) l s
+    stops-here : (e : Bare) (u : WorldState) → CallEnds w f (x ∷ []) at (Err e) u → Faulted (x ∷ xs) l s
     stops-here e u h = record {
       fault = e;
       state = u;
@@ -138,8 +138,8 @@ module _ (w : PlainSetting) (known : code_at w.codes (code_no 4) ≡ Some (proce
       stops = stops_here enter h;
     }
 
-    module _ (y : Value) (u : State) (called : Calls w f (x ∷ []) at y u) where
-      behind : Later at u
+    module _ (y : Value) (u : WorldState) (called : Calls w f (x ∷ []) at y u) where
+      behind : LaterWorld at u
       behind = calls-later w f (x ∷ []) at y u called
 
       inside-then : Inside u.cells q (vars l) p (map_home p)
@@ -148,7 +148,7 @@ module _ (w : PlainSetting) (known : code_at w.codes (code_no 4) ≡ Some (proce
       pair-then : pair_of u.cells l ≡ Some (x, d)
       pair-then = pair_still at.cells u.cells (later-stay at u behind) l x d pair-at
 
-      others-end : (r : End) (t : State) → CallEnds w g (f ∷ d ∷ []) u r t → ExpressionEnds w map_others q u r t
+      others-end : (r : End) (t : WorldState) → CallEnds w g (f ∷ d ∷ []) u r t → ExpressionEnds w map_others q u r t
       others-end r t h =
           call-two-ends w (var 2) (var 6) (cdr (var 7)) q u u u u t g f d r
           (outer w u q (vars l) p (map_home p) inside-then (label 2) g refl refl)
@@ -180,15 +180,15 @@ module _ (w : PlainSetting) (known : code_at w.codes (code_no 4) ≡ Some (proce
       }
 
     -- by the end of the call
-    ends-by : (r : End) (u : State) → CallEnds w f (x ∷ []) at r u → AfterValue r (AllEnd w f xs u)
-        → ((v : State) → Later s v → AllEnd w f xs v → MapGives xs d v ⊎ Faulted xs d v) → MapGives (x ∷ xs) l s ⊎ Faulted (x ∷ xs) l s
+    ends-by : (r : End) (u : WorldState) → CallEnds w f (x ∷ []) at r u → AfterValue r (AllEnd w f xs u)
+        → ((v : WorldState) → LaterWorld s v → AllEnd w f xs v → MapGives xs d v ⊎ Faulted xs d v) → MapGives (x ∷ xs) l s ⊎ Faulted (x ∷ xs) l s
     ends-by (Ok y) u h a again = elim (again u (later-then s at u enter (calls-later w f (x ∷ []) at y u h)) a) [
       | inl m ↦ inl (some y u h m)
       | inr m ↦ inr (stops-behind y u h m)
     ]
     ends-by (Err e) u h a again = inr (stops-here e u h)
 
-  pub map-one : (xs : List Value) (l : Value) (s : State) → Home s.cells p (map_home p) → IsList s.cells xs l → AllGive w f xs s → MapGives xs l s
+  pub map-one : (xs : List Value) (l : Value) (s : WorldState) → Home s.cells p (map_home p) → IsList s.cells xs l → AllGive w f xs s → MapGives xs l s
   map-one [] l s home r give = subst (λ x. MapGives [] x s) (sym (list-none r)) (nothing s home)
   map-one (x ∷ xs) l s home r give =
       let c = list-some r in
@@ -198,7 +198,7 @@ module _ (w : PlainSetting) (known : code_at w.codes (code_no 4) ≡ Some (proce
       (map-one xs c.0 made.1 (home-later s made.1 behind p (map_home p) home) (list-later s made.1 behind xs c.0 c.2) made.3)
 
   -- with faults
-  pub map-ends : (xs : List Value) (l : Value) (s : State) → Home s.cells p (map_home p) → IsList s.cells xs l → AllEnd w f xs s → MapGives xs l s ⊎ Faulted xs l s
+  pub map-ends : (xs : List Value) (l : Value) (s : WorldState) → Home s.cells p (map_home p) → IsList s.cells xs l → AllEnd w f xs s → MapGives xs l s ⊎ Faulted xs l s
   map-ends [] l s home r give = inl (subst (λ x. MapGives [] x s) (sym (list-none r)) (nothing s home))
   map-ends (x ∷ xs) l s home r give =
       let c = list-some r in
@@ -208,17 +208,17 @@ module _ (w : PlainSetting) (known : code_at w.codes (code_no 4) ≡ Some (proce
 
   -- What a call that gave a value did.
 
-  only-some : (x l d : Value) (xs : List Value) (s : State) (v : Value) (t : State) → Home s.cells p (map_home p) → pair_of s.cells l ≡ Some (x, d) → Calls w g (f ∷ l ∷ []) s v t
-      → ((u : State) → Later s u → (y : Value) (q : State) → Calls w g (f ∷ d ∷ []) u y q → Mapped w f xs u y q) → Mapped w f (x ∷ xs) s v t
+  only-some : (x l d : Value) (xs : List Value) (s : WorldState) (v : Value) (t : WorldState) → Home s.cells p (map_home p) → pair_of s.cells l ≡ Some (x, d) → Calls w g (f ∷ l ∷ []) s v t
+      → ((u : WorldState) → LaterWorld s u → (y : Value) (q : WorldState) → Calls w g (f ∷ d ∷ []) u y q → Mapped w f xs u y q) → Mapped w f (x ∷ xs) s v t
   only-some x l d xs s v t home pair called again = record {
     answers = made.car_value ∷ rest.answers;
     in_turn = subst (λ a. InTurn w f (x ∷ xs) s (made.car_value ∷ rest.answers) a) made.state_is
         (one_call (enter x l d xs s home pair) first (in-turn-to w f xs rest.answers made.between made.behind after rest.in_turn (later-with made.behind (cell.Pair made.car_value made.cdr_value))));
-    list = subst (λ (a : State). IsList a.cells (made.car_value ∷ rest.answers) v) made.state_is
+    list = subst (λ (a : WorldState). IsList a.cells (made.car_value ∷ rest.answers) v) made.state_is
         (subst (λ b. IsList after.cells (made.car_value ∷ rest.answers) b) made.value_is (list-more made.behind.cells made.car_value made.cdr_value rest.answers rest.list));
   }
     where
-      start : State
+      start : WorldState
       start = begun l s
 
       place : Place
@@ -235,7 +235,7 @@ module _ (w : PlainSetting) (known : code_at w.codes (code_no 4) ≡ Some (proce
           (false-back w _ _ _ place start start t (truth false) v
           (null-is w (var 7) place start start l (list-read x l d xs s home pair) false (pair-not-nil start.cells l x d (pair-at x l d xs s home pair))) refl body)
 
-      after : State
+      after : WorldState
       after = with_cell (cell.Pair made.car_value made.cdr_value) made.behind
 
       first : Calls w f (x ∷ []) start made.car_value made.between
@@ -258,7 +258,7 @@ module _ (w : PlainSetting) (known : code_at w.codes (code_no 4) ≡ Some (proce
       rest : Mapped w f xs made.between made.cdr_value made.behind
       rest = again made.between (later-then s start made.between (enter x l d xs s home pair) (calls-later w f (x ∷ []) start made.car_value made.between first)) made.cdr_value made.behind others
 
-  pub only-one : (xs : List Value) (l : Value) (s : State) (v : Value) (t : State) → Home s.cells p (map_home p) → IsList s.cells xs l → Calls w g (f ∷ l ∷ []) s v t → Mapped w f xs s v t
+  pub only-one : (xs : List Value) (l : Value) (s : WorldState) (v : Value) (t : WorldState) → Home s.cells p (map_home p) → IsList s.cells xs l → Calls w g (f ∷ l ∷ []) s v t → Mapped w f xs s v t
   only-one [] l s v t home r called =
       let m : MapGives [] l s = subst (λ x. MapGives [] x s) (sym (list-none r)) (nothing s home) in
       let value_is = gives-one-value (call_of w g (f ∷ l ∷ []) s) m.value v m.state t m.called called in
@@ -266,7 +266,7 @@ module _ (w : PlainSetting) (known : code_at w.codes (code_no 4) ≡ Some (proce
       record {
         answers = m.answers;
         in_turn = subst (λ a. InTurn w f [] s m.answers a) state_is m.in_turn;
-        list = subst (λ (a : State). IsList a.cells m.answers v) state_is (subst (λ b. IsList m.state.cells m.answers b) value_is m.list);
+        list = subst (λ (a : WorldState). IsList a.cells m.answers v) state_is (subst (λ b. IsList m.state.cells m.answers b) value_is m.list);
       }
   only-one (x ∷ xs) l s v t home r called =
       let c = list-some r in

@@ -15,9 +15,9 @@ use Rattle.sx_eval.specs.Codes.{procedure_code}
 use Rattle.sx_eval.specs.Meaning.{eval_of, at_once}
 use Rattle.sx_eval.specs.Procedures.{has_text}
 use Rattle.sx_eval.specs.Setting.{PlainSetting}
-use Rattle.sx_eval.specs.State.{State, store, next_place, with_cell}
+use Rattle.sx_eval.specs.State.{WorldState, store, next_place, with_cell}
 use Rattle.sx_eval.specs.Variables.{Entries, cell_with, assigned}
-use Rattle.sx_eval_laws.specs.Kept.{Later}
+use Rattle.sx_eval_laws.specs.Kept.{LaterWorld}
 use Rattle.sx_list_laws.specs.Runs.{IsList}
 use Rattle.sx_given_laws.specs.Calls.{End, CallEnds, Calls}
 use Rattle.sx_given_laws.specs.Codes.{label, code_no, var, formals, one_case, lambda, text_code, map_one, map_many, map_body, map_text}
@@ -33,14 +33,14 @@ use Rattle.sx_given_laws.proofs.MapOne.{map_home, map-one, map-ends, only-one}
 use Rattle.sx_given_laws.proofs.Inverting.{true-back, call-two-back, case-back, text-back}
 use Rattle.sx_given_laws.proofs.Knows.{Knows}
 
-module _ (w : PlainSetting) (s : State) where
-  abbrev outside : State
+module _ (w : PlainSetting) (s : WorldState) where
+  abbrev outside : WorldState
   outside = with_cell (cell.Scope [] None) s
 
   abbrev home_place : Place
   home_place = next_place outside
 
-  abbrev ready : State
+  abbrev ready : WorldState
   ready = with_cell (cell.Scope (map_home home_place) (Some (next_place s))) outside
 
   abbrev inits : PlainInits
@@ -77,7 +77,7 @@ module _ (w : PlainSetting) (s : State) where
       y : Value
       y = value.Closure (code_no 9) p
 
-      begun : State
+      begun : WorldState
       begun = with_cell unset_cell outside
 
       by : (n : ℕ) → at_once w (eval_of w) no_init inits body p (x ∷ y ∷ []) begun n ≡ eval_of w body p ready n
@@ -89,10 +89,10 @@ module _ (w : PlainSetting) (s : State) where
     abbrev vars : Entries
     vars = (label 17, Some f) ∷ (label 18, Some l) ∷ (label 19, Some nil) ∷ []
 
-    abbrev inner : State
+    abbrev inner : WorldState
     inner = with_cell (cell.Scope vars (Some home_place)) ready
 
-    body-ends : (r : End) (t : State) → ExpressionEnds w map_body (next_place ready) inner r t → CallEnds w (value.Prim (record { 0 = names.MAP })) (f ∷ l ∷ []) s r t
+    body-ends : (r : End) (t : WorldState) → ExpressionEnds w map_body (next_place ready) inner r t → CallEnds w (value.Prim (record { 0 = names.MAP })) (f ∷ l ∷ []) s r t
     unfolding has_text
     body-ends r t h =
         text-ends w (record { 0 = names.MAP }) (f ∷ l ∷ []) s ready t (text_code names.MAP map_text) map_text (code_no 15) home_place r refl refl knows.map_text refl text-is
@@ -101,7 +101,7 @@ module _ (w : PlainSetting) (s : State) where
     abbrev q : Place
     q = next_place ready
 
-    behind : Later s inner
+    behind : LaterWorld s inner
     behind =
         later-then s outside inner (later-with s (cell.Scope [] None))
         (later-then outside ready inner (later-with outside (cell.Scope (map_home home_place) (Some (next_place s)))) (later-with ready (cell.Scope vars (Some home_place))))
@@ -116,7 +116,7 @@ module _ (w : PlainSetting) (s : State) where
     home-inner = record { around = inside.around; is = inside.home }
 
     -- the loop along the list is called
-    loop-ends : (r : End) (t : State) → CallEnds w (value.Closure (code_no 4) home_place) (f ∷ l ∷ []) inner r t → CallEnds w (value.Prim (record { 0 = names.MAP })) (f ∷ l ∷ []) s r t
+    loop-ends : (r : End) (t : WorldState) → CallEnds w (value.Closure (code_no 4) home_place) (f ∷ l ∷ []) inner r t → CallEnds w (value.Prim (record { 0 = names.MAP })) (f ∷ l ∷ []) s r t
     loop-ends r t h =
         body-ends r t
         (true-ends w _ _ _ q inner inner t (truth true) r
@@ -154,7 +154,7 @@ module _ (w : PlainSetting) (s : State) where
     ]
 
     -- what a call that gave a value did
-    pub map-only : (xs : List Value) (v : Value) (t : State) → IsList s.cells xs l → Calls w (value.Prim (record { 0 = names.MAP })) (f ∷ l ∷ []) s v t → Mapped w f xs s v t
+    pub map-only : (xs : List Value) (v : Value) (t : WorldState) → IsList s.cells xs l → Calls w (value.Prim (record { 0 = names.MAP })) (f ∷ l ∷ []) s v t → Mapped w f xs s v t
     unfolding has_text
     map-only xs v t r called = record { answers = m.answers; in_turn = in-turn-from w f xs m.answers s inner t behind m.in_turn; list = m.list }
       where

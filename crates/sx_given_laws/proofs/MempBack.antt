@@ -10,14 +10,14 @@ use Rattle.sx_eval.specs.Codes.{code_at, procedure_code}
 use Rattle.sx_eval.specs.Meaning.{eval_of, two_arms}
 use Rattle.sx_eval.specs.Procedures.{has_text, truth_of}
 use Rattle.sx_eval.specs.Setting.{PlainSetting}
-use Rattle.sx_eval.specs.State.{State, next_place}
+use Rattle.sx_eval.specs.State.{WorldState, next_place}
 use Rattle.sx_eval.specs.Variables.{Entries}
-use Rattle.sx_eval_laws.specs.Kept.{Later}
+use Rattle.sx_eval_laws.specs.Kept.{LaterWorld}
 use Rattle.sx_list_laws.specs.Runs.{IsList}
 use Rattle.sx_given_laws.specs.Calls.{call_of, Calls}
 use Rattle.sx_given_laws.specs.Codes.{label, code_no, var, one_case, app, car, cdr, memp_some, memp_loop}
 use Rattle.sx_given_laws.specs.Given.{FindsTail, TailFound, IsTail}
-use Rattle.sx_given_laws.specs.InTurn.{Search, passed, there}
+use Rattle.sx_given_laws.specs.InTurn.{SearchCalls, passed, there}
 use Rattle.sx_given_laws.proofs.Giving.{Evaluates}
 use Rattle.sx_given_laws.proofs.MempLoop.{memp-loop, longer}
 use Rattle.sx_given_laws.proofs.FindLoop.{by-truth}
@@ -45,15 +45,15 @@ module _ (w : PlainSetting) (known : code_at w.codes (code_no 86) ≡ Some (proc
   names : Names 85 88 89 home g
   names = record { procedure = λ f l. refl; list = λ f l. refl; no_loop = λ f l. refl; loop = refl }
 
-  module _ (x l d : Value) (xs : List Value) (s : State) (round : Home s.cells p home) (pair : pair_of s.cells l ≡ Some (x, d)) (v : Value) (t : State) (called : Calls w g (f ∷ l ∷ []) s v t)
-      (again : (u : State) → Later s u → (y : Value) (r : State) → Calls w g (f ∷ d ∷ []) u y r → TailFound w f d xs u y r) where
-    abbrev at : State
+  module _ (x l d : Value) (xs : List Value) (s : WorldState) (round : Home s.cells p home) (pair : pair_of s.cells l ≡ Some (x, d)) (v : Value) (t : WorldState) (called : Calls w g (f ∷ l ∷ []) s v t)
+      (again : (u : WorldState) → LaterWorld s u → (y : Value) (r : WorldState) → Calls w g (f ∷ d ∷ []) u y r → TailFound w f d xs u y r) where
+    abbrev at : WorldState
     at = loop.entered w 86 85 88 89 memp_loop known p home names f l s round
 
     abbrev q : Place
     q = next_place s
 
-    enter : Later s at
+    enter : LaterWorld s at
     enter = loop.entered-later w 86 85 88 89 memp_loop known p home names f l s round
 
     choice : Evaluates w memp_some q at v t
@@ -67,17 +67,17 @@ module _ (w : PlainSetting) (known : code_at w.codes (code_no 86) ≡ Some (proc
     first : Calls w f (x ∷ []) at parts.value parts.state
     first = first-back w 86 85 88 89 memp_loop known p home names f l s round at (later-refl at) x d pair parts.value parts.state parts.first
 
-    behind : Later at parts.state
+    behind : LaterWorld at parts.state
     behind = calls-later w f (x ∷ []) at parts.value parts.state first
 
-    far : Later s parts.state
+    far : LaterWorld s parts.state
     far = later-then s at parts.state enter behind
 
     taken : IsList s.cells (x ∷ xs) l → truth_of parts.value ≡ true → TailFound w f l (x ∷ xs) s v t
     taken r e = record {
       rest = x ∷ xs;
-      search = subst (λ a. Search w f (x ∷ xs) s (x ∷ xs) a) state_is (there enter first e (later-refl parts.state));
-      tail = subst (λ (a : State). IsTail a.cells l (x ∷ xs) v) state_is (subst (λ b. IsTail parts.state.cells l (x ∷ xs) b) value_is ([], here, list-later s parts.state far (x ∷ xs) l r));
+      search = subst (λ a. SearchCalls w f (x ∷ xs) s (x ∷ xs) a) state_is (there enter first e (later-refl parts.state));
+      tail = subst (λ (a : WorldState). IsTail a.cells l (x ∷ xs) v) state_is (subst (λ b. IsTail parts.state.cells l (x ∷ xs) b) value_is ([], here, list-later s parts.state far (x ∷ xs) l r));
     }
       where
         arm : Evaluates w (var 89) q parts.state v t
@@ -110,21 +110,21 @@ module _ (w : PlainSetting) (known : code_at w.codes (code_no 86) ≡ Some (proc
     some-did : IsList s.cells (x ∷ xs) l → TailFound w f l (x ∷ xs) s v t
     some-did r = by-truth (truth_of parts.value) (TailFound w f l (x ∷ xs) s v t) (taken r) missed
 
-  loop-did : (xs : List Value) (l : Value) (s : State) (v : Value) (t : State) → Home s.cells p home → IsList s.cells xs l → Calls w g (f ∷ l ∷ []) s v t → TailFound w f l xs s v t
+  loop-did : (xs : List Value) (l : Value) (s : WorldState) (v : Value) (t : WorldState) → Home s.cells p home → IsList s.cells xs l → Calls w g (f ∷ l ∷ []) s v t → TailFound w f l xs s v t
   loop-did [] l s v t round r called =
       let m : FindsTail w g (f ∷ l ∷ []) f l [] s = memp-loop w known f p [] l s round r tt in
       let value_is = gives-one-value (call_of w g (f ∷ l ∷ []) s) m.value v m.state t m.called called in
       let state_is = gives-one-state (call_of w g (f ∷ l ∷ []) s) m.value v m.state t m.called called in
       record {
         rest = m.rest;
-        search = subst (λ a. Search w f [] s m.rest a) state_is m.search;
-        tail = subst (λ (a : State). IsTail a.cells l m.rest v) state_is (subst (λ b. IsTail m.state.cells l m.rest b) value_is m.tail);
+        search = subst (λ a. SearchCalls w f [] s m.rest a) state_is m.search;
+        tail = subst (λ (a : WorldState). IsTail a.cells l m.rest v) state_is (subst (λ b. IsTail m.state.cells l m.rest b) value_is m.tail);
       }
   loop-did (x ∷ xs) l s v t round r called =
       let c = list-some r in
       some-did x l c.0 xs s round c.1 v t called (λ u k y z h. loop-did xs c.0 u y z (home-later s u k p home round) (list-later s u k xs c.0 c.2) h) r
 
-pub memp-only : (w : PlainSetting) (knows : Knows w.codes) (f l : Value) (xs : List Value) (s : State) (v : Value) (t : State) → IsList s.cells xs l → Calls w (value.Prim (record { 0 = ops.MEMP })) (f ∷ l ∷ []) s v t
+pub memp-only : (w : PlainSetting) (knows : Knows w.codes) (f l : Value) (xs : List Value) (s : WorldState) (v : Value) (t : WorldState) → IsList s.cells xs l → Calls w (value.Prim (record { 0 = ops.MEMP })) (f ∷ l ∷ []) s v t
     → TailFound w f l xs s v t
 unfolding has_text
 memp-only w knows f l xs s v t r called = record { rest = m.rest; search = search-from w f xs m.rest s (ready w s 85 86) t (ready-later w s 85 86) m.search; tail = m.tail }

@@ -10,9 +10,9 @@ use Rattle.sx_prims.specs.Lists.{nil}
 use Rattle.sx_eval.specs.Codes.{code_at, procedure_code}
 use Rattle.sx_eval.specs.Procedures.{truth_of}
 use Rattle.sx_eval.specs.Setting.{PlainSetting}
-use Rattle.sx_eval.specs.State.{State, next_place}
+use Rattle.sx_eval.specs.State.{WorldState, next_place}
 use Rattle.sx_eval.specs.Variables.{Entries}
-use Rattle.sx_eval_laws.specs.Kept.{Later}
+use Rattle.sx_eval_laws.specs.Kept.{LaterWorld}
 use Rattle.sx_list_laws.specs.Runs.{here, IsList}
 use Rattle.sx_given_laws.specs.Calls.{Calls}
 use Rattle.sx_given_laws.specs.Codes.{label, code_no, var, one_case, app, car, memp_some, memp_loop}
@@ -38,13 +38,13 @@ module _ (w : PlainSetting) (known : code_at w.codes (code_no 86) ≡ Some (proc
   abbrev g : Value
   g = value.Closure (code_no 86) p
 
-  abbrev Found : List Value → Value → State → Type 0
-  Found xs l s = FindsTail w g (f ∷ l ∷ []) f l xs s
+  abbrev FoundGiven : List Value → Value → WorldState → Type 0
+  FoundGiven xs l s = FindsTail w g (f ∷ l ∷ []) f l xs s
 
   abbrev names : Names 85 88 89 home g
   names = record { procedure = λ f l. refl; list = λ f l. refl; no_loop = λ f l. refl; loop = refl }
 
-  pub nothing : (s : State) → Home s.cells p home → Found [] nil s
+  pub nothing : (s : WorldState) → Home s.cells p home → FoundGiven [] nil s
   nothing s round = record {
     value = truth false;
     state = s1;
@@ -55,7 +55,7 @@ module _ (w : PlainSetting) (known : code_at w.codes (code_no 86) ≡ Some (proc
     tail = refl;
   }
     where
-      s1 : State
+      s1 : WorldState
       s1 = loop.entered w 86 85 88 89 memp_loop known p home names f nil s round
 
   -- a tail of the rest of a list is one of the list
@@ -63,21 +63,21 @@ module _ (w : PlainSetting) (known : code_at w.codes (code_no 86) ≡ Some (proc
   longer cells x l d e [] v h = h
   longer cells x l d e (y ∷ rest) v h = (x ∷ h.0, next e h.1, h.2)
 
-  module _ (x l d : Value) (xs : List Value) (s : State) (round : Home s.cells p home) (pair : pair_of s.cells l ≡ Some (x, d)) where
-    abbrev s1 : State
+  module _ (x l d : Value) (xs : List Value) (s : WorldState) (round : Home s.cells p home) (pair : pair_of s.cells l ≡ Some (x, d)) where
+    abbrev s1 : WorldState
     s1 = loop.entered w 86 85 88 89 memp_loop known p home names f l s round
 
-    enter : Later s s1
+    enter : LaterWorld s s1
     enter = loop.entered-later w 86 85 88 89 memp_loop known p home names f l s round
 
-    with-test : (y : Value) (u : State) (v : Value) (t : State) → Calls w f (x ∷ []) s1 y u
+    with-test : (y : Value) (u : WorldState) (v : Value) (t : WorldState) → Calls w f (x ∷ []) s1 y u
         → (Evaluates w (app (var 88) (car (var 89) ∷ [])) (next_place s) s1 y u → Evaluates w memp_some (next_place s) s1 v t) → Calls w g (f ∷ l ∷ []) s v t
     with-test y u v t called h =
         loop.loop-called w 86 85 88 89 memp_loop known p home names f l s round v t
         (if-false w _ _ _ (next_place s) s1 s1 t (truth false) v (loop.not-null w 86 85 88 89 memp_loop known p home names f l s round s1 (later-refl s1) x d pair) refl
         (h (loop.first-called w 86 85 88 89 memp_loop known p home names f l s round s1 (later-refl s1) x d pair y u called)))
 
-    pub found : IsList s.cells (x ∷ xs) l → (y : Value) (u : State) → Calls w f (x ∷ []) s1 y u → truth_of y ≡ true → Found (x ∷ xs) l s
+    pub found : IsList s.cells (x ∷ xs) l → (y : Value) (u : WorldState) → Calls w f (x ∷ []) s1 y u → truth_of y ≡ true → FoundGiven (x ∷ xs) l s
     found r y u called e = record {
       value = l;
       state = u;
@@ -87,10 +87,10 @@ module _ (w : PlainSetting) (known : code_at w.codes (code_no 86) ≡ Some (proc
       tail = ([], here, list-later s u (later-then s s1 u enter behind) (x ∷ xs) l r);
     }
       where
-        behind : Later s1 u
+        behind : LaterWorld s1 u
         behind = calls-later w f (x ∷ []) s1 y u called
 
-    pub missed : (y : Value) (u : State) → Calls w f (x ∷ []) s1 y u → truth_of y ≡ false → Found xs d u → Found (x ∷ xs) l s
+    pub missed : (y : Value) (u : WorldState) → Calls w f (x ∷ []) s1 y u → truth_of y ≡ false → FoundGiven xs d u → FoundGiven (x ∷ xs) l s
     missed y u called e rest = record {
       value = rest.value;
       state = rest.state;
@@ -101,17 +101,17 @@ module _ (w : PlainSetting) (known : code_at w.codes (code_no 86) ≡ Some (proc
       tail = longer rest.state.cells x l d (pair_still s.cells rest.state.cells (later-stay s rest.state far) l x d pair) rest.rest rest.value rest.tail;
     }
       where
-        behind : Later s1 u
+        behind : LaterWorld s1 u
         behind = calls-later w f (x ∷ []) s1 y u called
 
-        far : Later s rest.state
+        far : LaterWorld s rest.state
         far = later-then s u rest.state (later-then s s1 u enter behind) (calls-later w g (f ∷ d ∷ []) u rest.value rest.state rest.called)
 
-  pub memp-loop : (xs : List Value) (l : Value) (s : State) → Home s.cells p home → IsList s.cells xs l → SearchGives w f xs s → Found xs l s
-  memp-loop [] l s round r give = subst (λ x. Found [] x s) (sym (list-none r)) (nothing s round)
+  pub memp-loop : (xs : List Value) (l : Value) (s : WorldState) → Home s.cells p home → IsList s.cells xs l → SearchGives w f xs s → FoundGiven xs l s
+  memp-loop [] l s round r give = subst (λ x. FoundGiven [] x s) (sym (list-none r)) (nothing s round)
   memp-loop (x ∷ xs) l s round r give =
       let c = list-some r in
       let made = give (s1 x l c.0 xs s round c.1) (enter x l c.0 xs s round c.1) in
       let behind = later-then s (s1 x l c.0 xs s round c.1) made.1 (enter x l c.0 xs s round c.1) (calls-later w f (x ∷ []) _ made.0 made.1 made.2) in
-      by-truth (truth_of made.0) (Found (x ∷ xs) l s) (λ e. found x l c.0 xs s round c.1 r made.0 made.1 made.2 e)
+      by-truth (truth_of made.0) (FoundGiven (x ∷ xs) l s) (λ e. found x l c.0 xs s round c.1 r made.0 made.1 made.2 e)
       (λ e. missed x l c.0 xs s round c.1 made.0 made.1 made.2 e (memp-loop xs c.0 made.1 (home-later s made.1 behind p home round) (list-later s made.1 behind xs c.0 c.2) (made.3 e)))

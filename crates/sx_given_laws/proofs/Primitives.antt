@@ -20,11 +20,11 @@ use Rattle.sx_prims.specs.Delta.{delta, row_answer}
 use Rattle.sx_prims.specs.Each.{if_some}
 use Rattle.sx_prims.specs.Lists.{nil, gathered_made, elements_joined, appended_made}
 use Rattle.sx_prims.specs.Primitives.{primitive_of}
-use Rattle.sx_prims.specs.declared.made.Made.TheVariants as made
+use Rattle.sx_prims.specs.declared.made.PrimResult.TheVariants as made
 use Rattle.sx_eval.specs.Meaning.{quoted_value}
 use Rattle.sx_eval.specs.Procedures.{has_text, truth_of}
 use Rattle.sx_eval.specs.Setting.{PlainSetting}
-use Rattle.sx_eval.specs.State.{State, done, store, with_cell}
+use Rattle.sx_eval.specs.State.{WorldState, done, store, with_cell}
 use Rattle.sx_given_laws.specs.Calls.{Gives, Calls}
 use Rattle.sx_given_laws.specs.Codes.{prim, app, car, cdr, is_null, cons}
 use Rattle.sx_given_laws.proofs.Giving.{gives-done, gives-charged, Evaluates, evaluates-step, ExpressionEnds, primitive-is, operand-ends, operand-stops, call-ends, call-one, call-two}
@@ -93,44 +93,44 @@ module _ (cells : List Cell) (frames : Scope) where
 
 module _ (w : PlainSetting) where
   -- a call of a primitive of one argument that makes no cell
-  pub null-called : (x : Value) (s : State) → Calls w (value.Prim (record { 0 = names.IS_NULL })) (x ∷ []) s (truth (is_nil x)) s
+  pub null-called : (x : Value) (s : WorldState) → Calls w (value.Prim (record { 0 = names.IS_NULL })) (x ∷ []) s (truth (is_nil x)) s
   unfolding has_text
   null-called x s = plain-called w (record { 0 = names.IS_NULL }) (x ∷ []) s (made.Value (truth (is_nil x))) refl refl refl (null-answer s.cells w.frames x)
 
-  pub not-called : (x : Value) (s : State) → Calls w (value.Prim (record { 0 = names.NOT })) (x ∷ []) s (truth (is_false x)) s
+  pub not-called : (x : Value) (s : WorldState) → Calls w (value.Prim (record { 0 = names.NOT })) (x ∷ []) s (truth (is_false x)) s
   unfolding has_text
   not-called x s = plain-called w (record { 0 = names.NOT }) (x ∷ []) s (made.Value (truth (is_false x))) refl refl refl (not-answer s.cells w.frames x)
 
-  pub car-called : (x y d : Value) (s : State) → pair_of s.cells x ≡ Some (y, d) → Calls w (value.Prim (record { 0 = names.CAR })) (x ∷ []) s y s
+  pub car-called : (x y d : Value) (s : WorldState) → pair_of s.cells x ≡ Some (y, d) → Calls w (value.Prim (record { 0 = names.CAR })) (x ∷ []) s y s
   unfolding has_text
   car-called x y d s e = plain-called w (record { 0 = names.CAR }) (x ∷ []) s (made.Value y) refl refl refl (car-answer s.cells w.frames x y d e)
 
-  pub cdr-called : (x y d : Value) (s : State) → pair_of s.cells x ≡ Some (y, d) → Calls w (value.Prim (record { 0 = names.CDR })) (x ∷ []) s d s
+  pub cdr-called : (x y d : Value) (s : WorldState) → pair_of s.cells x ≡ Some (y, d) → Calls w (value.Prim (record { 0 = names.CDR })) (x ∷ []) s d s
   unfolding has_text
   cdr-called x y d s e = plain-called w (record { 0 = names.CDR }) (x ∷ []) s (made.Value d) refl refl refl (cdr-answer s.cells w.frames x y d e)
 
   -- the place of the pair that is made next
-  abbrev pub next_pair : State → Value
+  abbrev pub next_pair : WorldState → Value
   next_pair s = value.Pair (record { 0 = length s.cells })
 
-  pub cons-called : (x y : Value) (s : State) → Calls w (value.Prim (record { 0 = names.CONS })) (x ∷ y ∷ []) s (next_pair s) (with_cell (cell.Pair x y) s)
+  pub cons-called : (x y : Value) (s : WorldState) → Calls w (value.Prim (record { 0 = names.CONS })) (x ∷ y ∷ []) s (next_pair s) (with_cell (cell.Pair x y) s)
   unfolding has_text
   cons-called x y s = plain-called w (record { 0 = names.CONS }) (x ∷ y ∷ []) s (made.List (x ∷ []) y) refl refl refl (cons-answer s.cells w.frames x y)
 
-  pub list-called : (x : Value) (s : State) → Calls w (value.Prim (record { 0 = names.LIST })) (x ∷ []) s (next_pair s) (with_cell (cell.Pair x nil) s)
+  pub list-called : (x : Value) (s : WorldState) → Calls w (value.Prim (record { 0 = names.LIST })) (x ∷ []) s (next_pair s) (with_cell (cell.Pair x nil) s)
   unfolding has_text
   list-called x s = plain-called w (record { 0 = names.LIST }) (x ∷ []) s (made.List (x ∷ []) nil) refl refl refl (list-answer s.cells w.frames x)
 
   -- `append` of a list and a value
-  pub appended : (x y : Value) (xs : List Value) (s : State) → list_elements s.cells x ≡ Some xs
+  pub appended : (x y : Value) (xs : List Value) (s : WorldState) → list_elements s.cells x ≡ Some xs
       → Calls w (value.Prim (record { 0 = names.APPEND })) (x ∷ y ∷ []) s (pairs_stored xs (y, s.cells)).0 (store (pairs_stored xs (y, s.cells)).1 s.names)
   unfolding has_text
   appended x y xs s e = plain-called w (record { 0 = names.APPEND }) (x ∷ y ∷ []) s (made.List xs y) refl refl refl (append-answer s.cells w.frames x y xs e)
 
   -- Expressions that call them.
 
-  module _ (c : PlainCore) (scope : Place) (s t : State) (x : Value) (h : Evaluates w c scope s x t) where
-    one : (op : ℕ) (v : Value) (u : State) → Calls w (value.Prim (record { 0 = op })) (x ∷ []) t v u → Evaluates w (app (prim op) (c ∷ [])) scope s v u
+  module _ (c : PlainCore) (scope : Place) (s t : WorldState) (x : Value) (h : Evaluates w c scope s x t) where
+    one : (op : ℕ) (v : Value) (u : WorldState) → Calls w (value.Prim (record { 0 = op })) (x ∷ []) t v u → Evaluates w (app (prim op) (c ∷ [])) scope s v u
     one op v u k = call-one w (prim op) c scope s s t u (value.Prim (record { 0 = op })) x v (primitive-is w (record { 0 = op }) scope s) h k
 
     pub null-is : (b : Bool) → is_nil x ≡ b → Evaluates w (is_null c) scope s (truth b) t
@@ -148,12 +148,12 @@ module _ (w : PlainSetting) where
     pub list-is : Evaluates w (app (prim names.LIST) (c ∷ [])) scope s (next_pair t) (with_cell (cell.Pair x nil) t)
     list-is = one names.LIST (next_pair t) (with_cell (cell.Pair x nil) t) (list-called x t)
 
-    pub cons-is : (d : PlainCore) (y : Value) (u : State) → Evaluates w d scope t y u → Evaluates w (cons c d) scope s (next_pair u) (with_cell (cell.Pair x y) u)
+    pub cons-is : (d : PlainCore) (y : Value) (u : WorldState) → Evaluates w d scope t y u → Evaluates w (cons c d) scope s (next_pair u) (with_cell (cell.Pair x y) u)
     cons-is d y u k =
         call-two w (prim names.CONS) c d scope s s t u (with_cell (cell.Pair x y) u) (value.Prim (record { 0 = names.CONS })) x y (next_pair u) (primitive-is w (record { 0 = names.CONS }) scope s) h k (cons-called x y u)
 
   -- a pair whose second part faults
-  pub cons-stops : (c d : PlainCore) (scope : Place) (s t u : State) (x : Value) (e : Bare) → Evaluates w c scope s x t → ExpressionEnds w d scope t (Err e) u → ExpressionEnds w (cons c d) scope s (Err e) u
+  pub cons-stops : (c d : PlainCore) (scope : Place) (s t u : WorldState) (x : Value) (e : Bare) → Evaluates w c scope s x t → ExpressionEnds w d scope t (Err e) u → ExpressionEnds w (cons c d) scope s (Err e) u
   cons-stops c d scope s t u x e h k =
       call-ends w (prim names.CONS) (cores (c ∷ d ∷ [])) scope s s u (value.Prim (record { 0 = names.CONS })) (Err e) (primitive-is w (record { 0 = names.CONS }) scope s)
       (operand-ends w c (cores (d ∷ [])) scope (value.Prim (record { 0 = names.CONS }) ∷ []) s t u x (Err e) h
@@ -161,16 +161,16 @@ module _ (w : PlainSetting) where
 
   -- Constants.
 
-  nil-quoted : (span : Option Span) (s : State) → Gives (λ n. quoted_value (datum.atom span a.Nil) s n) nil s
+  nil-quoted : (span : Option Span) (s : WorldState) → Gives (λ n. quoted_value (datum.atom span a.Nil) s n) nil s
   unfolding quoted_value
   nil-quoted span s = gives-charged 0 s (λ n. done nil s n) nil s (gives-done nil s)
 
-  pub nil-is : (span : Option Span) (scope : Place) (s : State) → Evaluates w (quoted (datum.atom span a.Nil)) scope s nil s
+  pub nil-is : (span : Option Span) (scope : Place) (s : WorldState) → Evaluates w (quoted (datum.atom span a.Nil)) scope s nil s
   nil-is span scope s = evaluates-step w (quoted (datum.atom span a.Nil)) scope s nil s (nil-quoted span s)
 
-  bool-quoted : (span : Option Span) (b : Bool) (s : State) → Gives (λ n. quoted_value (datum.atom span (a.Bool b)) s n) (truth b) s
+  bool-quoted : (span : Option Span) (b : Bool) (s : WorldState) → Gives (λ n. quoted_value (datum.atom span (a.Bool b)) s n) (truth b) s
   unfolding quoted_value
   bool-quoted span b s = gives-charged 0 s (λ n. done (truth b) s n) (truth b) s (gives-done (truth b) s)
 
-  pub bool-is : (span : Option Span) (b : Bool) (scope : Place) (s : State) → Evaluates w (quoted (datum.atom span (a.Bool b))) scope s (truth b) s
+  pub bool-is : (span : Option Span) (b : Bool) (scope : Place) (s : WorldState) → Evaluates w (quoted (datum.atom span (a.Bool b))) scope s (truth b) s
   bool-is span b scope s = evaluates-step w (quoted (datum.atom span (a.Bool b))) scope s (truth b) s (bool-quoted span b s)

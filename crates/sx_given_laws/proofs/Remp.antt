@@ -11,9 +11,9 @@ use Rattle.sx_prims.specs.Basics.{is_false}
 use Rattle.sx_eval.specs.Codes.{procedure_code}
 use Rattle.sx_eval.specs.Procedures.{has_text, truth_of}
 use Rattle.sx_eval.specs.Setting.{PlainSetting}
-use Rattle.sx_eval.specs.State.{State, next_place, with_cell}
+use Rattle.sx_eval.specs.State.{WorldState, next_place, with_cell}
 use Rattle.sx_eval.specs.Variables.{Entries}
-use Rattle.sx_eval_laws.specs.Kept.{Later}
+use Rattle.sx_eval_laws.specs.Kept.{LaterWorld}
 use Rattle.sx_list_laws.specs.Runs.{IsList}
 use Rattle.sx_given_laws.specs.Calls.{call_of, Calls}
 use Rattle.sx_given_laws.specs.Codes.{label, code_no, var, prim, formals, one_case, lambda, app, text_code, remp_test, remp_body, remp_text}
@@ -44,10 +44,10 @@ module _ (w : PlainSetting) (knows : Knows w.codes) (f l : Value) where
     abbrev turned : Value
     turned = value.Closure (code_no 72) p
 
-    abbrev tested : Value → State → State
+    abbrev tested : Value → WorldState → WorldState
     tested x s = with_cell (cell.Scope ((label 74, Some x) ∷ []) (Some p)) s
 
-    pub turned-called : (x : Value) (s : State) → Home s.cells p vars → (y : Value) (t : State) → Calls w f (x ∷ []) (tested x s) y t → Calls w turned (x ∷ []) s (truth (is_false y)) t
+    pub turned-called : (x : Value) (s : WorldState) → Home s.cells p vars → (y : Value) (t : WorldState) → Calls w f (x ∷ []) (tested x s) y t → Calls w turned (x ∷ []) s (truth (is_false y)) t
     turned-called x s round y t h =
         closure-called w (code_no 72) p (x ∷ []) s (truth (is_false y)) t
         (case-called w (code_no 72) p (x ∷ []) s (procedure_code (code_no 72) (one_case (74 ∷ []) None remp_test) true) (formals (74 ∷ []) None) remp_test (truth (is_false y)) t knows.remp_test refl
@@ -59,10 +59,10 @@ module _ (w : PlainSetting) (knows : Knows w.codes) (f l : Value) where
         inside : Inside (tested x s).cells (next_place s) ((label 74, Some x) ∷ []) p vars
         inside = entered-inside s ((label 74, Some x) ∷ []) p vars round
 
-    pub far : (x : Value) (s : State) (y : Value) (t : State) → Calls w f (x ∷ []) (tested x s) y t → Later s t
+    pub far : (x : Value) (s : WorldState) (y : Value) (t : WorldState) → Calls w f (x ∷ []) (tested x s) y t → LaterWorld s t
     far x s y t h = later-then s (tested x s) t (later-with s (cell.Scope ((label 74, Some x) ∷ []) (Some p))) (calls-later w f (x ∷ []) (tested x s) y t h)
 
-    turned-gives : (xs : List Value) (s : State) → Home s.cells p vars → AllGive w f xs s → AllGive w turned xs s
+    turned-gives : (xs : List Value) (s : WorldState) → Home s.cells p vars → AllGive w f xs s → AllGive w turned xs s
     turned-gives [] s round give = tt
     turned-gives (x ∷ xs) s round give = λ t k.
         let around = home-later s t k p vars round in
@@ -70,13 +70,13 @@ module _ (w : PlainSetting) (knows : Knows w.codes) (f l : Value) where
         (truth (is_false c.0), c.1, turned-called x t around c.0 c.1 c.2, turned-gives xs c.1 (home-later t c.1 (far x t c.0 c.1 c.2) p vars around) c.3)
 
     -- the calls of f behind the calls of that
-    abbrev Behind : List Value → List Value → State → State → Type 0
+    abbrev Behind : List Value → List Value → WorldState → WorldState → Type 0
     Behind xs zs s t = (ys : List Value) × InTurn w f xs s ys t × (chosen xs zs ≡ others xs ys)
 
-    turned-back : (xs zs : List Value) (o s t : State) → o ≡ s → Home s.cells p vars → AllGive w f xs s → InTurn w turned xs o zs t → Behind xs zs s t
-    turned-back xs zs o s t e round give (no_call k) = ([], no_call (subst (λ a. Later a t) e k), refl)
+    turned-back : (xs zs : List Value) (o s t : WorldState) → o ≡ s → Home s.cells p vars → AllGive w f xs s → InTurn w turned xs o zs t → Behind xs zs s t
+    turned-back xs zs o s t e round give (no_call k) = ([], no_call (subst (λ a. LaterWorld a t) e k), refl)
     turned-back xs zs o s t e round give (one_call {x = x} {y = z} {xs = xs'} {ys = zs'} {t = r} {u = u} k c i) =
-        let from : Later s r = subst (λ a. Later a r) e k in
+        let from : LaterWorld s r = subst (λ a. LaterWorld a r) e k in
         let around = home-later s r from p vars round in
         let enter = later-then s r (tested x r) from (later-with r (cell.Scope ((label 74, Some x) ∷ []) (Some p))) in
         let made = give (tested x r) enter in
@@ -91,7 +91,7 @@ module _ (w : PlainSetting) (knows : Knows w.codes) (f l : Value) where
         )
 
     -- what calls of that did that gave values
-    pub turned-did : (xs zs : List Value) (s t : State) → Home s.cells p vars → InTurn w turned xs s zs t → Behind xs zs s t
+    pub turned-did : (xs zs : List Value) (s t : WorldState) → Home s.cells p vars → InTurn w turned xs s zs t → Behind xs zs s t
     turned-did xs zs s t round (no_call k) = ([], no_call k, refl)
     turned-did xs zs s t round (one_call {x = x} {y = z} {xs = xs'} {ys = zs'} {t = r} {u = u} k c i) =
         let around = home-later s r k p vars round in
@@ -111,17 +111,17 @@ module _ (w : PlainSetting) (knows : Knows w.codes) (f l : Value) where
               ∙ turned-choice (truth_of asked.value) x (chosen xs' zs') (others xs' rest.0) rest.2,
         )
 
-  module _ (s : State) where
-    abbrev outside : State
+  module _ (s : WorldState) where
+    abbrev outside : WorldState
     outside = with_cell (cell.Scope [] None) s
 
-    abbrev inner : State
+    abbrev inner : WorldState
     inner = with_cell (cell.Scope vars (Some (next_place s))) outside
 
     abbrev q : Place
     q = next_place outside
 
-    called-by-body : (v : Value) (t : State) → Evaluates w remp_body q inner v t → Calls w (value.Prim (record { 0 = names.REMP })) (f ∷ l ∷ []) s v t
+    called-by-body : (v : Value) (t : WorldState) → Evaluates w remp_body q inner v t → Calls w (value.Prim (record { 0 = names.REMP })) (f ∷ l ∷ []) s v t
     unfolding has_text
     called-by-body v t h =
         text-called w (record { 0 = names.REMP }) (f ∷ l ∷ []) s outside t (text_code names.REMP remp_text) remp_text (code_no 67) (next_place s) v refl refl knows.remp_text refl
@@ -147,7 +147,7 @@ module _ (w : PlainSetting) (knows : Knows w.codes) (f l : Value) where
         round : Home inner.cells q vars
         round = record { around = Some (next_place s); is = inside.frame }
 
-        behind : Later s inner
+        behind : LaterWorld s inner
         behind = later-then s outside inner (later-with s (cell.Scope [] None)) (later-with outside (cell.Scope vars (Some (next_place s))))
 
         gives : AllGive w f xs inner
@@ -160,7 +160,7 @@ module _ (w : PlainSetting) (knows : Knows w.codes) (f l : Value) where
         back = turned-back q xs m.answers inner inner m.state refl round gives m.in_turn
 
     -- what a call that gave a value did
-    pub remp-only : (xs : List Value) (v : Value) (t : State) → IsList s.cells xs l → Calls w (value.Prim (record { 0 = names.REMP })) (f ∷ l ∷ []) s v t → Filtered w f others xs s v t
+    pub remp-only : (xs : List Value) (v : Value) (t : WorldState) → IsList s.cells xs l → Calls w (value.Prim (record { 0 = names.REMP })) (f ∷ l ∷ []) s v t → Filtered w f others xs s v t
     unfolding has_text
     remp-only xs v t r called = record { answers = back.0; in_turn = in-turn-from w f xs back.0 s inner t behind back.1; list = subst (λ ys. IsList t.cells ys v) back.2 m.list }
       where
@@ -170,7 +170,7 @@ module _ (w : PlainSetting) (knows : Knows w.codes) (f l : Value) where
         round : Home inner.cells q vars
         round = record { around = Some (next_place s); is = inside.frame }
 
-        behind : Later s inner
+        behind : LaterWorld s inner
         behind = later-then s outside inner (later-with s (cell.Scope [] None)) (later-with outside (cell.Scope vars (Some (next_place s))))
 
         body : Evaluates w remp_body q inner v t

@@ -14,9 +14,9 @@ use Rattle.sx_prims.specs.Basics.{is_false}
 use Rattle.sx_eval.specs.Codes.{procedure_code}
 use Rattle.sx_eval.specs.Procedures.{has_text}
 use Rattle.sx_eval.specs.Setting.{PlainSetting}
-use Rattle.sx_eval.specs.State.{State, next_place, with_cell}
+use Rattle.sx_eval.specs.State.{WorldState, next_place, with_cell}
 use Rattle.sx_eval.specs.Variables.{Entries}
-use Rattle.sx_eval_laws.specs.Kept.{Later}
+use Rattle.sx_eval_laws.specs.Kept.{LaterWorld}
 use Rattle.sx_list_laws.specs.Runs.{IsList}
 use Rattle.sx_given_laws.specs.Calls.{End, call_of, CallEnds, Calls}
 use Rattle.sx_given_laws.specs.Codes.{label, code_no, var, prim, formals, one_case, lambda, app, text_code, remp_test, remp_body, remp_text}
@@ -40,10 +40,10 @@ module _ (w : PlainSetting) (knows : Knows w.codes) (f l : Value) where
     abbrev turned : Value
     turned = value.Closure (code_no 72) p
 
-    abbrev tested : Value → State → State
+    abbrev tested : Value → WorldState → WorldState
     tested x s = with_cell (cell.Scope ((label 74, Some x) ∷ []) (Some p)) s
 
-    turned-stops : (x : Value) (s : State) → Home s.cells p vars → (e : Bare) (t : State) → CallEnds w f (x ∷ []) (tested x s) (Err e) t → CallEnds w turned (x ∷ []) s (Err e) t
+    turned-stops : (x : Value) (s : WorldState) → Home s.cells p vars → (e : Bare) (t : WorldState) → CallEnds w f (x ∷ []) (tested x s) (Err e) t → CallEnds w turned (x ∷ []) s (Err e) t
     turned-stops x s round e t h =
         closure-ends w (code_no 72) p (x ∷ []) s (Err e) t
         (case-ends w (code_no 72) p (x ∷ []) s (procedure_code (code_no 72) (one_case (74 ∷ []) None remp_test) true) (formals (74 ∷ []) None) remp_test (Err e) t knows.remp_test refl
@@ -57,21 +57,21 @@ module _ (w : PlainSetting) (knows : Knows w.codes) (f l : Value) where
         inside : Inside (tested x s).cells (next_place s) ((label 74, Some x) ∷ []) p vars
         inside = entered-inside s ((label 74, Some x) ∷ []) p vars round
 
-    turned-end : (x : Value) (xs : List Value) (t : State) → Home t.cells p vars → (r : End) (u : State) → CallEnds w f (x ∷ []) (tested x t) r u → AfterValue r (AllEnd w f xs u)
-        → ((v : State) → Home v.cells p vars → AllEnd w f xs v → AllEnd w turned xs v)
-        → (q : End) × (v : State) × CallEnds w turned (x ∷ []) t q v × AfterValue q (AllEnd w turned xs v)
+    turned-end : (x : Value) (xs : List Value) (t : WorldState) → Home t.cells p vars → (r : End) (u : WorldState) → CallEnds w f (x ∷ []) (tested x t) r u → AfterValue r (AllEnd w f xs u)
+        → ((v : WorldState) → Home v.cells p vars → AllEnd w f xs v → AllEnd w turned xs v)
+        → (q : End) × (v : WorldState) × CallEnds w turned (x ∷ []) t q v × AfterValue q (AllEnd w turned xs v)
     turned-end x xs t round (Ok y) u h a again = (Ok (truth (is_false y)), u, turned-called w knows f l p x t round y u h, again u (home-later t u (far w knows f l p x t y u h) p vars round) a)
     turned-end x xs t round (Err e) u h a again = (Err e, u, turned-stops x t round e u h, tt)
 
-    turned-ends : (xs : List Value) (s : State) → Home s.cells p vars → AllEnd w f xs s → AllEnd w turned xs s
+    turned-ends : (xs : List Value) (s : WorldState) → Home s.cells p vars → AllEnd w f xs s → AllEnd w turned xs s
     turned-ends [] s round give = tt
     turned-ends (x ∷ xs) s round give = λ t k.
         let made = give (tested x t) (later-then s t (tested x t) k (later-with t (cell.Scope ((label 74, Some x) ∷ []) (Some p)))) in
         turned-end x xs t (home-later s t k p vars round) made.0 made.1 made.2 made.3 (λ v around a. turned-ends xs v around a)
 
     -- the call of f that stopped that procedure
-    stop-here : (x : Value) (xs : List Value) (e : Bare) (s r t : State) → Later s r → Home r.cells p vars → CallEnds w turned (x ∷ []) r (Err e) t
-        → (q : End) (u : State) → CallEnds w f (x ∷ []) (tested x r) q u → Stops w f (x ∷ xs) s e t
+    stop-here : (x : Value) (xs : List Value) (e : Bare) (s r t : WorldState) → LaterWorld s r → Home r.cells p vars → CallEnds w turned (x ∷ []) r (Err e) t
+        → (q : End) (u : WorldState) → CallEnds w f (x ∷ []) (tested x r) q u → Stops w f (x ∷ xs) s e t
     stop-here x xs e s r t k round c (Ok y) u h =
         let wrong : Ok (truth (is_false y)) ≡ Err e = ends-one-end (call_of w turned (x ∷ []) r) (Ok (truth (is_false y))) (Err e) u t (turned-called w knows f l p x r round y u h) c in
         absurd (cc)
@@ -81,9 +81,9 @@ module _ (w : PlainSetting) (knows : Knows w.codes) (f l : Value) where
         (subst (λ a. CallEnds w f (x ∷ []) (tested x r) (Err e) a) (ends-one-state (call_of w turned (x ∷ []) r) (Err d) (Err e) u t mine c)
         (subst (λ a. CallEnds w f (x ∷ []) (tested x r) a u) (ends-one-end (call_of w turned (x ∷ []) r) (Err d) (Err e) u t mine c) h))
 
-    stop-behind : (x z : Value) (xs : List Value) (e : Bare) (s r b t : State) → Later s r → Home r.cells p vars → Calls w turned (x ∷ []) r z b → Stops w turned xs b e t
-        → (q : End) (u : State) → CallEnds w f (x ∷ []) (tested x r) q u → AfterValue q (AllEnd w f xs u)
-        → ((v : State) → Home v.cells p vars → AllEnd w f xs v → Stops w turned xs v e t → Stops w f xs v e t) → Stops w f (x ∷ xs) s e t
+    stop-behind : (x z : Value) (xs : List Value) (e : Bare) (s r b t : WorldState) → LaterWorld s r → Home r.cells p vars → Calls w turned (x ∷ []) r z b → Stops w turned xs b e t
+        → (q : End) (u : WorldState) → CallEnds w f (x ∷ []) (tested x r) q u → AfterValue q (AllEnd w f xs u)
+        → ((v : WorldState) → Home v.cells p vars → AllEnd w f xs v → Stops w turned xs v e t → Stops w f xs v e t) → Stops w f (x ∷ xs) s e t
     stop-behind x z xs e s r b t k round c i (Ok y) u h a again =
         let same : u ≡ b = ends-one-state (call_of w turned (x ∷ []) r) (Ok (truth (is_false y))) (Ok z) u b (turned-called w knows f l p x r round y u h) c in
         stops_behind (later-then s r (tested x r) k (later-with r (cell.Scope ((label 74, Some x) ∷ []) (Some p)))) h
@@ -92,7 +92,7 @@ module _ (w : PlainSetting) (knows : Knows w.codes) (f l : Value) where
         let wrong : Err d ≡ Ok z = ends-one-end (call_of w turned (x ∷ []) r) (Err d) (Ok z) u b (turned-stops x r round d u h) c in
         absurd (cc)
 
-    stops-back : (xs : List Value) (e : Bare) (s t : State) → Home s.cells p vars → AllEnd w f xs s → Stops w turned xs s e t → Stops w f xs s e t
+    stops-back : (xs : List Value) (e : Bare) (s t : WorldState) → Home s.cells p vars → AllEnd w f xs s → Stops w turned xs s e t → Stops w f xs s e t
     stops-back [] e s t round give i = elim i [ ]
     stops-back (x ∷ ys) e s t round give (stops_here {t = r} k c) =
         let made = give (tested x r) (later-then s r (tested x r) k (later-with r (cell.Scope ((label 74, Some x) ∷ []) (Some p)))) in
@@ -101,11 +101,11 @@ module _ (w : PlainSetting) (knows : Knows w.codes) (f l : Value) where
         let made = give (tested x r) (later-then s r (tested x r) k (later-with r (cell.Scope ((label 74, Some x) ∷ []) (Some p)))) in
         stop-behind x z ys e s r b t k (home-later s r k p vars round) c i made.0 made.1 made.2 made.3 (λ v around a j. stops-back ys e v t around a j)
 
-  module _ (s : State) where
-    abbrev outside : State
+  module _ (s : WorldState) where
+    abbrev outside : WorldState
     outside = with_cell (cell.Scope [] None) s
 
-    abbrev inner : State
+    abbrev inner : WorldState
     inner = with_cell (cell.Scope vars (Some (next_place s))) outside
 
     abbrev q : Place
@@ -114,7 +114,7 @@ module _ (w : PlainSetting) (knows : Knows w.codes) (f l : Value) where
     inside : Inside inner.cells q vars (next_place s) []
     inside = entered-inside outside vars (next_place s) [] (record { around = None; is = slice_get-added s.cells (cell.Scope [] None) })
 
-    by-filter : (r : End) (t : State) → CallEnds w (value.Prim (record { 0 = names.FILTER })) (turned q ∷ l ∷ []) inner r t → CallEnds w (value.Prim (record { 0 = names.REMP })) (f ∷ l ∷ []) s r t
+    by-filter : (r : End) (t : WorldState) → CallEnds w (value.Prim (record { 0 = names.FILTER })) (turned q ∷ l ∷ []) inner r t → CallEnds w (value.Prim (record { 0 = names.REMP })) (f ∷ l ∷ []) s r t
     unfolding has_text
     by-filter r t h =
         text-ends w (record { 0 = names.REMP }) (f ∷ l ∷ []) s outside t (text_code names.REMP remp_text) remp_text (code_no 67) (next_place s) r refl refl knows.remp_text refl
@@ -139,7 +139,7 @@ module _ (w : PlainSetting) (knows : Knows w.codes) (f l : Value) where
         round : Home inner.cells q vars
         round = record { around = Some (next_place s); is = inside.frame }
 
-        behind : Later s inner
+        behind : LaterWorld s inner
         behind = later-then s outside inner (later-with s (cell.Scope [] None)) (later-with outside (cell.Scope vars (Some (next_place s))))
 
         gives : AllEnd w f xs inner

@@ -6,12 +6,12 @@ ghost use Rattle.sx_base.specs.declared.op.names.TheConstants as names;
 ghost use Rattle.sx_core.specs.Core.{PlainCode};
 ghost use Rattle.sx_eval.specs.Codes.{Codes, code_at, with_code};
 ghost use Rattle.sx_eval.specs.Setting.{PlainSetting};
-ghost use Rattle.sx_eval.specs.State.{State, done};
+ghost use Rattle.sx_eval.specs.State.{WorldState, done};
 ghost use Rattle.sx_list_laws.specs.Runs.{IsList};
 ghost use Rattle.sx_value.specs.declared.value.Value.{Value};
 ghost use Rattle.sx_value.specs.declared.value.Value.TheVariants as value;
 ghost use Rattle.sx_given_laws.specs.Calls.{call_of, Calls};
-ghost use Rattle.sx_given_laws.specs.Given.{built_in, Maps, MapsBy, Mapped, Visits, Visited, Faults, Filters, Filtered, Finds, Found, FindsTail, TailFound, SearchFaults};
+ghost use Rattle.sx_given_laws.specs.Given.{built_in, Maps, MapsBy, Mapped, Visits, Visited, Faults, Filters, Filtered, Finds, FoundGiven, FindsTail, TailFound, SearchFaults};
 ghost use Rattle.sx_given_laws.specs.InTurn.{AllGive, AllEnd, AllGiveBy, SearchGives, SearchEnds, chosen, others};
 ghost use Rattle.sx_given_laws.specs.Texts.{HasTexts, Includes, written_table};
 
@@ -24,8 +24,8 @@ pub fn numbers_are_by_name()
 
 /// A call that gives a value with some fuel gives that value and that state with any more.
 pub fn some_fuel_is_enough()
-    ensures enough { (w : PlainSetting) (f : Value) (args : List Value) (s : State) (n m : ℕ) (v : Value) (t : State) → call_of w f args s n ≡ done v t m → Calls w f args s v t }
-    ensures one { (w : PlainSetting) (f : Value) (args : List Value) (s : State) (v x : Value) (t u : State) → Calls w f args s v t → Calls w f args s x u → (v ≡ x) × (t ≡ u) }
+    ensures enough { (w : PlainSetting) (f : Value) (args : List Value) (s : WorldState) (n m : ℕ) (v : Value) (t : WorldState) → call_of w f args s n ≡ done v t m → Calls w f args s v t }
+    ensures one { (w : PlainSetting) (f : Value) (args : List Value) (s : WorldState) (v x : Value) (t u : WorldState) → Calls w f args s v t → Calls w f args s x u → (v ≡ x) × (t ≡ u) }
 {}
 
 /// The codes of the texts in Scheme contain these texts, and codes of other numbers that come after
@@ -39,11 +39,11 @@ pub fn texts_stay()
 /// of the answers; whenever it gives a value it has done so, and where a call faults, that call is the
 /// last and its fault that of `map` (R6RS 11.9).
 pub fn map_gives_the_answers()
-    ensures answers { (w : PlainSetting) (f l : Value) (xs : List Value) (s : State) → HasTexts w → IsList s.cells xs l → AllGive w f xs s → Maps w (built_in names.MAP) (f ∷ l ∷ []) f xs s }
-    ensures only { (w : PlainSetting) (f l : Value) (xs : List Value) (s t : State) (v : Value) → HasTexts w → IsList s.cells xs l → Calls w (built_in names.MAP) (f ∷ l ∷ []) s v t → Mapped w f xs s v t }
-    ensures said { (w : PlainSetting) (f l : Value) (g : Value → Value) (xs : List Value) (s : State) → HasTexts w → IsList s.cells xs l → AllGiveBy w f g xs s →
+    ensures answers { (w : PlainSetting) (f l : Value) (xs : List Value) (s : WorldState) → HasTexts w → IsList s.cells xs l → AllGive w f xs s → Maps w (built_in names.MAP) (f ∷ l ∷ []) f xs s }
+    ensures only { (w : PlainSetting) (f l : Value) (xs : List Value) (s t : WorldState) (v : Value) → HasTexts w → IsList s.cells xs l → Calls w (built_in names.MAP) (f ∷ l ∷ []) s v t → Mapped w f xs s v t }
+    ensures said { (w : PlainSetting) (f l : Value) (g : Value → Value) (xs : List Value) (s : WorldState) → HasTexts w → IsList s.cells xs l → AllGiveBy w f g xs s →
         MapsBy w (built_in names.MAP) (f ∷ l ∷ []) g xs s }
-    ensures faults { (w : PlainSetting) (f l : Value) (xs : List Value) (s : State) → HasTexts w → IsList s.cells xs l → AllEnd w f xs s →
+    ensures faults { (w : PlainSetting) (f l : Value) (xs : List Value) (s : WorldState) → HasTexts w → IsList s.cells xs l → AllEnd w f xs s →
         Maps w (built_in names.MAP) (f ∷ l ∷ []) f xs s ⊎ Faults w (built_in names.MAP) (f ∷ l ∷ []) f xs s }
 {}
 
@@ -51,10 +51,10 @@ pub fn map_gives_the_answers()
 /// gives a value it has done so, and where a call faults, that call is the last and its fault that of
 /// `for-each` (R6RS 11.9).
 pub fn for_each_calls_in_order()
-    ensures calls { (w : PlainSetting) (f l : Value) (xs : List Value) (s : State) → HasTexts w → IsList s.cells xs l → AllGive w f xs s →
+    ensures calls { (w : PlainSetting) (f l : Value) (xs : List Value) (s : WorldState) → HasTexts w → IsList s.cells xs l → AllGive w f xs s →
         Visits w (built_in names.FOR_EACH) (f ∷ l ∷ []) f xs s value.Unspecified }
-    ensures only { (w : PlainSetting) (f l : Value) (xs : List Value) (s t : State) (v : Value) → HasTexts w → IsList s.cells xs l → Calls w (built_in names.FOR_EACH) (f ∷ l ∷ []) s v t → Visited w f xs s v t }
-    ensures faults { (w : PlainSetting) (f l : Value) (xs : List Value) (s : State) → HasTexts w → IsList s.cells xs l → AllEnd w f xs s →
+    ensures only { (w : PlainSetting) (f l : Value) (xs : List Value) (s t : WorldState) (v : Value) → HasTexts w → IsList s.cells xs l → Calls w (built_in names.FOR_EACH) (f ∷ l ∷ []) s v t → Visited w f xs s v t }
+    ensures faults { (w : PlainSetting) (f l : Value) (xs : List Value) (s : WorldState) → HasTexts w → IsList s.cells xs l → AllEnd w f xs s →
         Visits w (built_in names.FOR_EACH) (f ∷ l ∷ []) f xs s value.Unspecified ⊎ Faults w (built_in names.FOR_EACH) (f ∷ l ∷ []) f xs s }
 {}
 
@@ -62,13 +62,13 @@ pub fn for_each_calls_in_order()
 /// in order; each is asked once, from the first on, and where a call faults, that call is the last and
 /// its fault is given (R6RS libraries 3).
 pub fn filter_keeps_and_remp_leaves_out()
-    ensures filter { (w : PlainSetting) (f l : Value) (xs : List Value) (s : State) → HasTexts w → IsList s.cells xs l → AllGive w f xs s → Filters w (built_in names.FILTER) (f ∷ l ∷ []) f chosen xs s }
-    ensures filter_only { (w : PlainSetting) (f l : Value) (xs : List Value) (s t : State) (v : Value) → HasTexts w → IsList s.cells xs l → Calls w (built_in names.FILTER) (f ∷ l ∷ []) s v t → Filtered w f chosen xs s v t }
-    ensures filter_faults { (w : PlainSetting) (f l : Value) (xs : List Value) (s : State) → HasTexts w → IsList s.cells xs l → AllEnd w f xs s →
+    ensures filter { (w : PlainSetting) (f l : Value) (xs : List Value) (s : WorldState) → HasTexts w → IsList s.cells xs l → AllGive w f xs s → Filters w (built_in names.FILTER) (f ∷ l ∷ []) f chosen xs s }
+    ensures filter_only { (w : PlainSetting) (f l : Value) (xs : List Value) (s t : WorldState) (v : Value) → HasTexts w → IsList s.cells xs l → Calls w (built_in names.FILTER) (f ∷ l ∷ []) s v t → Filtered w f chosen xs s v t }
+    ensures filter_faults { (w : PlainSetting) (f l : Value) (xs : List Value) (s : WorldState) → HasTexts w → IsList s.cells xs l → AllEnd w f xs s →
         Filters w (built_in names.FILTER) (f ∷ l ∷ []) f chosen xs s ⊎ Faults w (built_in names.FILTER) (f ∷ l ∷ []) f xs s }
-    ensures remp { (w : PlainSetting) (f l : Value) (xs : List Value) (s : State) → HasTexts w → IsList s.cells xs l → AllGive w f xs s → Filters w (built_in names.REMP) (f ∷ l ∷ []) f others xs s }
-    ensures remp_only { (w : PlainSetting) (f l : Value) (xs : List Value) (s t : State) (v : Value) → HasTexts w → IsList s.cells xs l → Calls w (built_in names.REMP) (f ∷ l ∷ []) s v t → Filtered w f others xs s v t }
-    ensures remp_faults { (w : PlainSetting) (f l : Value) (xs : List Value) (s : State) → HasTexts w → IsList s.cells xs l → AllEnd w f xs s →
+    ensures remp { (w : PlainSetting) (f l : Value) (xs : List Value) (s : WorldState) → HasTexts w → IsList s.cells xs l → AllGive w f xs s → Filters w (built_in names.REMP) (f ∷ l ∷ []) f others xs s }
+    ensures remp_only { (w : PlainSetting) (f l : Value) (xs : List Value) (s t : WorldState) (v : Value) → HasTexts w → IsList s.cells xs l → Calls w (built_in names.REMP) (f ∷ l ∷ []) s v t → Filtered w f others xs s v t }
+    ensures remp_faults { (w : PlainSetting) (f l : Value) (xs : List Value) (s : WorldState) → HasTexts w → IsList s.cells xs l → AllEnd w f xs s →
         Filters w (built_in names.REMP) (f ∷ l ∷ []) f others xs s ⊎ Faults w (built_in names.REMP) (f ∷ l ∷ []) f xs s }
 {}
 
@@ -76,12 +76,12 @@ pub fn filter_keeps_and_remp_leaves_out()
 /// there on; both give `#f` if there is none, ask no later element, and give the fault of a call that
 /// faults before (R6RS libraries 3).
 pub fn find_and_memp_stop_at_the_first()
-    ensures find { (w : PlainSetting) (f l : Value) (xs : List Value) (s : State) → HasTexts w → IsList s.cells xs l → SearchGives w f xs s → Finds w (built_in names.FIND) (f ∷ l ∷ []) f xs s }
-    ensures memp { (w : PlainSetting) (f l : Value) (xs : List Value) (s : State) → HasTexts w → IsList s.cells xs l → SearchGives w f xs s → FindsTail w (built_in names.MEMP) (f ∷ l ∷ []) f l xs s }
-    ensures find_only { (w : PlainSetting) (f l : Value) (xs : List Value) (s t : State) (v : Value) → HasTexts w → IsList s.cells xs l → Calls w (built_in names.FIND) (f ∷ l ∷ []) s v t → Found w f xs s v t }
-    ensures memp_only { (w : PlainSetting) (f l : Value) (xs : List Value) (s t : State) (v : Value) → HasTexts w → IsList s.cells xs l → Calls w (built_in names.MEMP) (f ∷ l ∷ []) s v t → TailFound w f l xs s v t }
-    ensures find_faults { (w : PlainSetting) (f l : Value) (xs : List Value) (s : State) → HasTexts w → IsList s.cells xs l → SearchEnds w f xs s →
+    ensures find { (w : PlainSetting) (f l : Value) (xs : List Value) (s : WorldState) → HasTexts w → IsList s.cells xs l → SearchGives w f xs s → Finds w (built_in names.FIND) (f ∷ l ∷ []) f xs s }
+    ensures memp { (w : PlainSetting) (f l : Value) (xs : List Value) (s : WorldState) → HasTexts w → IsList s.cells xs l → SearchGives w f xs s → FindsTail w (built_in names.MEMP) (f ∷ l ∷ []) f l xs s }
+    ensures find_only { (w : PlainSetting) (f l : Value) (xs : List Value) (s t : WorldState) (v : Value) → HasTexts w → IsList s.cells xs l → Calls w (built_in names.FIND) (f ∷ l ∷ []) s v t → FoundGiven w f xs s v t }
+    ensures memp_only { (w : PlainSetting) (f l : Value) (xs : List Value) (s t : WorldState) (v : Value) → HasTexts w → IsList s.cells xs l → Calls w (built_in names.MEMP) (f ∷ l ∷ []) s v t → TailFound w f l xs s v t }
+    ensures find_faults { (w : PlainSetting) (f l : Value) (xs : List Value) (s : WorldState) → HasTexts w → IsList s.cells xs l → SearchEnds w f xs s →
         Finds w (built_in names.FIND) (f ∷ l ∷ []) f xs s ⊎ SearchFaults w (built_in names.FIND) (f ∷ l ∷ []) f xs s }
-    ensures memp_faults { (w : PlainSetting) (f l : Value) (xs : List Value) (s : State) → HasTexts w → IsList s.cells xs l → SearchEnds w f xs s →
+    ensures memp_faults { (w : PlainSetting) (f l : Value) (xs : List Value) (s : WorldState) → HasTexts w → IsList s.cells xs l → SearchEnds w f xs s →
         FindsTail w (built_in names.MEMP) (f ∷ l ∷ []) f l xs s ⊎ SearchFaults w (built_in names.MEMP) (f ∷ l ∷ []) f xs s }
 {}

@@ -11,9 +11,9 @@ use Rattle.sx_value.specs.declared.cell.Cell.TheVariants as cell
 use Rattle.sx_eval.specs.Codes.{procedure_code}
 use Rattle.sx_eval.specs.Procedures.{has_text}
 use Rattle.sx_eval.specs.Setting.{PlainSetting}
-use Rattle.sx_eval.specs.State.{State, next_place, with_cell}
+use Rattle.sx_eval.specs.State.{WorldState, next_place, with_cell}
 use Rattle.sx_eval.specs.Variables.{Entries}
-use Rattle.sx_eval_laws.specs.Kept.{Later}
+use Rattle.sx_eval_laws.specs.Kept.{LaterWorld}
 use Rattle.sx_list_laws.specs.Runs.{IsList}
 use Rattle.sx_given_laws.specs.Calls.{End, CallEnds}
 use Rattle.sx_given_laws.specs.Codes.{label, code_no, var, formals, one_case, lambda, cons, text_code, enter_fold}
@@ -41,7 +41,7 @@ pub record FoldNames (go a b c d : ℕ) (g : Value) : Type 0 where
   pub no_loop : (f z l ls : Value) → lookup (same_label (label go)) (four_vars a b c d f z l ls) ≡ None
   pub loop : lookup (same_label (label go)) ((label go, Some g) ∷ []) ≡ Some (Some g)
 
-module _ (w : PlainSetting) (s : State) (go code : ℕ) (op k a b c d : ℕ) (m n o : ℕ) (body : PlainCore)
+module _ (w : PlainSetting) (s : WorldState) (go code : ℕ) (op k a b c d : ℕ) (m n o : ℕ) (body : PlainCore)
     (self : same_label (label go) (label go) ≡ true) (other : nat_eq op APPLY ≡ false) (yes_text : has_text op ≡ true)
     (names : FoldNames go a b c d (value.Closure (code_no code) (home_place w s go code)))
     (text : HasText w.codes op (loop_text go code (m ∷ n ∷ o ∷ []) body (lambda k (a ∷ b ∷ c ∷ []) (Some d) (enter_fold go a b c d))))
@@ -52,16 +52,16 @@ module _ (w : PlainSetting) (s : State) (go code : ℕ) (op k a b c d : ℕ) (m 
   abbrev home_entries : Entries
   home_entries = one_home (label go) (code_no code) home_at
 
-  abbrev at_ready : State
+  abbrev at_ready : WorldState
   at_ready = ready w s go code
 
-  abbrev kept : State
+  abbrev kept : WorldState
   kept = with_rest more at_ready
 
   abbrev entries : Entries
   entries = four_vars a b c d f z l (rest_list more at_ready)
 
-  abbrev inner : State
+  abbrev inner : WorldState
   inner = with_cell (cell.Scope entries (Some home_at)) kept
 
   abbrev r : Place
@@ -71,16 +71,16 @@ module _ (w : PlainSetting) (s : State) (go code : ℕ) (op k a b c d : ℕ) (m 
   abbrev pub lists_value : Value
   lists_value = next_pair w inner
 
-  abbrev pub loop_state : State
+  abbrev pub loop_state : WorldState
   loop_state = with_cell (cell.Pair l (rest_list more at_ready)) inner
 
-  kept-inner : Later kept inner
+  kept-inner : LaterWorld kept inner
   kept-inner = later-with kept (cell.Scope entries (Some home_at))
 
-  inner-loop : Later inner loop_state
+  inner-loop : LaterWorld inner loop_state
   inner-loop = later-with inner (cell.Pair l (rest_list more at_ready))
 
-  pub loop-later : Later s loop_state
+  pub loop-later : LaterWorld s loop_state
   loop-later =
       later-then s at_ready loop_state (ready-later w s go code)
       (later-then at_ready kept loop_state (rest-later more at_ready) (later-then kept inner loop_state kept-inner inner-loop))
@@ -99,7 +99,7 @@ module _ (w : PlainSetting) (s : State) (go code : ℕ) (op k a b c d : ℕ) (m 
   pub lists-are : IsList loop_state.cells (l ∷ more) lists_value
   lists-are = list-more inner.cells l (rest_list more at_ready) more (list-later kept inner kept-inner more (rest_list more at_ready) (rest-is more at_ready))
 
-  pub entered-iff : (e : End) (t : State) → Iff (CallEnds w (value.Prim (record { 0 = op })) (f ∷ z ∷ l ∷ more) s e t) (CallEnds w (value.Closure (code_no code) home_at) (f ∷ z ∷ lists_value ∷ []) loop_state e t)
+  pub entered-iff : (e : End) (t : WorldState) → Iff (CallEnds w (value.Prim (record { 0 = op })) (f ∷ z ∷ l ∷ more) s e t) (CallEnds w (value.Closure (code_no code) home_at) (f ∷ z ∷ lists_value ∷ []) loop_state e t)
   entered-iff e t =
       iff-then
       (text-iff w (record { 0 = op }) (f ∷ z ∷ l ∷ more) s at_ready t (text_code op (loop_text go code (m ∷ n ∷ o ∷ []) body given)) (loop_text go code (m ∷ n ∷ o ∷ []) body given) (code_no k) home_at e other yes_text text refl

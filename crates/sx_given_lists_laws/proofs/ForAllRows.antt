@@ -12,9 +12,9 @@ use Rattle.sx_prims.specs.Lists.{nil}
 use Rattle.sx_eval.specs.Meaning.{eval_of, two_arms}
 use Rattle.sx_eval.specs.Procedures.{has_text, truth_of}
 use Rattle.sx_eval.specs.Setting.{PlainSetting}
-use Rattle.sx_eval.specs.State.{State, next_place}
+use Rattle.sx_eval.specs.State.{WorldState, next_place}
 use Rattle.sx_eval.specs.Variables.{Entries}
-use Rattle.sx_eval_laws.specs.Kept.{Later}
+use Rattle.sx_eval_laws.specs.Kept.{LaterWorld}
 use Rattle.sx_list_laws.specs.Runs.{IsList}
 use Rattle.sx_list_laws.proofs.RunLemmas.{pair_still}
 use Rattle.sx_given_laws.specs.Calls.{End, Ends, call_of, CallEnds, Calls}
@@ -29,7 +29,7 @@ use Rattle.sx_given_laws.proofs.Loop.{Names, entered-later}
 use Rattle.sx_given_laws.proofs.LoopText.{home_place}
 use Rattle.sx_given_laws.proofs.Primitives.{pair-not-nil, bool-is}
 use Rattle.sx_given_laws.proofs.Unique.{ends-one-end, ends-one-state}
-use Rattle.sx_given_lists_laws.specs.RowCalls.{AfterValue, ForAll, all_none, all_last, all_but, all_so_far, all_stops, ForAllEnds}
+use Rattle.sx_given_lists_laws.specs.RowCalls.{AfterValue, ForAllByRows, all_none, all_last, all_but, all_so_far, all_stops, ForAllEnds}
 use Rattle.sx_given_lists_laws.specs.Rows.{Pairs, InRows}
 use Rattle.sx_given_lists_laws.proofs.Moving.{all-from, for-all-ends-later}
 use Rattle.sx_given_lists_laws.proofs.RowLemmas.{rows-later, rows-none, rows-some}
@@ -50,20 +50,20 @@ module _ (w : PlainSetting) (knows : Knows w.codes) (f : Value) (p : Place) wher
   names = record { procedure = λ f l. refl; list = λ f l. refl; no_loop = λ f l. refl; loop = refl }
 
   -- the loop on a list of lists that stand in rows
-  abbrev Holds : List (List Value) → Value → State → Type 0
-  Holds rows lv s = (r : End) × (t : State) × CallEnds w g (f ∷ lv ∷ []) s r t × ForAll w f rows s r t
+  abbrev Holds : List (List Value) → Value → WorldState → Type 0
+  Holds rows lv s = (r : End) × (t : WorldState) × CallEnds w g (f ∷ lv ∷ []) s r t × ForAllByRows w f rows s r t
 
-  module _ (lv l : Value) (more : List Value) (s : State) (round : Home s.cells p home) (lists : IsList s.cells (l ∷ more) lv) where
-    abbrev at : State
+  module _ (lv l : Value) (more : List Value) (s : WorldState) (round : Home s.cells p home) (lists : IsList s.cells (l ∷ more) lv) where
+    abbrev at : WorldState
     at = loop.at w knows 29 28 31 32 for_all_loop knows.for_all_loop p home names f lv s round
 
     abbrev q : Place
     q = next_place s
 
-    enter : Later s at
+    enter : LaterWorld s at
     enter = entered-later w 29 28 31 32 for_all_loop knows.for_all_loop p home names f lv s round
 
-    body-iff : (r : End) (t : State) → Iff (CallEnds w g (f ∷ lv ∷ []) s r t) (ExpressionEnds w for_all_loop q at r t)
+    body-iff : (r : End) (t : WorldState) → Iff (CallEnds w g (f ∷ lv ∷ []) s r t) (ExpressionEnds w for_all_loop q at r t)
     body-iff = loop.body-iff w knows 29 28 31 32 for_all_loop knows.for_all_loop p home names f lv s round
 
     nothing : l ≡ nil → Calls w g (f ∷ lv ∷ []) s (truth true) at
@@ -80,17 +80,17 @@ module _ (w : PlainSetting) (knows : Knows w.codes) (f : Value) (p : Place) wher
       abbrev asked : Listed w (value.Prim (record { 0 = ops.MAP })) (value.Prim (record { 0 = ops.CAR }) ∷ lv ∷ []) at row
       asked = loop.asked w knows 29 28 31 32 for_all_loop knows.for_all_loop p home names f lv s round l more lists at (later-refl at) row (d ∷ ds) pairs
 
-      asked-at : Later at asked.state
+      asked-at : LaterWorld at asked.state
       asked-at = loop.asked-later w knows 29 28 31 32 for_all_loop knows.for_all_loop p home names f lv s round l more lists at (later-refl at) row (d ∷ ds) pairs
 
-      till-asked : Later s asked.state
+      till-asked : LaterWorld s asked.state
       till-asked = later-then s at asked.state enter asked-at
 
-      ask-iff : (r : End) (t : State) → Iff (ExpressionEnds w (on_cars (var 31) (var 32)) q at r t) (CallEnds w f row asked.state r t)
+      ask-iff : (r : End) (t : WorldState) → Iff (ExpressionEnds w (on_cars (var 31) (var 32)) q at r t) (CallEnds w f row asked.state r t)
       ask-iff = loop.ask-iff w knows 29 28 31 32 for_all_loop knows.for_all_loop p home names f lv s round l more lists at (later-refl at) row (d ∷ ds) pairs
 
       -- the last row
-      last-iff : d ≡ nil → (r : End) (t : State) → Iff (CallEnds w g (f ∷ lv ∷ []) s r t) (CallEnds w f row asked.state r t)
+      last-iff : d ≡ nil → (r : End) (t : WorldState) → Iff (CallEnds w g (f ∷ lv ∷ []) s r t) (CallEnds w f row asked.state r t)
       last-iff e r t =
           iff-then (body-iff r t)
           (iff-then (false-iff w _ _ _ q at at (truth false) r t (loop.first-null w knows 29 28 31 32 for_all_loop knows.for_all_loop p home names f lv s round l more lists at (later-refl at) false (pair-not-nil s.cells l x d pair)) refl)
@@ -101,7 +101,7 @@ module _ (w : PlainSetting) (knows : Knows w.codes) (f : Value) (p : Place) wher
       no_more = datum_at ops.FOR_ALL 163 165 (a.Bool false)
 
       -- a row before it
-      next-iff : is_nil d ≡ false → (r : End) (t : State) → Iff (CallEnds w g (f ∷ lv ∷ []) s r t) (Split (eval_of w (on_cars (var 31) (var 32)) q at) (two_arms w (eval_of w) (app (var 28) (var 31 ∷ cdrs (var 32) ∷ [])) no_more q) r t)
+      next-iff : is_nil d ≡ false → (r : End) (t : WorldState) → Iff (CallEnds w g (f ∷ lv ∷ []) s r t) (Split (eval_of w (on_cars (var 31) (var 32)) q at) (two_arms w (eval_of w) (app (var 28) (var 31 ∷ cdrs (var 32) ∷ [])) no_more q) r t)
       next-iff e r t =
           iff-then (body-iff r t)
           (iff-then (false-iff w _ _ _ q at at (truth false) r t (loop.first-null w knows 29 28 31 32 for_all_loop knows.for_all_loop p home names f lv s round l more lists at (later-refl at) false (pair-not-nil s.cells l x d pair)) refl)
@@ -109,21 +109,21 @@ module _ (w : PlainSetting) (knows : Knows w.codes) (f : Value) (p : Place) wher
           (test-iff w (on_cars (var 31) (var 32)) (app (var 28) (var 31 ∷ cdrs (var 32) ∷ [])) no_more q at r t)))
 
       -- what comes of an answer
-      module _ (y : Value) (u : State) (called : Calls w f row asked.state y u) where
-        behind : Later at u
+      module _ (y : Value) (u : WorldState) (called : Calls w f row asked.state y u) where
+        behind : LaterWorld at u
         behind = later-then at asked.state u asked-at (calls-later w f row asked.state y u called)
 
         -- (map cdr ls), on which the loop goes on
         abbrev left : Listed w (value.Prim (record { 0 = ops.MAP })) (value.Prim (record { 0 = ops.CDR }) ∷ lv ∷ []) u (d ∷ ds)
         left = loop.left w knows 29 28 31 32 for_all_loop knows.for_all_loop p home names f lv s round l more lists u behind row (d ∷ ds) pairs
 
-        till-left : Later u left.state
+        till-left : LaterWorld u left.state
         till-left = loop.left-later w knows 29 28 31 32 for_all_loop knows.for_all_loop p home names f lv s round l more lists u behind row (d ∷ ds) pairs
 
-        far : Later s left.state
+        far : LaterWorld s left.state
         far = later-then s at left.state enter (later-then at u left.state behind till-left)
 
-        again-iff : truth_of y ≡ true → (r : End) (t : State) → Iff (Ends ((two_arms w (eval_of w) (app (var 28) (var 31 ∷ cdrs (var 32) ∷ [])) no_more q) y u) r t) (CallEnds w g (f ∷ left.value ∷ []) left.state r t)
+        again-iff : truth_of y ≡ true → (r : End) (t : WorldState) → Iff (Ends ((two_arms w (eval_of w) (app (var 28) (var 31 ∷ cdrs (var 32) ∷ [])) no_more q) y u) r t) (CallEnds w g (f ∷ left.value ∷ []) left.state r t)
         again-iff e r t =
             iff-then (true-arm w (app (var 28) (var 31 ∷ cdrs (var 32) ∷ [])) no_more q y u r t e)
             (loop.again-iff w knows 29 28 31 32 for_all_loop knows.for_all_loop p home names f lv s round l more lists u behind row (d ∷ ds) pairs r t)
@@ -131,9 +131,9 @@ module _ (w : PlainSetting) (knows : Knows w.codes) (f : Value) (p : Place) wher
         ends-here : truth_of y ≡ false → Ends ((two_arms w (eval_of w) (app (var 28) (var 31 ∷ cdrs (var 32) ∷ [])) no_more q) y u) (Ok (truth false)) u
         ends-here e = (false-arm w (app (var 28) (var 31 ∷ cdrs (var 32) ∷ [])) no_more q y u (Ok (truth false)) u e).1 (bool-is w _ false q u)
 
-      next-ends : (next : List Value) (rows : List (List Value)) → is_nil d ≡ false → (r : End) (u : State) (called : CallEnds w f row asked.state r u)
+      next-ends : (next : List Value) (rows : List (List Value)) → is_nil d ≡ false → (r : End) (u : WorldState) (called : CallEnds w f row asked.state r u)
           → AfterValue r (λ y. truth_of y ≡ true → ForAllEnds w f (next ∷ rows) u)
-          → ((v : State) (lw : Value) → Later s v → IsList v.cells (d ∷ ds) lw → ForAllEnds w f (next ∷ rows) v → Holds (next ∷ rows) lw v) → Holds (row ∷ next ∷ rows) lv s
+          → ((v : WorldState) (lw : Value) → LaterWorld s v → IsList v.cells (d ∷ ds) lw → ForAllEnds w f (next ∷ rows) v → Holds (next ∷ rows) lw v) → Holds (row ∷ next ∷ rows) lv s
       next-ends next rows e (Err b) u called a again = (Err b, u, (next-iff e (Err b) u).1 (stopped ((ask-iff (Err b) u).1 called)), all_stops till-asked called)
       next-ends next rows e (Ok y) u called a again =
           by-truth (truth_of y) (Holds (row ∷ next ∷ rows) lv s)
@@ -145,24 +145,24 @@ module _ (w : PlainSetting) (knows : Knows w.codes) (f : Value) (p : Place) wher
           ))
           (λ is. (Ok (truth false), u, (next-iff e (Ok (truth false)) u).1 (went y u ((ask-iff (Ok y) u).1 called) (ends-here y u called is)), all_but till-asked called is))
 
-      next-did : (next : List Value) (rows : List (List Value)) → is_nil d ≡ false → (r : End) (t : State) → CallEnds w g (f ∷ lv ∷ []) s r t
-          → ((v : State) (lw : Value) → Later s v → IsList v.cells (d ∷ ds) lw → (e : End) (o : State) → CallEnds w g (f ∷ lw ∷ []) v e o → ForAll w f (next ∷ rows) v e o)
-          → ForAll w f (row ∷ next ∷ rows) s r t
+      next-did : (next : List Value) (rows : List (List Value)) → is_nil d ≡ false → (r : End) (t : WorldState) → CallEnds w g (f ∷ lv ∷ []) s r t
+          → ((v : WorldState) (lw : Value) → LaterWorld s v → IsList v.cells (d ∷ ds) lw → (e : End) (o : WorldState) → CallEnds w g (f ∷ lw ∷ []) v e o → ForAllByRows w f (next ∷ rows) v e o)
+          → ForAllByRows w f (row ∷ next ∷ rows) s r t
       next-did next rows e r t called again = by r t ((next-iff e r t).0 called)
         where
-          first : (y : Value) (u : State) → Evaluates w (on_cars (var 31) (var 32)) q at y u → Calls w f row asked.state y u
+          first : (y : Value) (u : WorldState) → Evaluates w (on_cars (var 31) (var 32)) q at y u → Calls w f row asked.state y u
           first y u h = (ask-iff (Ok y) u).0 h
 
-          by : (r : End) (t : State) → Split (eval_of w (on_cars (var 31) (var 32)) q at) (two_arms w (eval_of w) (app (var 28) (var 31 ∷ cdrs (var 32) ∷ [])) no_more q) r t → ForAll w f (row ∷ next ∷ rows) s r t
+          by : (r : End) (t : WorldState) → Split (eval_of w (on_cars (var 31) (var 32)) q at) (two_arms w (eval_of w) (app (var 28) (var 31 ∷ cdrs (var 32) ∷ [])) no_more q) r t → ForAllByRows w f (row ∷ next ∷ rows) s r t
           by r t (stopped {e = b} h) = all_stops till-asked ((ask-iff (Err b) t).0 h)
           by r t (went y u g1 onward) =
-              by-truth (truth_of y) (ForAll w f (row ∷ next ∷ rows) s r t)
+              by-truth (truth_of y) (ForAllByRows w f (row ∷ next ∷ rows) s r t)
               (λ is. all_so_far till-asked (first y u g1) is (all-from w f (next ∷ rows) r u (left y u (first y u g1)).state t (till-left y u (first y u g1))
               (again (left y u (first y u g1)).state (left y u (first y u g1)).value (far y u (first y u g1)) (left y u (first y u g1)).list r t ((again-iff y u (first y u g1) is r t).0 onward))))
-              (λ is. subst (λ a. ForAll w f (row ∷ next ∷ rows) s r a) (ends-one-state ((two_arms w (eval_of w) (app (var 28) (var 31 ∷ cdrs (var 32) ∷ [])) no_more q) y u) (Ok (truth false)) r u t (ends-here y u (first y u g1) is) onward)
-              (subst (λ a. ForAll w f (row ∷ next ∷ rows) s a u) (ends-one-end ((two_arms w (eval_of w) (app (var 28) (var 31 ∷ cdrs (var 32) ∷ [])) no_more q) y u) (Ok (truth false)) r u t (ends-here y u (first y u g1) is) onward) (all_but till-asked (first y u g1) is)))
+              (λ is. subst (λ a. ForAllByRows w f (row ∷ next ∷ rows) s r a) (ends-one-state ((two_arms w (eval_of w) (app (var 28) (var 31 ∷ cdrs (var 32) ∷ [])) no_more q) y u) (Ok (truth false)) r u t (ends-here y u (first y u g1) is) onward)
+              (subst (λ a. ForAllByRows w f (row ∷ next ∷ rows) s a u) (ends-one-end ((two_arms w (eval_of w) (app (var 28) (var 31 ∷ cdrs (var 32) ∷ [])) no_more q) y u) (Ok (truth false)) r u t (ends-here y u (first y u g1) is) onward) (all_but till-asked (first y u g1) is)))
 
-  for-all-ends : (rows : List (List Value)) (lv l : Value) (more : List Value) (s : State) → Home s.cells p home → IsList s.cells (l ∷ more) lv → InRows s.cells rows (l ∷ more)
+  for-all-ends : (rows : List (List Value)) (lv l : Value) (more : List Value) (s : WorldState) → Home s.cells p home → IsList s.cells (l ∷ more) lv → InRows s.cells rows (l ∷ more)
       → ForAllEnds w f rows s → Holds rows lv s
   for-all-ends [] lv l more s round lists r give = (Ok (truth true), at lv l more s round lists, nothing lv l more s round lists (rows-none r), all_none (enter lv l more s round lists))
   for-all-ends (row ∷ []) lv l more s round lists r give =
@@ -181,12 +181,12 @@ module _ (w : PlainSetting) (knows : Knows w.codes) (f : Value) (p : Place) wher
       (λ v lw k is a. for-all-ends (next ∷ rows) lw c.d c.ds v (home-later s v k p home round) is (rows-later s v k c.behind) a)
 
   -- whatever a call came to, it did so
-  for-all-did : (rows : List (List Value)) (lv l : Value) (more : List Value) (s : State) → Home s.cells p home → IsList s.cells (l ∷ more) lv → InRows s.cells rows (l ∷ more)
-      → (r : End) (t : State) → CallEnds w g (f ∷ lv ∷ []) s r t → ForAll w f rows s r t
+  for-all-did : (rows : List (List Value)) (lv l : Value) (more : List Value) (s : WorldState) → Home s.cells p home → IsList s.cells (l ∷ more) lv → InRows s.cells rows (l ∷ more)
+      → (r : End) (t : WorldState) → CallEnds w g (f ∷ lv ∷ []) s r t → ForAllByRows w f rows s r t
   for-all-did [] lv l more s round lists rs r t called =
       let done = nothing lv l more s round lists (rows-none rs) in
-      subst (λ a. ForAll w f [] s r a) (ends-one-state (call_of w g (f ∷ lv ∷ []) s) (Ok (truth true)) r (at lv l more s round lists) t done called)
-      (subst (λ a. ForAll w f [] s a (at lv l more s round lists)) (ends-one-end (call_of w g (f ∷ lv ∷ []) s) (Ok (truth true)) r (at lv l more s round lists) t done called) (all_none (enter lv l more s round lists)))
+      subst (λ a. ForAllByRows w f [] s r a) (ends-one-state (call_of w g (f ∷ lv ∷ []) s) (Ok (truth true)) r (at lv l more s round lists) t done called)
+      (subst (λ a. ForAllByRows w f [] s a (at lv l more s round lists)) (ends-one-end (call_of w g (f ∷ lv ∷ []) s) (Ok (truth true)) r (at lv l more s round lists) t done called) (all_none (enter lv l more s round lists)))
   for-all-did (row ∷ []) lv l more s round lists rs r t called =
       let c = rows-some rs in
       all_last (till-asked lv l more s round lists row c.x c.d c.ds c.pairs c.is) ((last-iff lv l more s round lists row c.x c.d c.ds c.pairs c.is (rows-none c.behind) r t).0 called)
@@ -196,18 +196,18 @@ module _ (w : PlainSetting) (knows : Knows w.codes) (f : Value) (p : Place) wher
       next-did lv l more s round lists row c.x c.d c.ds c.pairs c.is next rows (pair-not-nil s.cells c.d b.x b.d b.is) r t called
       (λ v lw k is e o h. for-all-did (next ∷ rows) lw c.d c.ds v (home-later s v k p home round) is (rows-later s v k c.behind) e o h)
 
-module _ (w : PlainSetting) (knows : Knows w.codes) (f l : Value) (more : List Value) (rows : List (List Value)) (s : State) (r : InRows s.cells rows (l ∷ more)) where
+module _ (w : PlainSetting) (knows : Knows w.codes) (f l : Value) (more : List Value) (rows : List (List Value)) (s : WorldState) (r : InRows s.cells rows (l ∷ more)) where
   abbrev enter_names : EnterNames 28 37 38 39 (value.Closure (code_no 29) (home_place w s 28 29))
   enter_names = record { procedure = λ f l ls. refl; list = λ f l ls. refl; lists = λ f l ls. refl; no_loop = λ f l ls. refl; loop = refl }
 
   module _ (is_text : has_text ops.FOR_ALL ≡ true) where
-    abbrev begun : State
+    abbrev begun : WorldState
     begun = loop.loop_state w s 28 29 ops.FOR_ALL 35 37 38 39 31 32 for_all_loop refl refl is_text enter_names knows.for_all_text knows.for_all_body f l more
 
     abbrev lv : Value
     lv = loop.lists_value w s 28 29 ops.FOR_ALL 35 37 38 39 31 32 for_all_loop refl refl is_text enter_names knows.for_all_text knows.for_all_body f l more
 
-    far-begun : Later s begun
+    far-begun : LaterWorld s begun
     far-begun = loop.loop-later w s 28 29 ops.FOR_ALL 35 37 38 39 31 32 for_all_loop refl refl is_text enter_names knows.for_all_text knows.for_all_body f l more
 
     begun-home : Home begun.cells (home_place w s 28 29) (one_home (label 28) (code_no 29) (home_place w s 28 29))
@@ -216,23 +216,23 @@ module _ (w : PlainSetting) (knows : Knows w.codes) (f l : Value) (more : List V
     begun-lists : IsList begun.cells (l ∷ more) lv
     begun-lists = loop.lists-are w s 28 29 ops.FOR_ALL 35 37 38 39 31 32 for_all_loop refl refl is_text enter_names knows.for_all_text knows.for_all_body f l more
 
-    begun-iff : (e : End) (t : State) → Iff (CallEnds w (value.Prim (record { 0 = ops.FOR_ALL })) (f ∷ l ∷ more) s e t) (CallEnds w (value.Closure (code_no 29) (home_place w s 28 29)) (f ∷ lv ∷ []) begun e t)
+    begun-iff : (e : End) (t : WorldState) → Iff (CallEnds w (value.Prim (record { 0 = ops.FOR_ALL })) (f ∷ l ∷ more) s e t) (CallEnds w (value.Closure (code_no 29) (home_place w s 28 29)) (f ∷ lv ∷ []) begun e t)
     begun-iff = loop.entered-iff w s 28 29 ops.FOR_ALL 35 37 38 39 31 32 for_all_loop refl refl is_text enter_names knows.for_all_text knows.for_all_body f l more
 
-    ended-by : ForAllEnds w f rows s → (e : End) × (t : State) × CallEnds w (value.Prim (record { 0 = ops.FOR_ALL })) (f ∷ l ∷ more) s e t × ForAll w f rows s e t
+    ended-by : ForAllEnds w f rows s → (e : End) × (t : WorldState) × CallEnds w (value.Prim (record { 0 = ops.FOR_ALL })) (f ∷ l ∷ more) s e t × ForAllByRows w f rows s e t
     ended-by give =
         let m = for-all-ends w knows f (home_place w s 28 29) rows lv l more begun begun-home begun-lists (rows-later s begun far-begun r) (for-all-ends-later w f rows s begun far-begun give) in
         (m.0, m.1, (begun-iff m.0 m.1).1 m.2, all-from w f rows m.0 s begun m.1 far-begun m.3)
 
-    did-by : (e : End) (t : State) → CallEnds w (value.Prim (record { 0 = ops.FOR_ALL })) (f ∷ l ∷ more) s e t → ForAll w f rows s e t
+    did-by : (e : End) (t : WorldState) → CallEnds w (value.Prim (record { 0 = ops.FOR_ALL })) (f ∷ l ∷ more) s e t → ForAllByRows w f rows s e t
     did-by e t called =
         all-from w f rows e s begun t far-begun
         (for-all-did w knows f (home_place w s 28 29) rows lv l more begun begun-home begun-lists (rows-later s begun far-begun r) e t ((begun-iff e t).0 called))
 
-  pub for-all-ended : ForAllEnds w f rows s → (e : End) × (t : State) × CallEnds w (value.Prim (record { 0 = ops.FOR_ALL })) (f ∷ l ∷ more) s e t × ForAll w f rows s e t
+  pub for-all-ended : ForAllEnds w f rows s → (e : End) × (t : WorldState) × CallEnds w (value.Prim (record { 0 = ops.FOR_ALL })) (f ∷ l ∷ more) s e t × ForAllByRows w f rows s e t
   unfolding has_text
   for-all-ended give = ended-by refl give
 
-  pub for-all-only : (e : End) (t : State) → CallEnds w (value.Prim (record { 0 = ops.FOR_ALL })) (f ∷ l ∷ more) s e t → ForAll w f rows s e t
+  pub for-all-only : (e : End) (t : WorldState) → CallEnds w (value.Prim (record { 0 = ops.FOR_ALL })) (f ∷ l ∷ more) s e t → ForAllByRows w f rows s e t
   unfolding has_text
   for-all-only e t called = did-by refl e t called

@@ -4,18 +4,18 @@ use Rattle.sx_value.specs.declared.value.Value.{Value}
 use Rattle.sx_value.specs.declared.cell.Cell.{Cell}
 use Rattle.sx_prims.specs.Chains.{pair_of}
 use Rattle.sx_prims.specs.Lists.{nil}
-use Rattle.sx_eval.specs.State.{State}
-use Rattle.sx_eval_laws.specs.Kept.{Later}
+use Rattle.sx_eval.specs.State.{WorldState}
+use Rattle.sx_eval_laws.specs.Kept.{LaterWorld}
 use Rattle.sx_list_laws.specs.Runs.{here, next, IsList, AreLists, no_lists, one_list}
 use Rattle.sx_list_laws.proofs.RunLemmas.{pair_still}
 use Rattle.sx_given_laws.proofs.Looking.{later-stay}
 use Rattle.sx_given_lists_laws.specs.Rows.{Pairs, no_pair, one_pair, AreEmpty, InRows, no_row, one_row, AllLong, first_row, behind_row, rows_of}
 
-pub pairs-later : (s t : State) → Later s t → {xs ds ls : List Value} → Pairs s.cells xs ds ls → Pairs t.cells xs ds ls
+pub pairs-later : (s t : WorldState) → LaterWorld s t → {xs ds ls : List Value} → Pairs s.cells xs ds ls → Pairs t.cells xs ds ls
 pairs-later s t k no_pair = no_pair
 pairs-later s t k (one_pair {x = x} {d = d} {l = l} e r) = one_pair (pair_still s.cells t.cells (later-stay s t k) l x d e) (pairs-later s t k r)
 
-pub rows-later : (s t : State) → Later s t → {rows : List (List Value)} {ls : List Value} → InRows s.cells rows ls → InRows t.cells rows ls
+pub rows-later : (s t : WorldState) → LaterWorld s t → {rows : List (List Value)} {ls : List Value} → InRows s.cells rows ls → InRows t.cells rows ls
 rows-later s t k (no_row e) = no_row e
 rows-later s t k (one_row p r) = one_row (pairs-later s t k p) (rows-later s t k r)
 

@@ -19,9 +19,9 @@ use Rattle.sx_prims.specs.Lists.{nil}
 use Rattle.sx_eval.specs.Codes.{procedure_code}
 use Rattle.sx_eval.specs.Procedures.{has_text}
 use Rattle.sx_eval.specs.Setting.{PlainSetting}
-use Rattle.sx_eval.specs.State.{State, store, next_place, with_cell}
+use Rattle.sx_eval.specs.State.{WorldState, store, next_place, with_cell}
 use Rattle.sx_eval.specs.Variables.{Entries}
-use Rattle.sx_eval_laws.specs.Kept.{Later}
+use Rattle.sx_eval_laws.specs.Kept.{LaterWorld}
 use Rattle.sx_list_laws.specs.Runs.{IsList}
 use Rattle.sx_list_laws.proofs.RunLemmas.{stored_runs}
 use Rattle.sx_given_laws.specs.Calls.{End, CallEnds}
@@ -43,21 +43,21 @@ use Rattle.sx_given_lists_laws.proofs.Splitting.{Iff, iff-then}
 use Rattle.sx_given_lists_laws.proofs.Steps.{two-iff, closure-iff, case-iff, text-iff}
 
 module _ (w : PlainSetting) (knows : Knows w.codes) (code go m n : ℕ) (body : PlainCore) (known : HasCase w.codes code (m ∷ n ∷ []) None body)
-    (p : Place) (home : Entries) (names : Names go m n home (value.Closure (code_no code) p)) (f lv : Value) (s : State) (round : Home s.cells p home) where
+    (p : Place) (home : Entries) (names : Names go m n home (value.Closure (code_no code) p)) (f lv : Value) (s : WorldState) (round : Home s.cells p home) where
   abbrev q : Place
   q = next_place s
 
-  abbrev pub at : State
+  abbrev pub at : WorldState
   at = loop.entered w code go m n body known p home names f lv s round
 
   -- the call of the loop, by its body
-  pub body-iff : (r : End) (t : State) → Iff (CallEnds w (value.Closure (code_no code) p) (f ∷ lv ∷ []) s r t) (ExpressionEnds w body q at r t)
+  pub body-iff : (r : End) (t : WorldState) → Iff (CallEnds w (value.Closure (code_no code) p) (f ∷ lv ∷ []) s r t) (ExpressionEnds w body q at r t)
   body-iff r t =
       iff-then (closure-iff w (code_no code) p (f ∷ lv ∷ []) s r t)
       (case-iff w (code_no code) p (f ∷ lv ∷ []) s (procedure_code (code_no code) (one_case (m ∷ n ∷ []) None body) true) (formals (m ∷ n ∷ []) None) body r t known refl)
 
-  module _ (l : Value) (more : List Value) (lists : IsList s.cells (l ∷ more) lv) (u : State) (behind : Later at u) where
-    far : Later s u
+  module _ (l : Value) (more : List Value) (lists : IsList s.cells (l ∷ more) lv) (u : WorldState) (behind : LaterWorld at u) where
+    far : LaterWorld s u
     far = later-then s at u (later-with s (cell.Scope (two_vars m n f lv) (Some p))) behind
 
     pub lists-then : IsList u.cells (l ∷ more) lv
@@ -79,23 +79,23 @@ module _ (w : PlainSetting) (knows : Knows w.codes) (code go m n : ℕ) (body : 
       abbrev pub asked : Listed w (value.Prim (record { 0 = ops.MAP })) (value.Prim (record { 0 = ops.CAR }) ∷ lv ∷ []) u row
       asked = cars-given w knows u lv (l ∷ more) lists-then row rest pairs-then
 
-      pub asked-later : Later u asked.state
+      pub asked-later : LaterWorld u asked.state
       asked-later = cars-later w knows u lv (l ∷ more) lists-then row rest pairs-then
 
       abbrev pub left : Listed w (value.Prim (record { 0 = ops.MAP })) (value.Prim (record { 0 = ops.CDR }) ∷ lv ∷ []) u rest
       left = cdrs-given w knows u lv (l ∷ more) lists-then row rest pairs-then
 
-      pub left-later : Later u left.state
+      pub left-later : LaterWorld u left.state
       left-later = cdrs-later w knows u lv (l ∷ more) lists-then row rest pairs-then
 
       -- f is called on the row
-      pub ask-iff : (r : End) (t : State) → Iff (ExpressionEnds w (on_cars (var m) (var n)) q u r t) (CallEnds w f row asked.state r t)
+      pub ask-iff : (r : End) (t : WorldState) → Iff (ExpressionEnds w (on_cars (var m) (var n)) q u r t) (CallEnds w f row asked.state r t)
       ask-iff r t =
           on-cars-iff w knows u lv (l ∷ more) lists-then row rest pairs-then (var n) q (loop.list-read w code go m n body known p home names f lv s round u behind) (var m) f
           (loop.procedure-read w code go m n body known p home names f lv s round u behind) r t
 
       -- the loop goes on along the rests
-      pub again-iff : (r : End) (t : State) → Iff (ExpressionEnds w (app (var go) (var m ∷ cdrs (var n) ∷ [])) q u r t) (CallEnds w (value.Closure (code_no code) p) (f ∷ left.value ∷ []) left.state r t)
+      pub again-iff : (r : End) (t : WorldState) → Iff (ExpressionEnds w (app (var go) (var m ∷ cdrs (var n) ∷ [])) q u r t) (CallEnds w (value.Closure (code_no code) p) (f ∷ left.value ∷ []) left.state r t)
       again-iff r t =
           two-iff w (var go) (var m) (cdrs (var n)) q u u u left.state t (value.Closure (code_no code) p) f left.value r
           (outer w u q (two_vars m n f lv) p home (inside-later at u behind q (two_vars m n f lv) p home (entered-inside s (two_vars m n f lv) p home round)) (label go) (value.Closure (code_no code) p) (names.no_loop f lv) names.loop)
@@ -104,16 +104,16 @@ module _ (w : PlainSetting) (knows : Knows w.codes) (code go m n : ℕ) (body : 
 
 -- the list of the arguments behind the formals, and the cells with it
 
-abbrev pub rest_list : List Value → State → Value
+abbrev pub rest_list : List Value → WorldState → Value
 rest_list more s = (pairs_stored more (nil, s.cells)).0
 
-abbrev pub with_rest : List Value → State → State
+abbrev pub with_rest : List Value → WorldState → WorldState
 with_rest more s = store (pairs_stored more (nil, s.cells)).1 s.names
 
-pub rest-later : (more : List Value) (s : State) → Later s (with_rest more s)
+pub rest-later : (more : List Value) (s : WorldState) → LaterWorld s (with_rest more s)
 rest-later more s = record { cells = pairs_keep more (nil, s.cells); library = refl; names = omega arith }
 
-pub rest-is : (more : List Value) (s : State) → IsList (with_rest more s).cells more (rest_list more s)
+pub rest-is : (more : List Value) (s : WorldState) → IsList (with_rest more s).cells more (rest_list more s)
 rest-is more s = stored_runs more nil s.cells
 
 -- enough arguments for two formals and for three
@@ -135,7 +135,7 @@ pub record EnterNames (go a b c : ℕ) (g : Value) : Type 0 where
   pub loop : lookup (same_label (label go)) ((label go, Some g) ∷ []) ≡ Some (Some g)
 
 -- the text of a loop along a list of lists, called on a procedure and lists
-module _ (w : PlainSetting) (s : State) (go code : ℕ) (op k a b c : ℕ) (m n : ℕ) (body : PlainCore)
+module _ (w : PlainSetting) (s : WorldState) (go code : ℕ) (op k a b c : ℕ) (m n : ℕ) (body : PlainCore)
     (self : same_label (label go) (label go) ≡ true) (other : nat_eq op APPLY ≡ false) (yes_text : has_text op ≡ true)
     (names : EnterNames go a b c (value.Closure (code_no code) (home_place w s go code)))
     (text : HasText w.codes op (loop_text go code (m ∷ n ∷ []) body (lambda k (a ∷ b ∷ []) (Some c) (app (var go) (var a ∷ cons (var b) (var c) ∷ [])))))
@@ -146,16 +146,16 @@ module _ (w : PlainSetting) (s : State) (go code : ℕ) (op k a b c : ℕ) (m n 
   abbrev home_entries : Entries
   home_entries = one_home (label go) (code_no code) home_at
 
-  abbrev at_ready : State
+  abbrev at_ready : WorldState
   at_ready = ready w s go code
 
-  abbrev kept : State
+  abbrev kept : WorldState
   kept = with_rest more at_ready
 
   abbrev entries : Entries
   entries = three_vars a b c f l (rest_list more at_ready)
 
-  abbrev inner : State
+  abbrev inner : WorldState
   inner = with_cell (cell.Scope entries (Some home_at)) kept
 
   abbrev r : Place
@@ -165,16 +165,16 @@ module _ (w : PlainSetting) (s : State) (go code : ℕ) (op k a b c : ℕ) (m n 
   abbrev pub lists_value : Value
   lists_value = next_pair w inner
 
-  abbrev pub loop_state : State
+  abbrev pub loop_state : WorldState
   loop_state = with_cell (cell.Pair l (rest_list more at_ready)) inner
 
-  kept-inner : Later kept inner
+  kept-inner : LaterWorld kept inner
   kept-inner = later-with kept (cell.Scope entries (Some home_at))
 
-  inner-loop : Later inner loop_state
+  inner-loop : LaterWorld inner loop_state
   inner-loop = later-with inner (cell.Pair l (rest_list more at_ready))
 
-  pub loop-later : Later s loop_state
+  pub loop-later : LaterWorld s loop_state
   loop-later =
       later-then s at_ready loop_state (ready-later w s go code)
       (later-then at_ready kept loop_state (rest-later more at_ready) (later-then kept inner loop_state kept-inner inner-loop))
@@ -193,7 +193,7 @@ module _ (w : PlainSetting) (s : State) (go code : ℕ) (op k a b c : ℕ) (m n 
   pub lists-are : IsList loop_state.cells (l ∷ more) lists_value
   lists-are = list-more inner.cells l (rest_list more at_ready) more (list-later kept inner kept-inner more (rest_list more at_ready) (rest-is more at_ready))
 
-  pub entered-iff : (e : End) (t : State) → Iff (CallEnds w (value.Prim (record { 0 = op })) (f ∷ l ∷ more) s e t) (CallEnds w (value.Closure (code_no code) home_at) (f ∷ lists_value ∷ []) loop_state e t)
+  pub entered-iff : (e : End) (t : WorldState) → Iff (CallEnds w (value.Prim (record { 0 = op })) (f ∷ l ∷ more) s e t) (CallEnds w (value.Closure (code_no code) home_at) (f ∷ lists_value ∷ []) loop_state e t)
   entered-iff e t =
       iff-then
       (text-iff w (record { 0 = op }) (f ∷ l ∷ more) s at_ready t (text_code op (loop_text go code (m ∷ n ∷ []) body given)) (loop_text go code (m ∷ n ∷ []) body given) (code_no k) home_at e other yes_text text refl

@@ -8,8 +8,8 @@ use Rattle.sx_value.specs.declared.value.Value.TheVariants as value
 use Rattle.sx_value.specs.declared.cell.Cell.{Cell}
 use Rattle.sx_prims.specs.Chains.{pair_of}
 use Rattle.sx_eval.specs.Setting.{PlainSetting}
-use Rattle.sx_eval.specs.State.{State}
-use Rattle.sx_eval_laws.specs.Kept.{Later}
+use Rattle.sx_eval.specs.State.{WorldState}
+use Rattle.sx_eval_laws.specs.Kept.{LaterWorld}
 use Rattle.sx_list_laws.specs.Runs.{IsList}
 use Rattle.sx_list_laws.proofs.RunLemmas.{pair_still}
 use Rattle.sx_given_laws.specs.Calls.{End, CallEnds, Calls}
@@ -29,9 +29,9 @@ use Rattle.sx_given_lists_laws.proofs.Splitting.{Iff, iff-then}
 use Rattle.sx_given_lists_laws.proofs.Steps.{two-iff, apply-iff}
 
 -- a call that gives the list of these values
-pub record Listed (w : PlainSetting) (g : Value) (args : List Value) (s : State) (xs : List Value) : Type 0 where
+pub record Listed (w : PlainSetting) (g : Value) (args : List Value) (s : WorldState) (xs : List Value) : Type 0 where
   pub value : Value
-  pub state : State
+  pub state : WorldState
   pub called : Calls w g args s value state
   pub list : IsList state.cells xs value
 
@@ -57,7 +57,7 @@ cdrs-are : {cells : List Cell} {xs ds ls : List Value} → Pairs cells xs ds ls 
 cdrs-are no_pair = refl
 cdrs-are (one_pair {l = l} e r) = ap₂ (λ z zs. z ∷ zs) (ap (cdr_or l) e) (cdrs-are r)
 
-module _ (w : PlainSetting) (s : State) where
+module _ (w : PlainSetting) (s : WorldState) where
   cars-by : {xs ds ls : List Value} → Pairs s.cells xs ds ls → AllGiveBy w (value.Prim (record { 0 = names.CAR })) (car_in s.cells) ls s
   cars-by no_pair = tt
   cars-by (one_pair {x = x} {d = d} {l = l} e r) =
@@ -69,7 +69,7 @@ module _ (w : PlainSetting) (s : State) where
       (λ t k. (t, subst (λ v. Calls w (value.Prim (record { 0 = names.CDR })) (l ∷ []) t v t) (sym (ap (cdr_or l) e)) (cdr-called w l x d t (pair_still s.cells t.cells (later-stay s t k) l x d e))), cdrs-by r)
 
 -- by whatever calls a procedure on each element of a list
-module _ (w : PlainSetting) (g : Value) (lv : Value) (ls row rest : List Value) (s : State) (pairs : Pairs s.cells row rest ls) where
+module _ (w : PlainSetting) (g : Value) (lv : Value) (ls row rest : List Value) (s : WorldState) (pairs : Pairs s.cells row rest ls) where
   pub cars-listed : (AllGive w (value.Prim (record { 0 = names.CAR })) ls s → Maps w g (value.Prim (record { 0 = names.CAR }) ∷ lv ∷ []) (value.Prim (record { 0 = names.CAR })) ls s)
       → Listed w g (value.Prim (record { 0 = names.CAR }) ∷ lv ∷ []) s row
   cars-listed mapping = record {
@@ -96,17 +96,17 @@ module _ (w : PlainSetting) (g : Value) (lv : Value) (ls row rest : List Value) 
       m : Maps w g (value.Prim (record { 0 = names.CDR }) ∷ lv ∷ []) (value.Prim (record { 0 = names.CDR })) ls s
       m = mapping (by-all w (value.Prim (record { 0 = names.CDR })) (cdr_in s.cells) ls s (cdrs-by w s pairs))
 
-module _ (w : PlainSetting) (knows : Knows w.codes) (s : State) (lv : Value) (ls : List Value) (lists : IsList s.cells ls lv) (row rest : List Value) (pairs : Pairs s.cells row rest ls) where
+module _ (w : PlainSetting) (knows : Knows w.codes) (s : WorldState) (lv : Value) (ls : List Value) (lists : IsList s.cells ls lv) (row rest : List Value) (pairs : Pairs s.cells row rest ls) where
   pub cars-given : Listed w (value.Prim (record { 0 = names.MAP })) (value.Prim (record { 0 = names.CAR }) ∷ lv ∷ []) s row
   cars-given = cars-listed w (value.Prim (record { 0 = names.MAP })) lv ls row rest s pairs (λ give. map-given w s knows (value.Prim (record { 0 = names.CAR })) lv ls lists give)
 
   pub cdrs-given : Listed w (value.Prim (record { 0 = names.MAP })) (value.Prim (record { 0 = names.CDR }) ∷ lv ∷ []) s rest
   cdrs-given = cdrs-listed w (value.Prim (record { 0 = names.MAP })) lv ls row rest s pairs (λ give. map-given w s knows (value.Prim (record { 0 = names.CDR })) lv ls lists give)
 
-  pub cars-later : Later s cars-given.state
+  pub cars-later : LaterWorld s cars-given.state
   cars-later = calls-later w (value.Prim (record { 0 = names.MAP })) (value.Prim (record { 0 = names.CAR }) ∷ lv ∷ []) s cars-given.value cars-given.state cars-given.called
 
-  pub cdrs-later : Later s cdrs-given.state
+  pub cdrs-later : LaterWorld s cdrs-given.state
   cdrs-later = calls-later w (value.Prim (record { 0 = names.MAP })) (value.Prim (record { 0 = names.CDR }) ∷ lv ∷ []) s cdrs-given.value cdrs-given.state cdrs-given.called
 
   module _ (c : PlainCore) (scope : Place) (h : Evaluates w c scope s lv s) where
@@ -121,7 +121,7 @@ module _ (w : PlainSetting) (knows : Knows w.codes) (s : State) (lv : Value) (ls
         (primitive-is w (record { 0 = names.MAP }) scope s) (primitive-is w (record { 0 = names.CDR }) scope s) h cdrs-given.called
 
     -- f is called on the row
-    pub on-cars-iff : (e : PlainCore) (f : Value) → Evaluates w e scope s f s → (r : End) (t : State) → Iff (ExpressionEnds w (on_cars e c) scope s r t) (CallEnds w f row cars-given.state r t)
+    pub on-cars-iff : (e : PlainCore) (f : Value) → Evaluates w e scope s f s → (r : End) (t : WorldState) → Iff (ExpressionEnds w (on_cars e c) scope s r t) (CallEnds w f row cars-given.state r t)
     on-cars-iff e f k r t =
         iff-then
         (two-iff w (prim names.APPLY) e (cars c) scope s s s cars-given.state t (value.Prim (record { 0 = names.APPLY })) f cars-given.value r (primitive-is w (record { 0 = names.APPLY }) scope s) k cars-is)

@@ -4,7 +4,7 @@ use Rattle.std.specs.Prelude.{◌⊎◌}
 use Rattle.sx_base.specs.declared.fault.Bare.{Bare}
 use Rattle.sx_value.specs.ToSyntax.{fuel_spent}
 use Rattle.sx_value.specs.declared.value.Value.{Value}
-use Rattle.sx_eval.specs.State.{State, Outcome, done, faulted, unfit, Go, then_do}
+use Rattle.sx_eval.specs.State.{WorldState, Outcome, done, faulted, unfit, Go, then_do}
 use Rattle.sx_eval.proofs.Paid.{within_or_past}
 use Rattle.sx_eval_laws.specs.MoreFuel.{more_left, IsSpent, SpendsPast, LeavesAtLeast, LeavesAtMost}
 use Rattle.sx_eval_laws.specs.Runs.{ByFuel}
@@ -32,7 +32,7 @@ past-least n m (faulted f s left) h = omega (arith, h)
 past-least n m unfit h = absurd h
 
 -- no run wants fuel whatever it has
-module _ (run : ByFuel) (carried : AllCarried run) (t : State) (cost : ℕ) (spent : (left : ℕ) → run (left + cost) ≡ faulted fuel_spent t left) where
+module _ (run : ByFuel) (carried : AllCarried run) (t : WorldState) (cost : ℕ) (spent : (left : ℕ) → run (left + cost) ≡ faulted fuel_spent t left) where
   spent-at : (m : ℕ) → cost ≤ m → run m ≡ faulted fuel_spent t (m - cost)
   spent-at m le = let whole : m ≡ (m - cost) + cost = omega (arith, le) in ap run whole ∙ spent (m - cost)
 
@@ -53,7 +53,7 @@ module _ (run : ByFuel) (carried : AllCarried run) (t : State) (cost : ℕ) (spe
           let wrong : unfit ≡ faulted fuel_spent t (cost - cost) = sym (ap (more_left (cost - m)) e) ∙ sym more ∙ ap run whole ∙ spent-at cost (omega arith) in
           cc
 
-pub real-of : (run : ByFuel) → AllCarried run → (r : End) (t : State) → Ends run r t → Real r
+pub real-of : (run : ByFuel) → AllCarried run → (r : End) (t : WorldState) → Ends run r t → Real r
 real-of run carried (Ok v) t h = tt
 real-of run carried (Err f) t h = λ e. never run carried t h.0 (λ left. h.1 left ∙ ap (λ f. faulted f t left) e)
 
@@ -66,7 +66,7 @@ fault_or d (done v s n) = d
 fault_or d (faulted f s n) = f
 fault_or d unfit = d
 
-abbrev state_or : State → Outcome → State
+abbrev state_or : WorldState → Outcome → WorldState
 state_or d (done v s n) = d
 state_or d (faulted f s n) = s
 state_or d unfit = d
@@ -77,7 +77,7 @@ fuel_or d (faulted f s n) = n
 fuel_or d unfit = d
 
 -- nothing was left before that much more was
-none-left : (m : ℕ) (o : Outcome) (f : Bare) (t : State) → more_left m o ≡ faulted f t m → o ≡ faulted f t 0
+none-left : (m : ℕ) (o : Outcome) (f : Bare) (t : WorldState) → more_left m o ≡ faulted f t m → o ≡ faulted f t 0
 none-left m (done x u j) f t e = absurd (cc)
 none-left m unfit f t e = absurd (cc)
 none-left m (faulted d u j) f t e =
@@ -89,13 +89,13 @@ none-left m (faulted d u j) f t e =
 
 -- A run that ends with some fuel ends so with all that is more.
 module _ (run : ByFuel) (carried : AllCarried run) where
-  fault-by : (n : ℕ) (f : Bare) (t : State) → (f ≡ fuel_spent → ⊥) → run n ≡ faulted f t 0 → (left : ℕ) → run (left + n) ≡ faulted f t left
+  fault-by : (n : ℕ) (f : Bare) (t : WorldState) → (f ≡ fuel_spent → ⊥) → run n ≡ faulted f t 0 → (left : ℕ) → run (left + n) ≡ faulted f t left
   fault-by n f t real e left =
       let turned : left + n ≡ n + left = omega arith in
       let none : 0 + left ≡ left = omega arith in
       ap run turned ∙ more_is_left run carried n left (λ h. real (subst IsSpent e h)) ∙ ap (more_left left) e ∙ ap (faulted f t) none
 
-  fault-exact : (n m : ℕ) (f : Bare) (t : State) → (f ≡ fuel_spent → ⊥) → run n ≡ faulted f t m → run (n - m) ≡ faulted f t 0
+  fault-exact : (n m : ℕ) (f : Bare) (t : WorldState) → (f ≡ fuel_spent → ⊥) → run n ≡ faulted f t m → run (n - m) ≡ faulted f t 0
   fault-exact n m f t real e =
       let least : m ≤ n = subst (LeavesAtMost n) e (fuel_falls run carried n) in
       let parts : (n - m) + m ≡ n = omega (arith, least) in
@@ -103,25 +103,25 @@ module _ (run : ByFuel) (carried : AllCarried run) where
       let leaves : LeavesAtLeast m (run ((n - m) + m)) = subst (LeavesAtLeast m) (sym whole) (real, omega arith) in
       none-left m (run (n - m)) f t (sym (left_is_not_needed run carried (n - m) m leaves) ∙ whole)
 
-  pub enough-ends : (r : End) (t : State) (n m : ℕ) → Real r → run n ≡ ended r t m → Ends run r t
+  pub enough-ends : (r : End) (t : WorldState) (n m : ℕ) → Real r → run n ≡ ended r t m → Ends run r t
   enough-ends (Ok v) t n m real e = (n - m, enough-by run (fuel_falls run carried) (left_is_not_needed run carried) (more_is_left run carried) n m v t e)
   enough-ends (Err f) t n m real e = (n - m, fault-by (n - m) f t real (fault-exact n m f t real e))
 
 -- A first part gives a value, with which the run goes on; or it faults, and so does the run.
-pub data Split (p : ByFuel) (go : Go) : End → State → Type 0 where
-  went : (x : Value) (u : State) {r : End} {t : State} → Gives p x u → Ends (go x u) r t → Split p go r t
-  stopped : {e : Bare} {t : State} → Ends p (Err e) t → Split p go (Err e) t
+pub data Split (p : ByFuel) (go : Go) : End → WorldState → Type 0 where
+  went : (x : Value) (u : WorldState) {r : End} {t : WorldState} → Gives p x u → Ends (go x u) r t → Split p go r t
+  stopped : {e : Bare} {t : WorldState} → Ends p (Err e) t → Split p go (Err e) t
 
-pub split-ends : (p : ByFuel) (go : Go) (r : End) (t : State) → Split p go r t → Ends (λ n. then_do (p n) go) r t
+pub split-ends : (p : ByFuel) (go : Go) (r : End) (t : WorldState) → Split p go r t → Ends (λ n. then_do (p n) go) r t
 split-ends p go r t (went x u g h) = ends-then p go x u r t g h
 split-ends p go r t (stopped {e = e} g) = ends-stopped p go e t g
 
 module _ (p : ByFuel) (go : Go) (carried : AllCarried p) where
-  stopped-by : (n m : ℕ) (f : Bare) (u : State) → p n ≡ faulted f u m → (r : End) (t : State) → Real r → faulted f u m ≡ ended r t 0 → Split p go r t
+  stopped-by : (n m : ℕ) (f : Bare) (u : WorldState) → p n ≡ faulted f u m → (r : End) (t : WorldState) → Real r → faulted f u m ≡ ended r t 0 → Split p go r t
   stopped-by n m f u is (Ok v) t real e = absurd (cc)
   stopped-by n m f u is (Err d) t real e = stopped (enough-ends p carried (Err d) t n 0 real (is ∙ e))
 
-  pub split-of : (r : End) (t : State) → Real r → Ends (λ n. then_do (p n) go) r t → Split p go r t
+  pub split-of : (r : End) (t : WorldState) → Real r → Ends (λ n. then_do (p n) go) r t → Split p go r t
   split-of r t real g = by (p (0 + g.0)) refl
     where
       by : (o : Outcome) → p (0 + g.0) ≡ o → Split p go r t
@@ -144,14 +144,14 @@ module _ (p : ByFuel) (go : Go) (carried : AllCarried p) where
           unfit-by (Ok v) h = absurd (cc)
           unfit-by (Err f) h = absurd (cc)
 
-  pub split-iff : (r : End) (t : State) → Real r → Iff (Ends (λ n. then_do (p n) go) r t) (Split p go r t)
+  pub split-iff : (r : End) (t : WorldState) → Real r → Iff (Ends (λ n. then_do (p n) go) r t) (Split p go r t)
   split-iff r t real = (split-of r t real, split-ends p go r t)
 
   -- where the first part is known
-  known-by : (x : Value) (u : State) (r : End) (t : State) → Gives p x u → Split p go r t → Ends (go x u) r t
+  known-by : (x : Value) (u : WorldState) (r : End) (t : WorldState) → Gives p x u → Split p go r t → Ends (go x u) r t
   known-by x u r t h (went y v g k) =
       subst (λ a. Ends (go a u) r t) (ap (value_in y) (ends-one-end p (Ok y) (Ok x) v u g h)) (subst (λ b. Ends (go y b) r t) (ends-one-state p (Ok y) (Ok x) v u g h) k)
   known-by x u r t h (stopped {e = f} g) = let wrong : Ok x ≡ Err f = ends-one-end p (Ok x) (Err f) u t h g in absurd (cc)
 
-  pub known-ends : (x : Value) (u : State) (r : End) (t : State) → Real r → Gives p x u → Ends (λ n. then_do (p n) go) r t → Ends (go x u) r t
+  pub known-ends : (x : Value) (u : WorldState) (r : End) (t : WorldState) → Real r → Gives p x u → Ends (λ n. then_do (p n) go) r t → Ends (go x u) r t
   known-ends x u r t real h g = known-by x u r t h (split-of r t real g)

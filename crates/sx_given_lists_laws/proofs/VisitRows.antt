@@ -13,9 +13,9 @@ use Rattle.sx_eval.specs.Codes.{procedure_code}
 use Rattle.sx_eval.specs.Meaning.{eval_of, in_sequence}
 use Rattle.sx_eval.specs.Procedures.{has_text}
 use Rattle.sx_eval.specs.Setting.{PlainSetting}
-use Rattle.sx_eval.specs.State.{State, Go, next_place, with_cell}
+use Rattle.sx_eval.specs.State.{WorldState, Go, next_place, with_cell}
 use Rattle.sx_eval.specs.Variables.{Entries}
-use Rattle.sx_eval_laws.specs.Kept.{Later}
+use Rattle.sx_eval_laws.specs.Kept.{LaterWorld}
 use Rattle.sx_given_laws.specs.Calls.{End, CallEnds}
 use Rattle.sx_given_laws.specs.Codes.{label, code_no, var, prim, formals, one_case, app, datum_at, text_code, for_each_body, for_each_text}
 use Rattle.sx_given_laws.proofs.Giving.{Evaluates, ExpressionEnds, procedure-is, primitive-is, no-arm}
@@ -35,14 +35,14 @@ use Rattle.sx_given_lists_laws.proofs.RowLoop.{rest_list, with_rest, rest-later,
 use Rattle.sx_given_lists_laws.proofs.Splitting.{Iff, iff-then, Split, went, stopped}
 use Rattle.sx_given_lists_laws.proofs.Steps.{sequence-iff, four-iff, apply-iff, case-iff, text-iff}
 
-module _ (w : PlainSetting) (knows : Knows w.codes) (f l m : Value) (ms : List Value) (s : State) where
-  abbrev outside : State
+module _ (w : PlainSetting) (knows : Knows w.codes) (f l m : Value) (ms : List Value) (s : WorldState) where
+  abbrev outside : WorldState
   outside = with_cell (cell.Scope [] None) s
 
   abbrev p : Place
   p = next_place s
 
-  abbrev kept : State
+  abbrev kept : WorldState
   kept = with_rest (m ∷ ms) outside
 
   abbrev rest : Value
@@ -51,19 +51,19 @@ module _ (w : PlainSetting) (knows : Knows w.codes) (f l m : Value) (ms : List V
   abbrev entries : Entries
   entries = (label 23, Some f) ∷ (label 24, Some l) ∷ (label 25, Some rest) ∷ []
 
-  abbrev inner : State
+  abbrev inner : WorldState
   inner = with_cell (cell.Scope entries (Some p)) kept
 
   abbrev q : Place
   q = next_place kept
 
-  outside-kept : Later outside kept
+  outside-kept : LaterWorld outside kept
   outside-kept = rest-later (m ∷ ms) outside
 
-  kept-inner : Later kept inner
+  kept-inner : LaterWorld kept inner
   kept-inner = later-with kept (cell.Scope entries (Some p))
 
-  far : Later s inner
+  far : LaterWorld s inner
   far = later-then s outside inner (later-with s (cell.Scope [] None)) (later-then outside kept inner outside-kept kept-inner)
 
   inside : Inside inner.cells q entries p []
@@ -80,7 +80,7 @@ module _ (w : PlainSetting) (knows : Knows w.codes) (f l m : Value) (ms : List V
   abbrev go_on : Go
   go_on = λ x. in_sequence w (eval_of w) (more no_value none) q
 
-  mapping-iff : (r : End) (t : State) → Iff (ExpressionEnds w mapping q inner r t) (CallEnds w (value.Prim (record { 0 = names.MAP })) (f ∷ l ∷ m ∷ ms) inner r t)
+  mapping-iff : (r : End) (t : WorldState) → Iff (ExpressionEnds w mapping q inner r t) (CallEnds w (value.Prim (record { 0 = names.MAP })) (f ∷ l ∷ m ∷ ms) inner r t)
   mapping-iff r t =
       iff-then
       (four-iff w (prim names.APPLY) (prim names.MAP) (var 23) (var 24) (var 25) q inner inner inner inner inner inner t (value.Prim (record { 0 = names.APPLY })) (value.Prim (record { 0 = names.MAP })) f l rest r
@@ -88,10 +88,10 @@ module _ (w : PlainSetting) (knows : Knows w.codes) (f l m : Value) (ms : List V
       (own w inner q entries p [] inside (label 23) f refl) (own w inner q entries p [] inside (label 24) l refl) (own w inner q entries p [] inside (label 25) rest refl))
       (apply-iff w (value.Prim (record { 0 = names.MAP })) (f ∷ l ∷ []) (m ∷ ms) rest inner r t (elements-of inner.cells (m ∷ ms) rest (list-later kept inner kept-inner (m ∷ ms) rest (rest-is (m ∷ ms) outside))))
 
-  second : (t : State) → Evaluates w no_value q t value.Unspecified t
+  second : (t : WorldState) → Evaluates w no_value q t value.Unspecified t
   second t = no-arm w _ _ q t t (truth false) (bool-is w _ false q t) refl
 
-  entered-iff : has_text names.FOR_EACH ≡ true → (r : End) (t : State) → Iff (CallEnds w (value.Prim (record { 0 = names.FOR_EACH })) (f ∷ l ∷ m ∷ ms) s r t) (Split (eval_of w mapping q inner) go_on r t)
+  entered-iff : has_text names.FOR_EACH ≡ true → (r : End) (t : WorldState) → Iff (CallEnds w (value.Prim (record { 0 = names.FOR_EACH })) (f ∷ l ∷ m ∷ ms) s r t) (Split (eval_of w mapping q inner) go_on r t)
   entered-iff is_text r t =
       iff-then
       (text-iff w (record { 0 = names.FOR_EACH }) (f ∷ l ∷ m ∷ ms) s outside t (text_code names.FOR_EACH for_each_text) for_each_text (code_no 21) p r refl is_text knows.for_each_text refl
@@ -103,8 +103,8 @@ module _ (w : PlainSetting) (knows : Knows w.codes) (f l m : Value) (ms : List V
 
   module _ (rows : List (List Value)) (r : InRows s.cells rows (l ∷ m ∷ ms)) where
     -- what `map` did, and nothing of it
-    visited : (e : End) (t : State) → CallEnds w (value.Prim (record { 0 = names.MAP })) (f ∷ l ∷ m ∷ ms) inner e t → MapDid w f rows inner e t → has_text names.FOR_EACH ≡ true
-        → (e : End) × (t : State) × CallEnds w (value.Prim (record { 0 = names.FOR_EACH })) (f ∷ l ∷ m ∷ ms) s e t × VisitDid w f rows s e t
+    visited : (e : End) (t : WorldState) → CallEnds w (value.Prim (record { 0 = names.MAP })) (f ∷ l ∷ m ∷ ms) inner e t → MapDid w f rows inner e t → has_text names.FOR_EACH ≡ true
+        → (e : End) × (t : WorldState) × CallEnds w (value.Prim (record { 0 = names.FOR_EACH })) (f ∷ l ∷ m ∷ ms) s e t × VisitDid w f rows s e t
     visited (Ok v) t h d is_text = (
       Ok value.Unspecified,
       t,
@@ -113,19 +113,19 @@ module _ (w : PlainSetting) (knows : Knows w.codes) (f l m : Value) (ms : List V
     )
     visited (Err b) t h d is_text = (Err b, t, (entered-iff is_text (Err b) t).1 (stopped ((mapping-iff (Err b) t).1 h)), stops-from w f rows b s inner t far d)
 
-    pub for-each-ended : AllEnd w f rows s → (e : End) × (t : State) × CallEnds w (value.Prim (record { 0 = names.FOR_EACH })) (f ∷ l ∷ m ∷ ms) s e t × VisitDid w f rows s e t
+    pub for-each-ended : AllEnd w f rows s → (e : End) × (t : WorldState) × CallEnds w (value.Prim (record { 0 = names.FOR_EACH })) (f ∷ l ∷ m ∷ ms) s e t × VisitDid w f rows s e t
     unfolding has_text
     for-each-ended give =
         let d = map-ended w knows f l m ms inner rows (rows-later s inner far r) (all-end-later w f rows s inner far give) in
         visited d.0 d.1 d.2 d.3 refl
 
-    did-by : (e : End) (t : State) → Split (eval_of w mapping q inner) go_on e t → VisitDid w f rows s e t
+    did-by : (e : End) (t : WorldState) → Split (eval_of w mapping q inner) go_on e t → VisitDid w f rows s e t
     did-by e t (stopped {e = b} h) = stops-from w f rows b s inner t far (map-only w knows f l m ms inner rows (rows-later s inner far r) (Err b) t ((mapping-iff (Err b) t).0 h))
     did-by e t (went v u h onward) =
         let d = map-only w knows f l m ms inner rows (rows-later s inner far r) (Ok v) u ((mapping-iff (Ok v) u).0 h) in
         subst (λ c. VisitDid w f rows s e c) (ends-one-state (go_on v u) (Ok value.Unspecified) e u t (second u) onward)
         (subst (λ c. VisitDid w f rows s c u) (ends-one-end (go_on v u) (Ok value.Unspecified) e u t (second u) onward) (d.0, in-turn-from w f rows d.0 s inner u far d.1, refl))
 
-    pub for-each-only : (e : End) (t : State) → CallEnds w (value.Prim (record { 0 = names.FOR_EACH })) (f ∷ l ∷ m ∷ ms) s e t → VisitDid w f rows s e t
+    pub for-each-only : (e : End) (t : WorldState) → CallEnds w (value.Prim (record { 0 = names.FOR_EACH })) (f ∷ l ∷ m ∷ ms) s e t → VisitDid w f rows s e t
     unfolding has_text
     for-each-only e t called = did-by e t ((entered-iff refl e t).0 called)

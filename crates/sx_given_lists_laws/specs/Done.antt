@@ -3,17 +3,17 @@ use Rattle.std.specs.Prelude.{◌≡◌, List, Ok, Err}
 use Rattle.sx_value.specs.declared.value.Value.{Value}
 use Rattle.sx_value.specs.declared.value.Value.TheVariants as value
 use Rattle.sx_eval.specs.Setting.{PlainSetting}
-use Rattle.sx_eval.specs.State.{State}
+use Rattle.sx_eval.specs.State.{WorldState}
 use Rattle.sx_list_laws.specs.Runs.{IsList}
 use Rattle.sx_given_laws.specs.Calls.{End}
-use Rattle.sx_given_lists_laws.specs.RowCalls.{InTurn, Stops}
+use Rattle.sx_given_lists_laws.specs.RowCalls.{RowsInTurn, RowsStop}
 
 -- It gave the list of the answers; or a call faulted, and that is its fault.
-abbrev pub MapDid : PlainSetting → Value → List (List Value) → State → End → State → Type 0
-MapDid w f rows s (Ok v) t = (answers : List Value) × InTurn w f rows s answers t × IsList t.cells answers v
-MapDid w f rows s (Err e) t = Stops w f rows s e t
+abbrev pub MapDid : PlainSetting → Value → List (List Value) → WorldState → End → WorldState → Type 0
+MapDid w f rows s (Ok v) t = (answers : List Value) × RowsInTurn w f rows s answers t × IsList t.cells answers v
+MapDid w f rows s (Err e) t = RowsStop w f rows s e t
 
 -- It gave nothing of the answers.
-abbrev pub VisitDid : PlainSetting → Value → List (List Value) → State → End → State → Type 0
-VisitDid w f rows s (Ok v) t = (answers : List Value) × InTurn w f rows s answers t × (v ≡ value.Unspecified)
-VisitDid w f rows s (Err e) t = Stops w f rows s e t
+abbrev pub VisitDid : PlainSetting → Value → List (List Value) → WorldState → End → WorldState → Type 0
+VisitDid w f rows s (Ok v) t = (answers : List Value) × RowsInTurn w f rows s answers t × (v ≡ value.Unspecified)
+VisitDid w f rows s (Err e) t = RowsStop w f rows s e t

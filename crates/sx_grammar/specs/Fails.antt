@@ -11,7 +11,7 @@ use Rattle.sx_lexer.specs.declared.token.Lexeme.{Lexeme}
 use Rattle.sx_lexer.specs.declared.token.Token.{Token}
 use Rattle.sx_machine.specs.Extent.{fault_at}
 use Rattle.sx_machine.specs.declared.extent.Extent.{Extent}
-use Rattle.sx_machine.specs.declared.partial.Parts.{Parts}
+use Rattle.sx_machine.specs.declared.partial.OpenParts.{OpenParts}
 use Rattle.sx_reader.specs.FirstFault.{CanGoOn, EndsInside, IsFaultAt, IsFaultOf}
 use Rattle.sx_reader.specs.Grammar.{lexeme}
 use Rattle.sx_grammar.specs.Reads.{Reads}
@@ -32,7 +32,7 @@ pub data Fails (file bytes : List ℕ) (nesting : ℕ) : Fault → Type 0 where
   at_token : {f : Fault} (ls : List Lexeme) (k : Token) (y : Extent) (start at : ℕ) → Start bytes start → Lead bytes start (ls ++ lexeme k y ∷ []) at
       → CanGoOn file nesting ls → (CanGoOn file nesting (ls ++ lexeme k y ∷ []) → ⊥) → IsFaultAt file nesting ls k y f → Fails file bytes nesting f
   -- behind such tokens the source ends, and a form is open
-  at_end : {ls : List Lexeme} {p : Parts} {x : Extent} (start at n : ℕ) → Start bytes start → Lead bytes start ls at → CanGoOn file nesting ls
+  at_end : {ls : List Lexeme} {p : OpenParts} {x : Extent} (start at n : ℕ) → Start bytes start → Lead bytes start ls at → CanGoOn file nesting ls
       → Gap (drop at bytes) n → length bytes ≤ at + n → EndsInside file nesting ls p x → Fails file bytes nesting (fault_at file fault.Unclosed x)
 
 -- exactly that is at fault, and so

@@ -6,7 +6,7 @@ use Rattle.sx_base.specs.declared.fault.FaultKind.TheVariants as kind
 use Rattle.sx_base.specs.declared.span.Span.{Span}
 use Rattle.sx_tree.specs.Tree.{Tree, atom, leaf, pair, vector}
 use Rattle.sx_syntax.specs.Opens.{Opens}
-use Rattle.sx_syntax.specs.declared.syn.Opened.TheVariants as opened
+use Rattle.sx_syntax.specs.declared.syn.OpenedTree.TheVariants as opened
 use Rattle.sx_shapes.specs.Lists.{is_nil_atom}
 use Rattle.sx_standing.specs.State.{State, fault_form}
 use Rattle.sx_heads.specs.Items.{item_plan, alone, wait, leaf_item, list_item}

@@ -24,7 +24,7 @@ use sx_shapes::shape::{BindingSpec, Shape};
 use sx_standing::binders::{BinderContext, BoundSpec};
 use sx_standing::expansion::{Expansion, symbol_in};
 use sx_standing::standing::{Role, Standing, is_keyword, role_of};
-use sx_syntax::syn::{Opened, Syn};
+use sx_syntax::syn::{OpenedTree, Syn};
 
 /// A form of a body, and what is known round it.
 #[derive(Drop)]
@@ -496,9 +496,9 @@ pub fn item_plan<L: Ledger>(
 {
     let context = ItemContext { at, depth, form };
     match form.open(state.alloc())? {
-        Opened::Symbol(_) => leaf_item(state, &context, taken),
-        Opened::Atom(_) => alone(state, &context, taken),
-        Opened::Pair(head, _) => list_item(state, &context, taken, &head),
-        Opened::Vector(_) => alone(state, &context, taken),
+        OpenedTree::Symbol(_) => leaf_item(state, &context, taken),
+        OpenedTree::Atom(_) => alone(state, &context, taken),
+        OpenedTree::Pair(head, _) => list_item(state, &context, taken, &head),
+        OpenedTree::Vector(_) => alone(state, &context, taken),
     }
 }

@@ -28,7 +28,7 @@ use sx_shapes::lists::{is_id, is_nil_atom, proper};
 use sx_shapes::shape::{BindingSpec, FormalIds, LambdaCase, PatternCase, Shape};
 use sx_standing::expansion::Expansion;
 use sx_standing::standing::{Role, Standing, Variable, role_of};
-use sx_syntax::syn::{Opened, Syn};
+use sx_syntax::syn::{OpenedTree, Syn};
 
 /// A keyword whose uses give another form in their place.
 #[derive(Drop)]
@@ -445,12 +445,12 @@ pub fn plan_of<L: Ledger>(
     ensures { GivesAfter (λ p. p) result state.new (plan_of place.now level form.now state.old) }
 {
     match form.open(state.alloc())? {
-        Opened::Symbol(_) => reference(state, form, place, level),
-        Opened::Atom(atom) => constant(state, form, &atom, place),
-        Opened::Pair(head, rest) => {
+        OpenedTree::Symbol(_) => reference(state, form, place, level),
+        OpenedTree::Atom(atom) => constant(state, form, &atom, place),
+        OpenedTree::Pair(head, rest) => {
             let context = FormContext { form, place, level };
             list_plan(state, &context, &head, &rest)
         }
-        Opened::Vector(_) => Err(state.fault_form(FaultKind::BadForm, form, place)),
+        OpenedTree::Vector(_) => Err(state.fault_form(FaultKind::BadForm, form, place)),
     }
 }

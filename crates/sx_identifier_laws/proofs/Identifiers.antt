@@ -15,7 +15,7 @@ use Rattle.sx_expand_laws.specs.States.{IsOld}
 use Rattle.sx_expand_laws.specs.Trees.{StampsAre, LeavesAre}
 use Rattle.sx_expand_laws.proofs.Named.{binders-stay, references-named}
 use Rattle.sx_identifier_laws.specs.Identifiers.{IdentifiersStay, ReferencesStay}
-use Rattle.sx_expand.specs.Settle.{linked_code}
+use Rattle.sx_expand.specs.ExpandUses.{linked_code}
 
 module _ (own : LibName) (s : State) where
   stamps-old : (ts : List Stamp) → Each (λ (t : Stamp). IsMade own s.names.number t.frame) ts → StampsAre (IsOld own s) ts

@@ -5,26 +5,26 @@ use Rattle.sx_base.specs.declared.span.Span.{Span}
 use Rattle.sx_tree.specs.Tree.{Tree}
 use Rattle.sx_scope.specs.Stands.{stands}
 use Rattle.sx_core.specs.Core.{PlainCore}
-use Rattle.sx_core.specs.declared.record.LibRecord.{LibRecord}
+use Rattle.sx_core.specs.declared.record.CompiledLibrary.{CompiledLibrary}
 use Rattle.sx_shapes.specs.Lists.{is_leaf}
 use Rattle.sx_standing.specs.State.{State}
 use Rattle.sx_expand.specs.Expression.{inside}
-use Rattle.sx_expand.specs.Settle.{linked_code}
+use Rattle.sx_expand.specs.ExpandUses.{linked_code}
 use Rattle.sx_expand_laws.specs.Named.{RefersTo, IsUse}
 use Rattle.sx_fresh_laws.specs.Leaves.{TreeHolds}
 use Rattle.sx_fresh_expansion_laws.specs.Known.{IsKnown, HasKnown, IsNewAmong}
-use Rattle.sx_fresh_expansion_laws.specs.States.{StateHolds}
+use Rattle.sx_fresh_expansion_laws.specs.States.{FreshStateHolds}
 
 -- In a state with known marks and frames, as each is that an expansion comes to, what an identifier with such stands for stays as it is while a
 -- form is expanded.
 abbrev pub IdentifiersStay : Type 0
-IdentifiersStay = (libs : List LibName) (own : LibName) (records : List LibRecord) (room : ℕ) (place : Span) (level depth : ℕ) (t : Tree) (s u : State) (c : PlainCore) → IsNewAmong libs own
-    → StateHolds own (IsKnown libs own) (HasKnown libs own) s.names.number s → (inside records room).form place level depth t s ≡ Ok (c, u)
+IdentifiersStay = (libs : List LibName) (own : LibName) (records : List CompiledLibrary) (room : ℕ) (place : Span) (level depth : ℕ) (t : Tree) (s u : State) (c : PlainCore) → IsNewAmong libs own
+    → FreshStateHolds own (IsKnown libs own) (HasKnown libs own) s.names.number s → (inside records room).form place level depth t s ≡ Ok (c, u)
     → (id : Tree) → TreeHolds (HasKnown libs own s.names.number) id → stands u.frames id ≡ stands s.frames id
 
 -- So where it is expanded after that form, and no use of a keyword, it becomes a reference to what it stood for before that form.
 abbrev pub ReferencesStay : Type 0
-ReferencesStay = (libs : List LibName) (own : LibName) (records : List LibRecord) (room : ℕ) (place : Span) (level depth : ℕ) (t : Tree) (s u : State) (c : PlainCore) → IsNewAmong libs own
-    → StateHolds own (IsKnown libs own) (HasKnown libs own) s.names.number s → (inside records room).form place level depth t s ≡ Ok (c, u)
+ReferencesStay = (libs : List LibName) (own : LibName) (records : List CompiledLibrary) (room : ℕ) (place : Span) (level depth : ℕ) (t : Tree) (s u : State) (c : PlainCore) → IsNewAmong libs own
+    → FreshStateHolds own (IsKnown libs own) (HasKnown libs own) s.names.number s → (inside records room).form place level depth t s ≡ Ok (c, u)
     → (id : Tree) → TreeHolds (HasKnown libs own s.names.number) id → is_leaf id ≡ true
     → (more : ℕ) (spot : Span) (high deep : ℕ) (v : State) (d : PlainCore) → (inside records more).form spot high deep id u ≡ Ok (d, v) → (RefersTo u (stands s.frames id) d × (v ≡ linked_code id d u)) ⊎ IsUse u id

@@ -16,8 +16,8 @@ use Rattle.sx_import.specs.Shared.{IsEnough, steps_joined}
 use Rattle.sx_import.specs.Table.{value_of, same_text}
 use Rattle.sx_import.specs.Turns.{turns}
 use Rattle.sx_import.specs.declared.set.NameAt.{NameAt}
-use Rattle.sx_import.specs.declared.set.Step.{Step}
-use Rattle.sx_import.specs.declared.set.Step.TheVariants as word
+use Rattle.sx_import.specs.declared.set.ImportStep.{ImportStep}
+use Rattle.sx_import.specs.declared.set.ImportStep.TheVariants as word
 use Rattle.sx_import.proofs.TableLemmas.{or_else, value-append}
 
 abbrev Entry : Type 0
@@ -98,7 +98,7 @@ joined_leaves span (e ∷ es) all new h = by (join_one span all e) refl h (joine
 pub joined_front : (span : Span) (es all new : Labelled) → joined span all es ≡ Ok new → (tail : Labelled) × (new ≡ all ++ tail)
 joined_front span es all new h = let a = joined_leaves span es all new h in (a.0, a.1)
 
-pub steps_front : (span : Span) (all names : Labelled) (steps : List Step) (new : Labelled) → steps_joined span all names steps ≡ Ok new → (tail : Labelled) × (new ≡ all ++ tail)
+pub steps_front : (span : Span) (all names : Labelled) (steps : List ImportStep) (new : Labelled) → steps_joined span all names steps ≡ Ok new → (tail : Labelled) × (new ≡ all ++ tail)
 steps_front span all names steps new h = by (turns (step_names span) names steps) h
   where
     by : (r : Result Labelled Fault) → (r >>= joined span all) ≡ Ok new → (tail : Labelled) × (new ≡ all ++ tail)
@@ -206,11 +206,11 @@ bind_first : (r : Result Labelled Fault) (f g : Labelled → Result Labelled Fau
 bind_first (Ok t) f g = refl
 bind_first (Err e) f g = refl
 
-pub first_stops : (stop : Stop) (span : Span) (all names : Labelled) (step : Step) (steps : List Step) → Stops stop (step_names span names step) → Stops stop (steps_joined span all names (step ∷ steps))
+pub first_stops : (stop : Stop) (span : Span) (all names : Labelled) (step : ImportStep) (steps : List ImportStep) → Stops stop (step_names span names step) → Stops stop (steps_joined span all names (step ∷ steps))
 first_stops stops.Memory span all names step steps h = tt
 first_stops (stops.Fault e) span all names step steps h = ap (λ r. (r >>= (λ t. turns (step_names span) t steps)) >>= joined span all) h
 
-pub first_gives : (span : Span) (all names left : Labelled) (step : Step) (steps : List Step) → step_names span names step ≡ Ok left → steps_joined span all left steps ≡ steps_joined span all names (step ∷ steps)
+pub first_gives : (span : Span) (all names left : Labelled) (step : ImportStep) (steps : List ImportStep) → step_names span names step ≡ Ok left → steps_joined span all left steps ≡ steps_joined span all names (step ∷ steps)
 first_gives span all names left step steps h = sym (ap (λ r. (r >>= (λ t. turns (step_names span) t steps)) >>= joined span all) h)
 
 -- names that are joined at one place are joined at any

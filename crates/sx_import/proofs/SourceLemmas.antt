@@ -10,13 +10,13 @@ use Rattle.sx_base.specs.declared.library.LibName.{LibName}
 use Rattle.sx_import.specs.Names.{Labelled}
 use Rattle.sx_import.specs.Shared.{IsEnough}
 use Rattle.sx_import.specs.Sources.{source_in, names_in, AreEnough}
-use Rattle.sx_import.specs.declared.sources.Source.{Source}
+use Rattle.sx_import.specs.declared.sources.ImportSource.{ImportSource}
 use Rattle.sx_import.proofs.SharedLemmas.{enough_more, enough_all}
 
 abbrev Rows : Type 0
-Rows = List (LibName × Source)
+Rows = List (LibName × ImportSource)
 
-abbrev names_of : Source → Labelled
+abbrev names_of : ImportSource → Labelled
 names_of s = s.exports
 
 -- names come: what is enough stays enough
@@ -24,7 +24,7 @@ pub sources_more : (all new tail : Labelled) (rows : Rows) → new ≡ all ++ ta
 sources_more all new tail rows is h library s at = subst (λ n. IsEnough n s.exports s.fresh) (sym is) (enough_more all s.exports s.fresh (h library s at) tail)
 
 -- rows in which a library has another source, or one for the first time
-module _ (library : LibName) (w : Source) (rows new : Rows) (is : (q : LibName) → source_in q new ≡ cond (same_library library q) (Some w) (source_in q rows)) where
+module _ (library : LibName) (w : ImportSource) (rows new : Rows) (is : (q : LibName) → source_in q new ≡ cond (same_library library q) (Some w) (source_in q rows)) where
   pub put_names : (q : LibName) → names_in q new ≡ (if same_library library q then Some w.exports else names_in q rows)
   put_names q = ap (option_map names_of) (is q) ∙ by (same_library library q)
     where
@@ -43,7 +43,7 @@ module _ (library : LibName) (w : Source) (rows new : Rows) (is : (q : LibName) 
   put_enough all h enough q s at = by (same_library library q) (sym (is q) ∙ at)
     where
       by : (b : Bool) → cond b (Some w) (source_in q rows) ≡ Some s → IsEnough all s.exports s.fresh
-      by true e = subst (λ (x : Source). IsEnough all x.exports x.fresh) (same_Some w s e) enough
+      by true e = subst (λ (x : ImportSource). IsEnough all x.exports x.fresh) (same_Some w s e) enough
       by false e = h q s e
 
 library_laws : IsEquivalence same_library
@@ -53,15 +53,15 @@ one_library : (library x y : LibName) → same_library library x ≡ true → sa
 one_library library x y h = ap (λ l. same_library l y) ((same_library_decides library x).0 h)
 
 -- a source that is there, changed
-pub changed : (library : LibName) (w : Source) (rows : Rows) → is_some (source_in library rows) ≡ true → (q : LibName) → source_in q (set_value (same_library library) rows w) ≡ cond (same_library library q) (Some w) (source_in q rows)
+pub changed : (library : LibName) (w : ImportSource) (rows : Rows) → is_some (source_in library rows) ≡ true → (q : LibName) → source_in q (set_value (same_library library) rows w) ≡ cond (same_library library q) (Some w) (source_in q rows)
 changed library w rows there q = lookup-set_value library_laws (same_library library) (λ x y h. one_library library x y h) q w rows there
 
-pub whole_enough : (all : Labelled) (w : Source) → w.fresh ≡ w.exports → IsEnough all w.exports w.fresh
+pub whole_enough : (all : Labelled) (w : ImportSource) → w.fresh ≡ w.exports → IsEnough all w.exports w.fresh
 whole_enough all w is = subst (λ f. IsEnough all w.exports f) (sym is) (enough_all all w.exports)
 
 -- of a source that is there so many names are enough
-module _ (library : LibName) (s : Source) (fresh : Labelled) (rows new : Rows) (there : source_in library rows ≡ Some s) (is : new ≡ set_value (same_library library) rows (record { exports = s.exports; fresh = fresh })) where
-  abbrev now : Source
+module _ (library : LibName) (s : ImportSource) (fresh : Labelled) (rows new : Rows) (there : source_in library rows ≡ Some s) (is : new ≡ set_value (same_library library) rows (record { exports = s.exports; fresh = fresh })) where
+  abbrev now : ImportSource
   now = record { exports = s.exports; fresh = fresh }
 
   changes : (q : LibName) → source_in q new ≡ cond (same_library library q) (Some now) (source_in q rows)

@@ -11,8 +11,8 @@ use Rattle.sx_import.specs.Table.{same_text, value_of}
 use Rattle.sx_import.specs.Turns.{turns}
 use Rattle.sx_import.specs.declared.set.NameAt.{NameAt}
 use Rattle.sx_import.specs.declared.set.Renaming.{Renaming}
-use Rattle.sx_import.specs.declared.set.Step.{Step}
-use Rattle.sx_import.specs.declared.set.Step.TheVariants.{Only, Except, Prefix, Rename}
+use Rattle.sx_import.specs.declared.set.ImportStep.{ImportStep}
+use Rattle.sx_import.specs.declared.set.ImportStep.TheVariants.{Only, Except, Prefix, Rename}
 use Rattle.sx_import.specs.declared.set.ImportSet.{ImportSet}
 
 -- names with their labels, in order
@@ -76,7 +76,7 @@ renamed renamings names = map (λ e. (new_name renamings e.0, e.1)) names
 abbrev pub sources : List Renaming → List NameAt
 sources renamings = map (λ r. r.from) renamings
 
-abbrev pub step_names : Span → Labelled → Step → Result Labelled Fault
+abbrev pub step_names : Span → Labelled → ImportStep → Result Labelled Fault
 step_names span names (Only ids) = need names ids (Ok (only ids names))
 step_names span names (Except ids) = need names ids (Ok (except ids names))
 step_names span names (Prefix symbol) = Ok (prefixed symbol names)

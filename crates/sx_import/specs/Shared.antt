@@ -10,10 +10,10 @@ use Rattle.sx_import.specs.Names.{Labelled, same_label, step_names, joined}
 use Rattle.sx_import.specs.Table.{same_text}
 use Rattle.sx_import.specs.Turns.{turns}
 use Rattle.sx_import.specs.declared.set.NameAt.{NameAt}
-use Rattle.sx_import.specs.declared.set.Step.{Step}
+use Rattle.sx_import.specs.declared.set.ImportStep.{ImportStep}
 
 -- the names that the steps of an import set leave of these, joined to others
-abbrev pub steps_joined : Span → Labelled → Labelled → List Step → Result Labelled Fault
+abbrev pub steps_joined : Span → Labelled → Labelled → List ImportStep → Result Labelled Fault
 steps_joined span all names steps = turns (step_names span) names steps >>= joined span all
 
 -- these names are enough to join in place of all of a library, and of any part of all: the others are joined

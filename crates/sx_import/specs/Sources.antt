@@ -5,15 +5,15 @@ use Rattle.sx_base.specs.Same.{same_library}
 use Rattle.sx_base.specs.declared.library.LibName.{LibName}
 use Rattle.sx_import.specs.Names.{Labelled}
 use Rattle.sx_import.specs.Shared.{IsEnough}
-use Rattle.sx_import.specs.declared.sources.Source.{Source}
+use Rattle.sx_import.specs.declared.sources.ImportSource.{ImportSource}
 
-abbrev pub source_in : LibName → List (LibName × Source) → Option Source
+abbrev pub source_in : LibName → List (LibName × ImportSource) → Option ImportSource
 source_in library rows = lookup (same_library library) rows
 
 -- the names that a library exports
-abbrev pub names_in : LibName → List (LibName × Source) → Option Labelled
-names_in library rows = option_map (λ (s : Source). s.exports) (source_in library rows)
+abbrev pub names_in : LibName → List (LibName × ImportSource) → Option Labelled
+names_in library rows = option_map (λ (s : ImportSource). s.exports) (source_in library rows)
 
 -- of each library the names that are still to be joined are known
-abbrev pub AreEnough : Labelled → List (LibName × Source) → Type 0
-AreEnough all rows = (library : LibName) (s : Source) → source_in library rows ≡ Some s → IsEnough all s.exports s.fresh
+abbrev pub AreEnough : Labelled → List (LibName × ImportSource) → Type 0
+AreEnough all rows = (library : LibName) (s : ImportSource) → source_in library rows ≡ Some s → IsEnough all s.exports s.fresh

@@ -7,8 +7,8 @@ ghost use Rattle.sx_import.specs.Table.{value_of, put_all};
 ghost use Rattle.sx_import.specs.Turns.{turns};
 ghost use Rattle.sx_base.specs.Same.{same_name};
 
-use crate::set::{ImportSet, NameAt, Renaming, Step};
-use crate::table::Table;
+use crate::set::{ImportSet, NameAt, Renaming, ImportStep};
+use crate::table::NameTable;
 use std::alloc::Global;
 use sx_base::fault::{Fault, FaultKind, Stop};
 use sx_base::items::Items;
@@ -18,12 +18,12 @@ use sx_base::span::Span;
 use sx_base::symbol::Symbol;
 
 /// Names, each once, and the labels that they stand for.
-pub type Names = Table<Label>;
+pub type Names = NameTable<Label>;
 
 pub(crate) fn taken(
     alloc: Global,
     mut names: Items<(Symbol, Label)>,
-    steps: &[Step],
+    steps: &[ImportStep],
     span: &Span,
 ) -> Result<Items<(Symbol, Label)>, Stop>
     ensures { Gives (λ names. names) result (turns (step_names span.now) names steps.now) }
@@ -37,16 +37,16 @@ pub(crate) fn taken(
 fn step_names(
     alloc: Global,
     names: &[(Symbol, Label)],
-    step: &Step,
+    step: &ImportStep,
     span: &Span,
 ) -> Result<Items<(Symbol, Label)>, Stop>
     ensures { Gives (λ names. names) result (step_names span.now names.now step.now) }
 {
     match step {
-        Step::Only(ids) => only(alloc, names, ids.as_slice()),
-        Step::Except(ids) => except(alloc, names, ids.as_slice()),
-        Step::Prefix(symbol) => Ok(prefixed(alloc, names, symbol)?),
-        Step::Rename(renamings) => rename(alloc, names, renamings.as_slice(), span),
+        ImportStep::Only(ids) => only(alloc, names, ids.as_slice()),
+        ImportStep::Except(ids) => except(alloc, names, ids.as_slice()),
+        ImportStep::Prefix(symbol) => Ok(prefixed(alloc, names, symbol)?),
+        ImportStep::Rename(renamings) => rename(alloc, names, renamings.as_slice(), span),
     }
 }
 
@@ -134,7 +134,7 @@ fn share_name(id: &NameAt) -> Result<NameAt, Memory>
     Ok(NameAt { name, span })
 }
 
-fn has_name(table: &Table<()>, name: &Symbol) -> bool
+fn has_name(table: &NameTable<()>, name: &Symbol) -> bool
     ensures { result ≡ is_some (value_of name.now table.now) }
 {
     table.get(name).is_some()
@@ -168,27 +168,27 @@ fn fault_made(alloc: Global, kind: FaultKind, span: &Span, name: &Symbol) -> Res
 fn name_table(alloc: Global, names: &[(Symbol, Label)]) -> Result<Names, Memory>
     ensures { IfOk result (λ table. (name : List ℕ) → has_name table name ≡ has_name names.now name) }
 {
-    let mut table = Table::new(alloc);
+    let mut table = NameTable::new(alloc);
     for (name, label) in names {
         table.put_first(name.share()?, label.share()?)?;
     }
     Ok(table)
 }
 
-fn id_table(alloc: Global, ids: &[NameAt]) -> Result<Table<()>, Memory>
+fn id_table(alloc: Global, ids: &[NameAt]) -> Result<NameTable<()>, Memory>
     ensures { IfOk result (λ table. (name : List ℕ) → is_some (value_of name table) ≡ is_among ids.now name) }
 {
-    let mut table = Table::new(alloc);
+    let mut table = NameTable::new(alloc);
     for id in ids {
         table.put_first(id.name.share()?, ())?;
     }
     Ok(table)
 }
 
-fn new_name_table(alloc: Global, renamings: &[Renaming]) -> Result<Table<Symbol>, Memory>
+fn new_name_table(alloc: Global, renamings: &[Renaming]) -> Result<NameTable<Symbol>, Memory>
     ensures { IfOk result (λ table. (name : List ℕ) → value_of name table ≡ value_of name (pairs_of renamings.now)) }
 {
-    let mut table = Table::new(alloc);
+    let mut table = NameTable::new(alloc);
     for renaming in renamings {
         table.put_first(renaming.from.name.share()?, renaming.to.share()?)?;
     }
@@ -291,7 +291,7 @@ pub(crate) fn renamed(
     Ok(rows)
 }
 
-fn new_name(table: &Table<Symbol>, name: &Symbol) -> Result<Symbol, Memory>
+fn new_name(table: &NameTable<Symbol>, name: &Symbol) -> Result<Symbol, Memory>
     ensures { IfOk result (λ s. s ≡ unwrap_or (value_of name.now table.now) name.now) }
 {
     match table.get(name) {
@@ -320,7 +320,7 @@ pub(crate) fn joined_table(
 ) -> Result<Names, Stop>
     ensures { Gives (λ rows. rows) result (joined span.now [] names.now) }
 {
-    let mut all = Table::new(alloc);
+    let mut all = NameTable::new(alloc);
     join_each(alloc, &mut all, names, span)?;
     Ok(all)
 }

@@ -24,7 +24,7 @@ pub struct Renaming {
 
 /// What one word of an import set does to the names inside.
 #[derive(Drop)]
-pub enum Step {
+pub enum ImportStep {
     /// Keeps these names alone.
     Only(Items<NameAt>),
     /// Leaves these names out.
@@ -43,5 +43,5 @@ pub struct ImportSet {
     pub version: Datum,
     /// Where the reference to the library stands.
     pub place: Span,
-    pub steps: Items<Step>,
+    pub steps: Items<ImportStep>,
 }

@@ -8,15 +8,15 @@ ghost use Rattle.std.specs.Prelude.{◌≡◌, ℕ, List, [], ◌∷◌, ◌++�
 ghost use Rattle.sx_base.specs.Gives.{Gives};
 ghost use Rattle.sx_import.specs.Names.{Labelled, need, only, except, joined, step_names, sources, renamed};
 ghost use Rattle.sx_import.specs.Shared.{steps_joined, IsEnough, IsEnoughIf};
-ghost use Rattle.sx_import.specs.declared.set.Step.TheVariants as word;
+ghost use Rattle.sx_import.specs.declared.set.ImportStep.TheVariants as word;
 
 use crate::found::found;
 use crate::names::{
     Names, join_names, joined, joined_table, kept, left, need_in, prefixed, renamed, rows, sources,
     taken,
 };
-use crate::set::{NameAt, Renaming, Step};
-use crate::sources::Source;
+use crate::set::{NameAt, Renaming, ImportStep};
+use crate::sources::ImportSource;
 use std::alloc::Global;
 use std::marker::Model;
 use std::rc::Rc;
@@ -151,24 +151,24 @@ fn rename(
 fn first_names(
     alloc: Global,
     exports: &Exports,
-    step: &Step,
+    step: &ImportStep,
     span: &Span,
 ) -> Result<Items<(Symbol, Label)>, Stop>
     ensures { Gives (λ names. names) result (step_names span.now exports.now step.now) }
 {
     match step {
-        Step::Only(ids) => only(alloc, exports, ids.as_slice()),
-        Step::Except(ids) => except(alloc, exports, ids.as_slice()),
-        Step::Prefix(symbol) => Ok(prefixed(alloc, exports.rows(), symbol)?),
-        Step::Rename(renamings) => rename(alloc, exports, renamings.as_slice(), span),
+        ImportStep::Only(ids) => only(alloc, exports, ids.as_slice()),
+        ImportStep::Except(ids) => except(alloc, exports, ids.as_slice()),
+        ImportStep::Prefix(symbol) => Ok(prefixed(alloc, exports.rows(), symbol)?),
+        ImportStep::Rename(renamings) => rename(alloc, exports, renamings.as_slice(), span),
     }
 }
 
 // The steps of an import set that has some.
 #[derive(Drop)]
-struct Steps<'a> {
-    innermost: &'a Step,
-    others: &'a [Step],
+struct ImportSteps<'a> {
+    innermost: &'a ImportStep,
+    others: &'a [ImportStep],
 }
 
 // The names that these steps leave, joined to those of a form.
@@ -177,7 +177,7 @@ fn join_others(
     alloc: Global,
     all: &mut Names,
     exports: &Exports,
-    steps: &Steps,
+    steps: &ImportSteps,
     span: &Span,
 ) -> Result<(), Stop>
     ensures { Gives (λ _. all.new) result (steps_joined span.now all.old exports.now (steps.now.innermost.now ∷ steps.now.others.now)) }
@@ -191,7 +191,7 @@ fn join_taken(
     alloc: Global,
     all: &mut Names,
     names: Items<(Symbol, Label)>,
-    steps: &[Step],
+    steps: &[ImportStep],
     span: &Span,
 ) -> Result<(), Stop>
     ensures { Gives (λ _. all.new) result (steps_joined span.now all.old names steps.now) }
@@ -204,7 +204,7 @@ fn join_taken(
 fn join_whole(
     alloc: Global,
     all: &mut Names,
-    source: &Source,
+    source: &ImportSource,
     span: &Span,
 ) -> Result<Option<Items<(Symbol, Label)>>, Stop>
     requires { IsEnough all.old source.now.exports source.now.fresh }
@@ -224,7 +224,7 @@ fn join_whole(
 fn join_but(
     alloc: Global,
     all: &mut Names,
-    source: &Source,
+    source: &ImportSource,
     ids: &[NameAt],
     span: &Span,
 ) -> Result<Option<Items<(Symbol, Label)>>, Stop>
@@ -247,7 +247,7 @@ fn join_but(
 fn join_except(
     alloc: Global,
     all: &mut Names,
-    source: &Source,
+    source: &ImportSource,
     ids: &[NameAt],
     span: &Span,
 ) -> Result<Option<Items<(Symbol, Label)>>, Stop>
@@ -261,20 +261,20 @@ fn join_except(
 }
 
 // The names that a set leaves out, where it does nothing else.
-fn left_out<'a>(step: &'a Step, others: &[Step]) -> Option<&'a Items<NameAt>>
+fn left_out<'a>(step: &'a ImportStep, others: &[ImportStep]) -> Option<&'a Items<NameAt>>
     ensures { IfSome result (λ ids. step.now ∷ others.now ≡ word.Except ids.now ∷ []) }
 {
     match step {
-        Step::Except(ids) => { if others.is_empty() { Some(ids) } else { None } }
-        Step::Only(_) | Step::Prefix(_) | Step::Rename(_) => None,
+        ImportStep::Except(ids) => { if others.is_empty() { Some(ids) } else { None } }
+        ImportStep::Only(_) | ImportStep::Prefix(_) | ImportStep::Rename(_) => None,
     }
 }
 
 fn join_steps(
     alloc: Global,
     all: &mut Names,
-    source: &Source,
-    steps: &Steps,
+    source: &ImportSource,
+    steps: &ImportSteps,
     span: &Span,
 ) -> Result<Option<Items<(Symbol, Label)>>, Stop>
     requires { IsEnough all.old source.now.exports source.now.fresh }
@@ -294,8 +294,8 @@ fn join_steps(
 pub(crate) fn join_set(
     alloc: Global,
     all: &mut Names,
-    source: &Source,
-    steps: &[Step],
+    source: &ImportSource,
+    steps: &[ImportStep],
     span: &Span,
 ) -> Result<Option<Items<(Symbol, Label)>>, Stop>
     requires { IsEnough all.old source.now.exports source.now.fresh }
@@ -306,7 +306,7 @@ pub(crate) fn join_set(
     match steps.split_first() {
         None => join_whole(alloc, all, source, span),
         Some((innermost, others)) => {
-            let steps = Steps { innermost, others };
+            let steps = ImportSteps { innermost, others };
             join_steps(alloc, all, source, &steps, span)
         }
     }

@@ -8,7 +8,7 @@ ghost use Rattle.sx_base.specs.declared.library.LibName.{LibName};
 ghost use Rattle.sx_import.specs.Names.{Labelled};
 ghost use Rattle.sx_import.specs.Shared.{steps_joined, IsEnough, IsEnoughIf};
 ghost use Rattle.sx_import.specs.Sources.{source_in, names_in, AreEnough};
-ghost use Rattle.sx_import.specs.declared.sources.Source.{Source};
+ghost use Rattle.sx_import.specs.declared.sources.ImportSource.{ImportSource};
 
 use crate::names::{Names, rows};
 use crate::set::ImportSet;
@@ -25,14 +25,14 @@ use sx_base::symbol::Symbol;
 
 /// A library that a form imports from.
 #[derive(Drop)]
-pub struct Source {
+pub struct ImportSource {
     pub exports: Exports,
     /// These names are enough to join all of the library: the others are joined.
     pub fresh: Items<(Symbol, Label)>,
 }
 
 /// Libraries that a form imports from, by their names.
-pub type Sources = NameMap<LibName, Source>;
+pub type Sources = NameMap<LibName, ImportSource>;
 
 /// Whether a library is there.
 pub fn has_source(sources: &Sources, library: &LibName) -> bool
@@ -63,7 +63,7 @@ pub fn add_source(
     ensures err { OnErr result (sources.new.entries ≡ sources.old.entries) }
 {
     let fresh = rows(alloc, exports.names())?;
-    sources.insert(library, Source { exports, fresh })?;
+    sources.insert(library, ImportSource { exports, fresh })?;
     Ok(())
 }
 
@@ -78,7 +78,7 @@ fn join_from(
     requires { AreEnough all.old sources.now.entries }
     ensures given { (names : Labelled) → names_in set.now.library sources.now.entries ≡ Some names → Gives (λ _. all.new) result (steps_joined span.now all.old names set.now.steps) }
     ensures front { OnOk result ((tail : Labelled) × (all.new ≡ all.old ++ tail)) }
-    ensures fresh { IfOk result (λ f. (s : Source) → source_in set.now.library sources.now.entries ≡ Some s → IsEnoughIf all.new s.exports f) }
+    ensures fresh { IfOk result (λ f. (s : ImportSource) → source_in set.now.library sources.now.entries ≡ Some s → IsEnoughIf all.new s.exports f) }
 {
     match sources.get(&set.library) {
         Some(source) => join_set(alloc, all, source, set.steps.as_slice(), span),
@@ -94,7 +94,7 @@ fn keep_fresh(
 ) -> Result<(), Memory>
     ensures names { OnOk result ((l : LibName) → names_in l sources.new.entries ≡ names_in l sources.old.entries) }
     ensures enough { OnOk result ((all : Labelled) → AreEnough all sources.old.entries
-        → ((s : Source) → source_in library.now sources.old.entries ≡ Some s → IsEnough all s.exports fresh) → AreEnough all sources.new.entries) }
+        → ((s : ImportSource) → source_in library.now sources.old.entries ≡ Some s → IsEnough all s.exports fresh) → AreEnough all sources.new.entries) }
 {
     let Some(source) = sources.get_mut(library) else {
         return Err(Memory);

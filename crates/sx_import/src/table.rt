@@ -15,11 +15,11 @@ use sx_base::symbol::Symbol;
 
 /// Values by name, seen as a list of pairs in order.
 #[derive(Drop)]
-pub struct Table<V> {
+pub struct NameTable<V> {
     rows: NameMap<Symbol, V>,
 }
 
-impl<V> Model for Table<V> {
+impl<V> Model for NameTable<V> {
     ghost use Rattle.std.specs.Prelude.{List, ℕ};
 
     ghost Value = { List (List ℕ × V) };
@@ -27,12 +27,12 @@ impl<V> Model for Table<V> {
     ghost view = { λ t. t.rows.entries };
 }
 
-impl<V: Drop> Table<V> {
+impl<V: Drop> NameTable<V> {
     /// No values. It takes no memory.
-    pub fn new(alloc: Global) -> Table<V>
+    pub fn new(alloc: Global) -> NameTable<V>
         ensures { result ≡ [] }
     {
-        Table {
+        NameTable {
             rows: new_map(alloc),
         }
     }

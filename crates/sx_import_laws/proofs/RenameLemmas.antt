@@ -12,8 +12,8 @@ use Rattle.sx_import.specs.Table.{same_text, value_of, put_all}
 use Rattle.sx_import.specs.Turns.{turns}
 use Rattle.sx_import.specs.declared.set.NameAt.{NameAt}
 use Rattle.sx_import.specs.declared.set.Renaming.{Renaming}
-use Rattle.sx_import.specs.declared.set.Step.{Step}
-use Rattle.sx_import.specs.declared.set.Step.TheVariants as step
+use Rattle.sx_import.specs.declared.set.ImportStep.{ImportStep}
+use Rattle.sx_import.specs.declared.set.ImportStep.TheVariants as step
 use Rattle.sx_import_laws.specs.Algebra.{or_else, IsOnce, Has}
 use Rattle.sx_import_laws.specs.Renames.{PrefixMovesEachInPlace, PrefixLeavesNoneWithout, PrefixKeepsNamesOnce, RenameGivesEachOnce, RenameKeepsLabels, RenameKeepsOrder, RenameKeepsLabelsApart, RenameIsOneToOne, ImportsGiveEachOnce}
 use Rattle.sx_import_laws.proofs.AlgebraLemmas.{same_of, same_self, value-append, value-filter, value-prefixed, value-joined, has-joined, once-joined, no_value, same_value}
@@ -179,14 +179,14 @@ needed names ids x r h = by (find (λ id. not (has_name names id.name)) ids) h
     by None h = h
     by (Some id) h = absurd (no_value (missing_at id) r h)
 
-once-step : (span : Span) (names : Labelled) (s : Step) (r : Labelled) → IsOnce names → step_names span names s ≡ Ok r → IsOnce r
+once-step : (span : Span) (names : Labelled) (s : ImportStep) (r : Labelled) → IsOnce names → step_names span names s ≡ Ok r → IsOnce r
 once-step span names (step.Only ids) r o h = subst IsOnce (same_value (only ids names) r (needed names ids (Ok (only ids names)) r h)) (once-filter (is_among ids) names o)
 once-step span names (step.Except ids) r o h =
     subst IsOnce (same_value (except ids names) r (needed names ids (Ok (except ids names)) r h)) (once-filter (λ n. not (is_among ids n)) names o)
 once-step span names (step.Prefix symbol) r o h = subst IsOnce (same_value (prefixed symbol names) r h) (once-prefixed symbol names o)
 once-step span names (step.Rename rs) r o h = once-joined span [] (renamed rs names) r tt (needed names (sources rs) (joined span [] (renamed rs names)) r h)
 
-once-steps : (span : Span) (names : Labelled) (steps : List Step) (r : Labelled) → IsOnce names → turns (step_names span) names steps ≡ Ok r → IsOnce r
+once-steps : (span : Span) (names : Labelled) (steps : List ImportStep) (r : Labelled) → IsOnce names → turns (step_names span) names steps ≡ Ok r → IsOnce r
 once-steps span names [] r o h = subst IsOnce (same_value names r h) o
 once-steps span names (s ∷ ss) r o h = by (step_names span names s) refl h (λ t p k. once-steps span t ss r p k)
   where

@@ -10,7 +10,7 @@ use Rattle.sx_frames.specs.Scope.{Scope}
 use Rattle.sx_core.specs.Core.{PlainCore, primitive, instance, cores, clause, no_clause}
 use Rattle.sx_core.specs.Pattern.{PlainPattern}
 use Rattle.sx_core.specs.Template.{PlainTemplate}
-use Rattle.sx_value.specs.Cells.{FitsIn, Each, Whole}
+use Rattle.sx_value.specs.Cells.{FitsIn, Each, WholeCells}
 use Rattle.sx_value.specs.FromDatum.{pairs_stored}
 use Rattle.sx_value.specs.declared.value.Value.{Value}
 use Rattle.sx_value.specs.declared.value.Value.TheVariants as value
@@ -19,10 +19,10 @@ use Rattle.sx_prims.specs.Answers.{wrong_count, or_refused}
 use Rattle.sx_prims.specs.Delta.{delta, row_answer}
 use Rattle.sx_prims.specs.Lists.{nil, gathered_made}
 use Rattle.sx_prims.specs.Primitives.{primitive_of}
-use Rattle.sx_prims.specs.declared.made.Made.TheVariants as made
+use Rattle.sx_prims.specs.declared.made.PrimResult.TheVariants as made
 use Rattle.sx_prims.proofs.Performed.{pairs_good}
 use Rattle.sx_pattern.specs.Matched.{matched, nothing}
-use Rattle.sx_pattern.specs.declared.columns.Found.{Found}
+use Rattle.sx_pattern.specs.declared.columns.PatternBinds.{PatternBinds}
 use Rattle.sx_pattern.specs.declared.compile.PatternVariable.{PatternVariable}
 use Rattle.sx_match_laws.specs.Matches.{Bindings}
 use Rattle.sx_match_laws.proofs.Complete.{with, matched_is}
@@ -31,7 +31,7 @@ use Rattle.sx_eval.specs.Instances as instances
 use Rattle.sx_eval.specs.Meaning.{eval_of, applied, tried, on_match, output_given}
 use Rattle.sx_eval.specs.Procedures.{has_text}
 use Rattle.sx_eval.specs.Setting.{PlainSetting}
-use Rattle.sx_eval.specs.State.{State, charged, next_place}
+use Rattle.sx_eval.specs.State.{WorldState, charged, next_place}
 use Rattle.sx_given_laws.specs.Calls.{End, Ends, Gives, Calls}
 use Rattle.sx_given_laws.proofs.Calling.{plain-called}
 use Rattle.sx_given_laws.proofs.Giving.{ends-same, ends-then, ends-charged, ends-step, Evaluates, Operands, operand, primitive-is, call-is}
@@ -45,26 +45,26 @@ unfolding delta row_answer gathered_made primitive_of
 list_answer cells frames xs = ap (λ b. if b && true then or_refused names.LIST (Some (made.List xs nil)) else Err (wrong_count (length xs))) (le-leb 0 (length xs) (omega arith))
 
 module _ (w : PlainSetting) (scope : Place) where
-  list_called : (vs : List Value) (t : State) → Calls w (value.Prim list_op) vs t (pairs_stored vs (nil, t.cells)).0 (with_list vs t)
+  list_called : (vs : List Value) (t : WorldState) → Calls w (value.Prim list_op) vs t (pairs_stored vs (nil, t.cells)).0 (with_list vs t)
   unfolding has_text
   list_called vs t = plain-called w list_op vs t (made.List vs nil) refl refl refl (list_answer t.cells w.frames vs)
 
   -- the codes as operands, behind those that are done
-  operands_given : (cs : List PlainCore) (s t u : State) (vs done : List Value) (v : Value) → GiveInTurn w scope cs s vs t
+  operands_given : (cs : List PlainCore) (s t u : WorldState) (vs done : List Value) (v : Value) → GiveInTurn w scope cs s vs t
       → Gives (applied w (eval_of w) (done ++ vs) t) v u → Operands w (cores cs) scope done s v u
   operands_given cs s t u vs done v no_code h = subst (λ (us : List Value). Gives (applied w (eval_of w) us t) v u) (append-nil done) h
   operands_given cs s t u vs done v (one_code {c = c} {cs = ds} {t = m} {v = x} {vs = xs} g k) h =
       operand w c (cores ds) scope done s m u x v g
       (operands_given ds m t u xs (done ++ x ∷ []) v k (subst (λ (us : List Value). Gives (applied w (eval_of w) us t) v u) (sym (append_assoc done (x ∷ []) xs)) h))
 
-  list_given : (cs : List PlainCore) (s t : State) (vs : List Value) → GiveInTurn w scope cs s vs t
+  list_given : (cs : List PlainCore) (s t : WorldState) (vs : List Value) → GiveInTurn w scope cs s vs t
       → Evaluates w (call_of list_op cs) scope s (pairs_stored vs (nil, t.cells)).0 (with_list vs t)
   list_given cs s t vs g =
       call-is w (primitive list_op) (cores cs) scope s s (with_list vs t) (value.Prim list_op) (pairs_stored vs (nil, t.cells)).0 (primitive-is w list_op scope s)
       (operands_given cs s t (with_list vs t) vs (value.Prim list_op ∷ []) (pairs_stored vs (nil, t.cells)).0 g (list_called vs t))
 
   -- the one clause, where it matches
-  clause_ends : (p : PlainPattern) (c : PlainCore) (v : Value) (t u : State) (f : Found) (r : End) → instances.match_of w.frames t.cells p v ≡ Some f
+  clause_ends : (p : PlainPattern) (c : PlainCore) (v : Value) (t u : WorldState) (f : PatternBinds) (r : End) → instances.match_of w.frames t.cells p v ≡ Some f
       → Ends (eval_of w c (next_place t) (with_binds f.binds scope t)) r u → Ends (tried w (eval_of w) (clause p c no_clause) v scope t) r u
   unfolding tried
   clause_ends p c v t u f r e h =
@@ -75,9 +75,9 @@ module _ (w : PlainSetting) (scope : Place) where
       (λ m. ap (on_match w (eval_of w) other take scope t m) e)
       (ends-charged f.taken t (take f t) r u h))
 
-  pub code-ends : (xs : List PatternVariable) (x : PlainTemplate) (span : Span) (cs : List PlainCore) (s t : State) (vs : List Value) (bs : Bindings)
-      → GiveInTurn w scope cs s vs t → Whole t.cells → Each (FitsIn t.cells) vs → AreBoundTo t.cells xs vs bs
-      → (r : End) (u : State) → Ends (eval_of w (instance x span) (next_place (with_list vs t)) (with_binds bs scope (with_list vs t))) r u
+  pub code-ends : (xs : List PatternVariable) (x : PlainTemplate) (span : Span) (cs : List PlainCore) (s t : WorldState) (vs : List Value) (bs : Bindings)
+      → GiveInTurn w scope cs s vs t → WholeCells t.cells → Each (FitsIn t.cells) vs → AreBoundTo t.cells xs vs bs
+      → (r : End) (u : WorldState) → Ends (eval_of w (instance x span) (next_place (with_list vs t)) (with_binds bs scope (with_list vs t))) r u
       → Ends (eval_of w (match_of xs x span cs) scope s) r u
   code-ends xs x span cs s t vs bs g whole fit bound r u h =
       let p = pairs_stored vs (nil, t.cells) in

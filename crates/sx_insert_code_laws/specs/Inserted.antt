@@ -7,7 +7,7 @@ use Rattle.sx_tree.specs.Tree.{atom}
 use Rattle.sx_core.specs.Core.{PlainCore, instance}
 use Rattle.sx_core.specs.Template.{PlainTemplate}
 use Rattle.sx_value.specs.Bind.{PlainBind, one, many, turns}
-use Rattle.sx_value.specs.Cells.{FitsIn, Each, Whole}
+use Rattle.sx_value.specs.Cells.{FitsIn, Each, WholeCells}
 use Rattle.sx_value.specs.FromDatum.{pairs_stored}
 use Rattle.sx_value.specs.declared.value.Value.{Value}
 use Rattle.sx_value.specs.declared.value.Value.TheVariants as value
@@ -17,14 +17,14 @@ use Rattle.sx_pattern.specs.declared.compile.PatternVariable.{PatternVariable}
 use Rattle.sx_match_laws.specs.Matches.{Bindings, Begins}
 use Rattle.sx_eval.specs.Meaning.{eval_of}
 use Rattle.sx_eval.specs.Setting.{PlainSetting}
-use Rattle.sx_eval.specs.State.{State, store, next_place, with_cell}
+use Rattle.sx_eval.specs.State.{WorldState, store, next_place, with_cell}
 use Rattle.sx_given_laws.specs.Calls.{End, Ends, Gives}
 use Rattle.sx_quasi_code.specs.Inserted.{match_of}
 
 -- The codes give these values in turn, each in the state that the one before it left.
-pub data GiveInTurn (w : PlainSetting) (scope : Place) : List PlainCore → State → List Value → State → Type 0 where
-  no_code : {s : State} → GiveInTurn w scope [] s [] s
-  one_code : {c : PlainCore} {cs : List PlainCore} {s t u : State} {v : Value} {vs : List Value}
+pub data GiveInTurn (w : PlainSetting) (scope : Place) : List PlainCore → WorldState → List Value → WorldState → Type 0 where
+  no_code : {s : WorldState} → GiveInTurn w scope [] s [] s
+  one_code : {c : PlainCore} {cs : List PlainCore} {s t u : WorldState} {v : Value} {vs : List Value}
       → Gives (eval_of w c scope s) v t → GiveInTurn w scope cs t vs u → GiveInTurn w scope (c ∷ cs) s (v ∷ vs) u
 
 -- the empty list, in the store or of syntax
@@ -50,18 +50,18 @@ pub data AreBoundTo (cells : List Cell) : List PatternVariable → List Value �
       → IsBoundTo cells x v b → AreBoundTo cells xs vs bs → AreBoundTo cells (x ∷ xs) (v ∷ vs) ((x.label, b) ∷ bs)
 
 -- the state in which there is a list of these values
-abbrev pub with_list : List Value → State → State
+abbrev pub with_list : List Value → WorldState → WorldState
 with_list vs s = store (pairs_stored vs (value.Atom a.Nil, s.cells)).1 s.names
 
 -- the state in which the variables are bound, for what stands in a cell of variables
-abbrev pub with_binds : Bindings → Place → State → State
+abbrev pub with_binds : Bindings → Place → WorldState → WorldState
 with_binds bs scope s = with_cell (cell.Binds bs (Some scope)) s
 
 -- Where the codes of the expressions give values in turn, the code of the form comes to what its template comes to with the variables bound to these.
 abbrev pub CodeGivesTheInstance : Type 0
 CodeGivesTheInstance =
     (w : PlainSetting) (xs : List PatternVariable) (x : PlainTemplate) (span : Span) (cs : List PlainCore)
-    (scope : Place) (s t : State) (vs : List Value) (bs : Bindings)
-    → GiveInTurn w scope cs s vs t → Whole t.cells → Each (FitsIn t.cells) vs → AreBoundTo t.cells xs vs bs
-    → (r : End) (u : State) → Ends (eval_of w (instance x span) (next_place (with_list vs t)) (with_binds bs scope (with_list vs t))) r u
+    (scope : Place) (s t : WorldState) (vs : List Value) (bs : Bindings)
+    → GiveInTurn w scope cs s vs t → WholeCells t.cells → Each (FitsIn t.cells) vs → AreBoundTo t.cells xs vs bs
+    → (r : End) (u : WorldState) → Ends (eval_of w (instance x span) (next_place (with_list vs t)) (with_binds bs scope (with_list vs t))) r u
     → Ends (eval_of w (match_of xs x span cs) scope s) r u

@@ -17,13 +17,13 @@ use Rattle.sx_quasi.specs.Parts.{rest_at, splits, taken_by, behind_head, first_w
 use Rattle.sx_quasi.specs.Quasi.{at_form}
 use Rattle.sx_quasi.specs.QuasiSyntax.{Looked, Inserts, then_insert, insert_leaf, insert, leaves, spliced, no_trees, with_part, unchanged, rebuilt, list_joined, vector_joined, joined, Element, step_by, step, walked, operand_or_bad, begun_by, Tail, finished, flat, split_tail, escapes, list_made, vector_made, syntax_at, tail_made, element, answer}
 use Rattle.sx_quasi.specs.declared.quasi_syntax.Insert.{Insert}
-use Rattle.sx_quasi.specs.declared.quasi_syntax.Part.{Part}
+use Rattle.sx_quasi.specs.declared.quasi_syntax.QuasiPart.{QuasiPart}
 use Rattle.sx_quasi.specs.declared.quasi_syntax.QuasiSyntax.{QuasiSyntax}
-use Rattle.sx_quasi.specs.declared.quasi_syntax.Row.{Row}
+use Rattle.sx_quasi.specs.declared.quasi_syntax.QuasiRow.{QuasiRow}
 use Rattle.sx_quasi.specs.declared.word.Reach.{Reach}
 use Rattle.sx_quasi.specs.declared.word.Reach.TheVariants as reached
-use Rattle.sx_quasi.specs.declared.word.Word.{Word}
-use Rattle.sx_quasi.specs.declared.word.Word.TheVariants as word
+use Rattle.sx_quasi.specs.declared.word.QuasiWord.{QuasiWord}
+use Rattle.sx_quasi.specs.declared.word.QuasiWord.TheVariants as word
 use Rattle.sx_quasi.proofs.InsertLevels.{elements_are, tail_is, forms_are}
 use Rattle.sx_quasi_laws.specs.Filled.{level_behind, only}
 use Rattle.sx_quasi_laws.specs.Filled as report
@@ -31,7 +31,7 @@ use Rattle.sx_quasi_laws.proofs.Puts.{map_joined, chain_joined}
 use Rattle.sx_quasi_laws.proofs.Same.{tail_words}
 use Rattle.sx_quasi_laws.proofs.Tails.{has_tail, cut, IsTail, cut_is, tail_no_tail, cut_length, splits_is, elements_at, tail_at}
 use Rattle.sx_quasi_laws.proofs.Walked.{is_tail}
-use Rattle.sx_insert_laws.specs.Inserted.{one_insert, all_inserts, leaves_of, splices_of, IsPlainHead, IsInserted, IsRest, AreItems, IsElement, IsKept, HoldsLists, InsertsAreTold}
+use Rattle.sx_insert_laws.specs.Inserted.{one_insert, all_inserts, leaves_of, splices_of, IsPlainHead, IsInserted, IsRest, AreVectorElements, IsElement, IsKeptElement, HoldsLists, InsertsAreTold}
 use Rattle.sx_insert_laws.specs.Inserted as r
 
 -- Trees without spans.
@@ -107,7 +107,7 @@ each-drop P (suc k) (t ∷ ts) h = each-drop P k ts h.1
 
 -- Words and levels.
 
-inner-is : (x : Word) (n : ℕ) → inner x n ≡ level_behind x n
+inner-is : (x : QuasiWord) (n : ℕ) → inner x n ≡ level_behind x n
 inner-is word.Raise n = refl
 inner-is word.Lower zero = refl
 inner-is word.Lower (suc n) = omega arith
@@ -116,7 +116,7 @@ inner-is word.Splice (suc n) = omega arith
 inner-is word.Escape n = refl
 inner-is word.Plain n = refl
 
-plain-head : (x : Word) (n : ℕ) → reach x n ≡ reached.Elements → IsPlainHead n x
+plain-head : (x : QuasiWord) (n : ℕ) → reach x n ≡ reached.Elements → IsPlainHead n x
 plain-head word.Raise zero h = ((λ e. absurd (cc)), (λ e. absurd (cc)))
 plain-head word.Lower zero h = absurd (cc)
 plain-head word.Splice zero h = absurd (cc)
@@ -124,7 +124,7 @@ plain-head word.Escape zero h = ((λ e. absurd (cc)), (λ e. absurd (cc)))
 plain-head word.Plain zero h = ((λ e. absurd (cc)), (λ e. absurd (cc)))
 plain-head x (suc n) h = tt
 
-operand-head : (x : Word) (n : ℕ) → reach x n ≡ reached.Operand → (x ≡ word.Lower) × (n ≡ 0)
+operand-head : (x : QuasiWord) (n : ℕ) → reach x n ≡ reached.Operand → (x ≡ word.Lower) × (n ≡ 0)
 operand-head word.Raise zero h = absurd (cc)
 operand-head word.Lower zero h = (refl, refl)
 operand-head word.Splice zero h = absurd (cc)
@@ -175,7 +175,7 @@ weaker : {A : Type 0} (P Q : A → List Insert → Type 0) (x : Result (A × Lis
 weaker P Q (Ok p) h k = k p.0 p.1 h
 weaker P Q (Err f) h k = tt
 
-within-tells : (Q : Part → List Insert → Type 0) (t u : Tree) (is : List Insert) → Q (record { changed = true; tree = spanned (span_of t) u }) is → Tells Q (joined (rebuilt t (within u)) is)
+within-tells : (Q : QuasiPart → List Insert → Type 0) (t u : Tree) (is : List Insert) → Q (record { changed = true; tree = spanned (span_of t) u }) is → Tells Q (joined (rebuilt t (within u)) is)
 unfolding within
 within-tells Q t u is h = by (fits u)
   where
@@ -198,7 +198,7 @@ module _ (w : Looked) where
   length-are [] = refl
   length-are (t ∷ ts) = ap suc (length-are ts)
 
-  record Comes (n : ℕ) (is : List Insert) (t : Tree) (p : Part) (js : List Insert) : Type 0 where
+  record Comes (n : ℕ) (is : List Insert) (t : Tree) (p : QuasiPart) (js : List Insert) : Type 0 where
     pub is_so : IsInserted w n is t (unspanned p.tree) js
     pub kept : p.changed ≡ false → p.tree ≡ t
 
@@ -207,13 +207,13 @@ module _ (w : Looked) where
 
   -- Elements.
 
-  record Step (m : ℕ) (is : List Insert) (t : Tree) (row : Row) (q : Row) (js : List Insert) : Type 0 where
+  record Step (m : ℕ) (is : List Insert) (t : Tree) (row : QuasiRow) (q : QuasiRow) (js : List Insert) : Type 0 where
     pub us : List Tree
     pub is_so : IsElement w m is t us js
     pub trees : map unspanned q.trees ≡ map unspanned row.trees ++ us
     pub kept : q.changed ≡ false → (row.changed ≡ false) × (q.trees ≡ row.trees ++ t ∷ [])
 
-  kept-told : (m : ℕ) (is : List Insert) (t : Tree) (row : Row) → Told t → IsKept w m t → Tells (Step m is t row) (then_insert (syntax_at w t m is) (λ p js. Ok (with_part row p, js)))
+  kept-told : (m : ℕ) (is : List Insert) (t : Tree) (row : QuasiRow) → Told t → IsKeptElement w m t → Tells (Step m is t row) (then_insert (syntax_at w t m is) (λ p js. Ok (with_part row p, js)))
   kept-told m is t row told k = then-tells (Comes m is t) (Step m is t row) (syntax_at w t m is) (λ p js. Ok (with_part row p, js)) (told m is)
       (λ p js c. record {
         us = unspanned p.tree ∷ [];
@@ -222,20 +222,20 @@ module _ (w : Looked) where
         kept = λ h. let b = neither row.changed p.changed h in (b.0, ap (λ u. row.trees ++ u ∷ []) (c.kept b.1));
       })
 
-  module _ (s : Option Span) (h d : Tree) (is : List Insert) (row : Row) (told : Told (pair s h d)) where
-    no-form : ((es : List Tree) → IsList es d → IsPlainHead 0 (w.words h)) → IsKept w 0 (pair s h d)
+  module _ (s : Option Span) (h d : Tree) (is : List Insert) (row : QuasiRow) (told : Told (pair s h d)) where
+    no-form : ((es : List Tree) → IsList es d → IsPlainHead 0 (w.words h)) → IsKeptElement w 0 (pair s h d)
     no-form k = r.no_form (λ x es l. by x es l)
       where
         by : (x : Tree) (es : List Tree) → IsList (x ∷ es) (pair s h d) → IsPlainHead 0 (w.words x)
         by _ es (g.next l) = k es l
 
-    other : (x : Word) → w.words h ≡ x → IsPlainHead 0 x → IsKept w 0 (pair s h d)
+    other : (x : QuasiWord) → w.words h ≡ x → IsPlainHead 0 x → IsKeptElement w 0 (pair s h d)
     other x e k = no-form (λ es l. ((λ i. k.0 (sym e ∙ i)), (λ i. k.1 (sym e ∙ i))))
 
-    improper : is_nil (tail_of d) ≡ false → IsKept w 0 (pair s h d)
+    improper : is_nil (tail_of d) ≡ false → IsKeptElement w 0 (pair s h d)
     improper e = no-form (λ es l. let f = sym e ∙ list-ends l in absurd (cc))
 
-    form-told : (x : Word) (b : Bool) → w.words h ≡ x → is_nil (tail_of d) ≡ b
+    form-told : (x : QuasiWord) (b : Bool) → w.words h ≡ x → is_nil (tail_of d) ≡ b
         → Tells (Step 0 is (pair s h d) row) (step_by w 0 (element w (pair s h d)) row (taken_by x (if_some (if b then Some (h ∷ elements d) else None) behind_head)) is)
     form-told word.Lower true e n = record {
       us = leaves_of (elements d) is;
@@ -255,7 +255,7 @@ module _ (w : Looked) where
     form-told word.Escape b e n = kept-told 0 is (pair s h d) row told (other word.Escape e ((λ i. absurd (cc)), (λ i. absurd (cc))))
     form-told word.Plain b e n = kept-told 0 is (pair s h d) row told (other word.Plain e ((λ i. absurd (cc)), (λ i. absurd (cc))))
 
-  element-told : (m : ℕ) (t : Tree) (is : List Insert) (row : Row) → Told t → Tells (Step m is t row) (step w m row (element w t) is)
+  element-told : (m : ℕ) (t : Tree) (is : List Insert) (row : QuasiRow) → Told t → Tells (Step m is t row) (step w m row (element w t) is)
   element-told (suc m) t is row told = kept-told (suc m) is t row told r.further_in
   element-told zero (atom s a) is row told = kept-told 0 is (atom s a) row told (r.no_form (λ h es l. elim l [ ]))
   element-told zero (leaf s x c) is row told = kept-told 0 is (leaf s x c) row told (r.no_form (λ h es l. elim l [ ]))
@@ -266,13 +266,13 @@ module _ (w : Looked) where
     no_more : {is : List Insert} → Elements m is [] [] is
     one_more : {is js ks : List Insert} {t : Tree} {ts us vs : List Tree} → IsElement w m is t us js → Elements m js ts vs ks → Elements m is (t ∷ ts) (us ++ vs) ks
 
-  record Rows (m : ℕ) (is : List Insert) (ts : List Tree) (row : Row) (q : Row) (js : List Insert) : Type 0 where
+  record Rows (m : ℕ) (is : List Insert) (ts : List Tree) (row : QuasiRow) (q : QuasiRow) (js : List Insert) : Type 0 where
     pub us : List Tree
     pub are : Elements m is ts us js
     pub trees : map unspanned q.trees ≡ map unspanned row.trees ++ us
     pub kept : q.changed ≡ false → (row.changed ≡ false) × (q.trees ≡ row.trees ++ ts)
 
-  walk-told : (ts : List Tree) → Each Told ts → (m : ℕ) (row : Row) (is : List Insert) → Tells (Rows m is ts row) (walked w m row (map (element w) ts) is)
+  walk-told : (ts : List Tree) → Each Told ts → (m : ℕ) (row : QuasiRow) (is : List Insert) → Tells (Rows m is ts row) (walked w m row (map (element w) ts) is)
   walk-told [] h m row is = record { us = []; are = no_more; trees = sym (append-nil (map unspanned row.trees)); kept = λ k. (k, sym (append-nil row.trees)) }
   walk-told (t ∷ ts) h m row is =
       then-tells (Step m is t row) (Rows m is (t ∷ ts) row) (step w m row (element w t) is) (λ q js. walked w m q (map (element w) ts) js) (element-told m t is row h.0)
@@ -324,7 +324,7 @@ module _ (w : Looked) where
     abbrev Whole : Type 0
     Whole = (is mid js : List Insert) (us : List Tree) (u : Tree) → IsPlainHead n (w.words a) → Elements level is (a ∷ ts) us mid → IsInserted w n mid rest u js → IsInserted w n is t (chain us u) js
 
-    join-told : (is mid js : List Insert) (q : Row) (p : Part) → Whole → IsPlainHead n (w.words a) → Rows level is (a ∷ ts) no_trees q mid → Comes n mid rest p js → Tells (Comes n is t) (joined (list_joined t q p) js)
+    join-told : (is mid js : List Insert) (q : QuasiRow) (p : QuasiPart) → Whole → IsPlainHead n (w.words a) → Rows level is (a ∷ ts) no_trees q mid → Comes n mid rest p js → Tells (Comes n is t) (joined (list_joined t q p) js)
     join-told is mid js q p whole head rows c = by (q.changed || p.changed) refl
       where
         by : (b : Bool) → (q.changed || p.changed) ≡ b → Tells (Comes n is t) (joined (if b then rebuilt t (within (list_of q.trees (Some p.tree))) else Ok (unchanged t)) js)
@@ -354,7 +354,7 @@ module _ (w : Looked) where
         row-told : Tells (Rows level is (a ∷ ts) no_trees) (walked w (inner (w.words a) n) no_trees (map (element w) (a ∷ ts)) is)
         row-told = subst (λ m. Tells (Rows level is (a ∷ ts) no_trees) (walked w m no_trees (map (element w) (a ∷ ts)) is)) (sym (inner-is (w.words a) n)) (walk-told (a ∷ ts) all level no_trees is)
 
-        many : reach (w.words a) n ≡ reached.Elements → (x : Result (Row × List Insert) Bare) → Tells (Rows level is (a ∷ ts) no_trees) x → Tells (Comes n is t) (then_insert (begun_by (operand_of tail.ends (a ∷ ts)) (λ js. x) reached.Elements is) (finished t tail n))
+        many : reach (w.words a) n ≡ reached.Elements → (x : Result (QuasiRow × List Insert) Bare) → Tells (Rows level is (a ∷ ts) no_trees) x → Tells (Comes n is t) (then_insert (begun_by (operand_of tail.ends (a ∷ ts)) (λ js. x) reached.Elements is) (finished t tail n))
         many k (Err f) h = tt
         many k (Ok q) h = then-tells (Comes n q.1 rest) (Comes n is t) (tail.made n q.1) (λ p. joined (list_joined t q.0 p)) (last q.1) (λ p js c. join-told is q.1 js q.0 p whole (plain-head (w.words a) n k) h c)
 
@@ -371,7 +371,7 @@ module _ (w : Looked) where
       (λ is mid js us u head es i. whole-list s a d u (elements d) us head esc es (λ ks vs xs. rest-flat d h xs i))
       (λ e k. operand-list (pair s a d) (is_nil (tail_of d)) (elements d) a e refl refl (ap (λ b. operand_of b (a ∷ elements d)) (sym ends) ∙ k)) is
 
-  counted : (x : Word) (b : Bool) → (counts x && b) ≡ true → x ≡ word.Escape → ⊥
+  counted : (x : QuasiWord) (b : Bool) → (counts x && b) ≡ true → x ≡ word.Escape → ⊥
   counted word.Raise b h e = absurd (cc)
   counted word.Lower b h e = absurd (cc)
   counted word.Splice b h e = absurd (cc)
@@ -397,7 +397,7 @@ module _ (w : Looked) where
       (λ is mid js us u head es i. whole-list s a d u (take (cut w.words d) (elements d)) us head esc es (λ ks vs xs. rest-split d h xs i))
       (λ e k. absurd (cc)) is
 
-  escape-list : (x : Word) (t : Tree) (b : Bool) (a : Tree) (ts : List Tree) → is_nil (tail_of t) ≡ b → elements t ≡ a ∷ ts → escapes x b (a ∷ ts) ≡ true → (e : Tree) × ((x ≡ word.Escape) × IsList (a ∷ (e ∷ [])) t)
+  escape-list : (x : QuasiWord) (t : Tree) (b : Bool) (a : Tree) (ts : List Tree) → is_nil (tail_of t) ≡ b → elements t ≡ a ∷ ts → escapes x b (a ∷ ts) ≡ true → (e : Tree) × ((x ≡ word.Escape) × IsList (a ∷ (e ∷ [])) t)
   escape-list word.Raise t b a ts n k h = absurd (cc)
   escape-list word.Lower t b a ts n k h = absurd (cc)
   escape-list word.Splice t b a ts n k h = absurd (cc)
@@ -440,16 +440,16 @@ module _ (w : Looked) where
 
   -- Vectors.
 
-  items-are : {n : ℕ} {is js : List Insert} {ts us : List Tree} {d : Tree} → IsList ts d → Elements n is ts us js → AreItems w n is d (chain us nil) js
+  items-are : {n : ℕ} {is js : List Insert} {ts us : List Tree} {d : Tree} → IsList ts d → Elements n is ts us js → AreVectorElements w n is d (chain us nil) js
   items-are g.end no_more = r.no_item
-  items-are {n} {is} {js} (g.next {span = s} {x = x} {rest = d} l) (one_more {us = us} {vs = vs} e es) = subst (λ u. AreItems w n is (pair s x d) u js) (sym (chain_joined us vs nil)) (r.an_item e (items-are l es))
+  items-are {n} {is} {js} (g.next {span = s} {x = x} {rest = d} l) (one_more {us = us} {vs = vs} e es) = subst (λ u. AreVectorElements w n is (pair s x d) u js) (sym (chain_joined us vs nil)) (r.an_item e (items-are l es))
 
   vector-told : (s : Option Span) (d : Tree) → IsList (elements d) d → Each Told (elements d) → (n : ℕ) (is : List Insert) → Tells (Comes n is (vector s d)) (vector_made w (vector s d) (map (element w) (elements d)) n is)
   vector-told s d l all n is =
       then-tells (Rows n is (elements d) no_trees) (Comes n is (vector s d)) (walked w n no_trees (map (element w) (elements d)) is) (λ q. joined (vector_joined (vector s d) q)) (walk-told (elements d) all n no_trees is)
       (λ q js rows. by js q rows q.changed refl)
     where
-      by : (js : List Insert) (q : Row) → Rows n is (elements d) no_trees q js → (b : Bool) → q.changed ≡ b → Tells (Comes n is (vector s d)) (joined (if b then rebuilt (vector s d) (within (vector_of q.trees)) else Ok (unchanged (vector s d))) js)
+      by : (js : List Insert) (q : QuasiRow) → Rows n is (elements d) no_trees q js → (b : Bool) → q.changed ≡ b → Tells (Comes n is (vector s d)) (joined (if b then rebuilt (vector s d) (within (vector_of q.trees)) else Ok (unchanged (vector s d))) js)
       by js q rows true e = within-tells (Comes n is (vector s d)) (vector s d) (vector_of q.trees) js (record {
         is_so = subst (λ x. IsInserted w n is (vector s d) (vector None x) js) (sym (chain-is q.trees nil ∙ ap (λ v. chain v nil) rows.trees)) (r.a_vector (items-are l rows.are));
         kept = λ h. absurd (cc);
@@ -470,7 +470,7 @@ module _ (w : Looked) where
     told (leaf s x c) h n is = atom-told (leaf s x c) n is r.an_identifier
     told (pair s a d) h n is =
         subst (λ (xs : List Element). Tells (Comes n is (pair s a d)) (list_made w (pair s a d) ((a, syntax_at w a) ∷ xs) (record { ends = is_nil (tail_of d); made = tail_made w d }) n is)) (sym (elements_are w d))
-        (subst (λ (go : ℕ → Inserts Part). Tells (Comes n is (pair s a d)) (list_made w (pair s a d) (map (element w) (a ∷ elements d)) (record { ends = is_nil (tail_of d); made = go }) n is)) (sym (tail_is w d))
+        (subst (λ (go : ℕ → Inserts QuasiPart). Tells (Comes n is (pair s a d)) (list_made w (pair s a d) (map (element w) (a ∷ elements d)) (record { ends = is_nil (tail_of d); made = go }) n is)) (sym (tail_is w d))
         (pair-told s a d (told a h.0, all-told d h.1) (tail-told-of d h.1) n is))
     told (vector s d) h n is = subst (λ (xs : List Element). Tells (Comes n is (vector s d)) (vector_made w (vector s d) xs n is)) (sym (elements_are w d)) (vector-told s d h.0 (all-told d h.1) n is)
 
@@ -489,6 +489,6 @@ module _ (w : Looked) where
 pub inserts-are-told : InsertsAreTold
 inserts-are-told w t form place q h e = by (syntax_at w t 0 []) (told w t h 0 []) e
   where
-    by : (x : Result (Part × List Insert) Bare) → Tells (Comes w 0 [] t) x → (at_form form place x >>= λ p. Ok (answer p)) ≡ Ok q → IsInserted w 0 [] t (unspanned q.template) q.inserts
+    by : (x : Result (QuasiPart × List Insert) Bare) → Tells (Comes w 0 [] t) x → (at_form form place x >>= λ p. Ok (answer p)) ≡ Ok q → IsInserted w 0 [] t (unspanned q.template) q.inserts
     by (Ok p) k i = let same : answer p ≡ q = cc in subst (λ (z : QuasiSyntax). IsInserted w 0 [] t (unspanned z.template) z.inserts) same k.is_so
     by (Err f) k i = absurd (cc)

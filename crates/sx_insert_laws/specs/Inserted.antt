@@ -10,8 +10,8 @@ use Rattle.sx_shape_laws.specs.Grammar.{IsList}
 use Rattle.sx_quasi.specs.QuasiSyntax.{Looked, insert_leaf, quasi_syntax}
 use Rattle.sx_quasi.specs.declared.quasi_syntax.Insert.{Insert}
 use Rattle.sx_quasi.specs.declared.quasi_syntax.QuasiSyntax.{QuasiSyntax}
-use Rattle.sx_quasi.specs.declared.word.Word.{Word}
-use Rattle.sx_quasi.specs.declared.word.Word.TheVariants as word
+use Rattle.sx_quasi.specs.declared.word.QuasiWord.{QuasiWord}
+use Rattle.sx_quasi.specs.declared.word.QuasiWord.TheVariants as word
 use Rattle.sx_quasi_laws.specs.Filled.{level_behind, is_tail}
 
 -- Inserts: each has the leaf of its own number, and an expression under so many ellipses.
@@ -34,7 +34,7 @@ splices_of dots [] is = []
 splices_of dots (e ∷ es) is = insert_leaf (length is) ∷ dots ∷ splices_of dots es (one_insert 1 e is)
 
 -- neither `unsyntax` nor `unsyntax-splicing`, where these are reached
-abbrev pub IsPlainHead : ℕ → Word → Type 0
+abbrev pub IsPlainHead : ℕ → QuasiWord → Type 0
 IsPlainHead zero x = (x ≡ word.Lower → ⊥) × (x ≡ word.Splice → ⊥)
 IsPlainHead (suc n) x = Unit {0}
 
@@ -50,7 +50,7 @@ mutual
     a_list : {n : ℕ} {is js ks : List Insert} {span : Option Span} {a d u : Tree} {us : List Tree}
         → IsPlainHead n (w.words a) → ((e : Tree) → w.words a ≡ word.Escape → IsList (e ∷ []) d → ⊥)
         → IsElement w (level_behind (w.words a) n) is a us js → IsRest w n (level_behind (w.words a) n) js d u ks → IsInserted w n is (pair span a d) (chain us u) ks
-    a_vector : {n : ℕ} {is js : List Insert} {span : Option Span} {d u : Tree} → AreItems w n is d u js → IsInserted w n is (vector span d) (vector None u) js
+    a_vector : {n : ℕ} {is js : List Insert} {span : Option Span} {d u : Tree} → AreVectorElements w n is d u js → IsInserted w n is (vector span d) (vector None u) js
 
   -- the rest of a list at the first of these levels, whose elements are at the second
   pub data IsRest (w : Looked) : ℕ → ℕ → List Insert → Tree → Tree → List Insert → Type 0 where
@@ -61,21 +61,21 @@ mutual
         → is_tail w.words a d ≡ false → IsElement w m is a us js → IsRest w n m js d u ks → IsRest w n m is (pair span a d) (chain us u) ks
 
   -- the elements of a vector
-  pub data AreItems (w : Looked) : ℕ → List Insert → Tree → Tree → List Insert → Type 0 where
-    no_item : {n : ℕ} {is : List Insert} {span : Option Span} → AreItems w n is (atom span Nil) nil is
+  pub data AreVectorElements (w : Looked) : ℕ → List Insert → Tree → Tree → List Insert → Type 0 where
+    no_item : {n : ℕ} {is : List Insert} {span : Option Span} → AreVectorElements w n is (atom span Nil) nil is
     an_item : {n : ℕ} {is js ks : List Insert} {span : Option Span} {a d u : Tree} {us : List Tree}
-        → IsElement w n is a us js → AreItems w n js d u ks → AreItems w n is (pair span a d) (chain us u) ks
+        → IsElement w n is a us js → AreVectorElements w n js d u ks → AreVectorElements w n is (pair span a d) (chain us u) ks
 
   -- an element of a list or vector, and the trees in its place
   pub data IsElement (w : Looked) : ℕ → List Insert → Tree → List Tree → List Insert → Type 0 where
     each : {is : List Insert} {h t : Tree} {es : List Tree} → w.words h ≡ word.Lower → IsList (h ∷ es) t → IsElement w 0 is t (leaves_of es is) (all_inserts 0 es is)
     spliced : {is : List Insert} {h t : Tree} {es : List Tree} → w.words h ≡ word.Splice → IsList (h ∷ es) t → IsElement w 0 is t (splices_of (unspanned w.dots) es is) (all_inserts 1 es is)
-    itself : {n : ℕ} {is js : List Insert} {t u : Tree} → IsKept w n t → IsInserted w n is t u js → IsElement w n is t (u ∷ []) js
+    itself : {n : ℕ} {is js : List Insert} {t u : Tree} → IsKeptElement w n t → IsInserted w n is t u js → IsElement w n is t (u ∷ []) js
 
   -- no list behind `unsyntax` or `unsyntax-splicing`, where these are reached
-  pub data IsKept (w : Looked) : ℕ → Tree → Type 0 where
-    further_in : {n : ℕ} {t : Tree} → IsKept w (suc n) t
-    no_form : {t : Tree} → ((h : Tree) (es : List Tree) → IsList (h ∷ es) t → IsPlainHead 0 (w.words h)) → IsKept w 0 t
+  pub data IsKeptElement (w : Looked) : ℕ → Tree → Type 0 where
+    further_in : {n : ℕ} {t : Tree} → IsKeptElement w (suc n) t
+    no_form : {t : Tree} → ((h : Tree) (es : List Tree) → IsList (h ∷ es) t → IsPlainHead 0 (w.words h)) → IsKeptElement w 0 t
 
 -- each vector in a form holds a list that ends in the empty list
 abbrev pub HoldsLists : Tree → Type 0

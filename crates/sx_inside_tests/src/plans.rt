@@ -7,7 +7,7 @@ use sx_base::items::Items;
 use sx_base::library::LibName;
 use sx_base::memory::Memory;
 use sx_base::symbol::Symbol;
-use sx_core::record::LibRecord;
+use sx_core::record::CompiledLibrary;
 use sx_plan::plan::run_plan;
 
 // Libraries with their references, the references of the program, and the places in the plan.
@@ -33,10 +33,10 @@ fn libraries(alloc: Global, names: &str) -> Result<Items<LibName>, Memory> {
 }
 
 // The record of a library with its references, parted by commas.
-fn record(alloc: Global, name: LibName, refs: &str) -> Result<LibRecord, Memory> {
+fn record(alloc: Global, name: LibName, refs: &str) -> Result<CompiledLibrary, Memory> {
     let path = Symbol::new(alloc, "f")?;
     let refs = libraries(alloc, refs)?;
-    Ok(LibRecord {
+    Ok(CompiledLibrary {
         path,
         name,
         version: Items::new(alloc),
@@ -48,7 +48,7 @@ fn record(alloc: Global, name: LibName, refs: &str) -> Result<LibRecord, Memory>
     })
 }
 
-fn put_record(alloc: Global, records: &mut Vec<LibRecord>, spelt: &str) -> Result<(), Memory> {
+fn put_record(alloc: Global, records: &mut Vec<CompiledLibrary>, spelt: &str) -> Result<(), Memory> {
     let (name, refs) = spelt.split_once(":").unwrap_or((spelt, ""));
     let name = library(alloc, name)?;
     match record(alloc, name, refs) {
@@ -57,7 +57,7 @@ fn put_record(alloc: Global, records: &mut Vec<LibRecord>, spelt: &str) -> Resul
     }
 }
 
-fn put(records: &mut Vec<LibRecord>, record: LibRecord) -> Result<(), Memory> {
+fn put(records: &mut Vec<CompiledLibrary>, record: CompiledLibrary) -> Result<(), Memory> {
     match records.push(record) {
         Ok(()) => Ok(()),
         Err(refused) => {
@@ -67,7 +67,7 @@ fn put(records: &mut Vec<LibRecord>, record: LibRecord) -> Result<(), Memory> {
     }
 }
 
-fn put_records(alloc: Global, records: &mut Vec<LibRecord>, libraries: &str) -> Result<(), Memory> {
+fn put_records(alloc: Global, records: &mut Vec<CompiledLibrary>, libraries: &str) -> Result<(), Memory> {
     for spelt in libraries.split(" ") {
         put_record(alloc, records, spelt)?;
     }
@@ -77,8 +77,8 @@ fn put_records(alloc: Global, records: &mut Vec<LibRecord>, libraries: &str) -> 
 // Puts the places of the plan of these libraries.
 fn put_plan(
     alloc: Global,
-    records: &[LibRecord],
-    program: &LibRecord,
+    records: &[CompiledLibrary],
+    program: &CompiledLibrary,
     told: &mut String,
 ) -> Result<(), Fail> {
     for place in &run_plan(alloc, records, program)? {
@@ -92,7 +92,7 @@ fn put_plan(
 
 fn put_plan_for(
     alloc: Global,
-    records: &[LibRecord],
+    records: &[CompiledLibrary],
     refs: &str,
     told: &mut String,
 ) -> Result<(), Fail> {

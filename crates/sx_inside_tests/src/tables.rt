@@ -16,7 +16,7 @@ use sx_base::op::Op;
 use sx_base::op::names::CAR;
 use sx_base::symbol::Symbol;
 use sx_core::binding::Binding;
-use sx_core::record::LibRecord;
+use sx_core::record::CompiledLibrary;
 use sx_fuel::fuel::{Counted, Fuel};
 use sx_standing::expansion::Expansion;
 use sx_standing::ready::ReadyRecords;
@@ -71,13 +71,13 @@ fn put_binding(
 }
 
 // The record of a library of one word, which is bound to `car`.
-fn record(alloc: Global, word: &str) -> Result<LibRecord, Memory> {
+fn record(alloc: Global, word: &str) -> Result<CompiledLibrary, Memory> {
     let path = Symbol::new(alloc, "f")?;
     let name = library(alloc, word)?;
     let frames = rows(alloc, word)?;
     let mut bindings = Items::new(alloc);
     match put_binding(alloc, &mut bindings, word) {
-        Ok(()) => Ok(LibRecord {
+        Ok(()) => Ok(CompiledLibrary {
             path,
             name,
             version: Items::new(alloc),
@@ -106,14 +106,14 @@ const MOST: u64 = 3;
 
 // The records so far, and the fuel of expansions.
 #[derive(Drop)]
-struct Run<L: Ledger> {
+struct TestRun<L: Ledger> {
     alloc: Global,
     records: ReadyRecords,
     fuel: Fuel<L>,
 }
 
 // An expansion behind those of the records that are marked.
-fn begun<L: Ledger>(run: &mut Run<L>, needs: &[bool]) -> Result<Expansion<L>, Memory> {
+fn begun<L: Ledger>(run: &mut TestRun<L>, needs: &[bool]) -> Result<Expansion<L>, Memory> {
     let Some(unspent) = run.fuel.begin() else {
         return Err(Memory);
     };
@@ -189,7 +189,7 @@ fn put_found<L: Ledger>(
     Ok(())
 }
 
-fn put_last<L: Ledger>(run: &mut Run<L>, words: &mut String) -> Result<(), Memory> {
+fn put_last<L: Ledger>(run: &mut TestRun<L>, words: &mut String) -> Result<(), Memory> {
     match begun(run, &[true, false, true]) {
         Ok(mut third) => {
             let put = put_found(run.alloc, &mut third, words);
@@ -201,7 +201,7 @@ fn put_last<L: Ledger>(run: &mut Run<L>, words: &mut String) -> Result<(), Memor
 }
 
 fn while_two_are_held<L: Ledger>(
-    run: &mut Run<L>,
+    run: &mut TestRun<L>,
     first: &mut Expansion<L>,
     second: &mut Expansion<L>,
     words: &mut String,
@@ -213,7 +213,7 @@ fn while_two_are_held<L: Ledger>(
 }
 
 fn while_one_is_held<L: Ledger>(
-    run: &mut Run<L>,
+    run: &mut TestRun<L>,
     first: &mut Expansion<L>,
     words: &mut String,
 ) -> Result<(), Memory> {
@@ -229,7 +229,7 @@ fn while_one_is_held<L: Ledger>(
 }
 
 // What expansions find that are begun between records and held while others come.
-fn put_all<L: Ledger>(run: &mut Run<L>, words: &mut String) -> Result<(), Memory> {
+fn put_all<L: Ledger>(run: &mut TestRun<L>, words: &mut String) -> Result<(), Memory> {
     put(run.alloc, &mut run.records, "a")?;
     match begun(run, &[true]) {
         Ok(mut first) => {
@@ -248,7 +248,7 @@ fn shared_by<L: Ledger>(alloc: Global, blank: Blank, words: &mut String) -> Resu
     match ReadyRecords::new(alloc) {
         Ok(records) => {
             let Counted { book: _, fuel } = Fuel::<L>::open(blank, MOST);
-            let mut run = Run {
+            let mut run = TestRun {
                 alloc,
                 records,
                 fuel,

@@ -25,7 +25,7 @@ use Rattle.sx_standing.specs.Binders.{bind_formals, bind_specs}
 use Rattle.sx_standing.specs.InScope.{apart}
 use Rattle.sx_standing.specs.Patterns.{pattern_of, check_literals, bind_pattern}
 use Rattle.sx_standing.specs.State.{State, fresh, fresh_frame}
-use Rattle.sx_standing.specs.Uses.{bind_keywords, finish_keyword}
+use Rattle.sx_standing.specs.Uses.{bind_keywords, evaluate_transformer}
 use Rattle.sx_standing.specs.declared.binders.BoundSpec.{BoundSpec}
 use Rattle.sx_heads.specs.Depth.{deeper}
 use Rattle.sx_heads.specs.Items.{begun}
@@ -37,7 +37,7 @@ use Rattle.sx_heads.specs.declared.taken.Waits.TheVariants as waits
 use Rattle.sx_expand.specs.Body.{splice, value_of, finish_as, finish_one, finish_all, sequence_of, inits_in, values_in, with_inits, body_core, finish, lambda_at, body_in, body}
 use Rattle.sx_expand.specs.Expression.{in_order, case_in, lambda_case, lambda, one_case, all_cases, case_lambda, one_init, all_inits, letrec_in, letrec_form, application, alternate, conditional, set, in_sequence, fender, clause_in, pattern_clause, all_clauses, syntax_case, keywords_form}
 use Rattle.sx_expand.specs.Inside.{Inside}
-use Rattle.sx_expand.specs.Keywords.{keyword, seen_in, keyword_in, all_keywords, keywords, with_keywords}
+use Rattle.sx_expand.specs.Keywords.{expand_transformer, seen_in, expand_transformer_in, expand_transformers, keywords, with_keywords}
 use Rattle.sx_value.specs.Cells.{Each}
 use Rattle.sx_tree.specs.Leaves.{strip}
 use Rattle.sx_invariant_laws.specs.Holds.{CoreHolds, CoresHold, InitsHold, CasesHold, ClausesHold, LineHolds}
@@ -47,9 +47,9 @@ use Rattle.sx_invariant_expansion_laws.proofs.Items.{WaitsAt, WaitingAt, TakenAt
 use Rattle.sx_invariant_expansion_laws.proofs.Shapes.{FormalsHold, LambdaHolds, PatternCaseHolds}
 use Rattle.sx_invariant_expansion_laws.proofs.Standing.{F, Ts, C, Gave, gave-after, gave-if, gave-each, gave-gather, gave-within, gave-apart, counted-holds, SpecAt, BoundHolds, bind-formals-holds, bind-specs-holds, bind-keywords-holds, finish-keyword-holds, pattern-holds, literals-hold, bind-pattern-holds}
 use Rattle.sx_invariant_laws.specs.Invariant.{Invariant}
-use Rattle.sx_invariant_expansion_laws.specs.Kept.{IsKept}
+use Rattle.sx_invariant_expansion_laws.specs.Kept.{IsKeptByExpansion}
 
-module _ (I : Invariant) (kept : IsKept I) where
+module _ (I : Invariant) (kept : IsKeptByExpansion I) where
   abbrev pub CaseAt : Lambda → Type 0
   CaseAt c = C I kept c.body
 
@@ -326,11 +326,11 @@ module _ (I : Invariant) (kept : IsKept I) where
 
     -- Keywords.
 
-    pub keyword-holds : (place : Span) (level depth : ℕ) (b : BoundSpec) (s : State) → F I kept s → BoundHolds I kept b → Gave I kept Any (keyword go place level depth b s)
-    unfolding keyword
+    pub keyword-holds : (place : Span) (level depth : ℕ) (b : BoundSpec) (s : State) → F I kept s → BoundHolds I kept b → Gave I kept Any (expand_transformer go place level depth b s)
+    unfolding expand_transformer
     keyword-holds place level depth b s h k =
         let z : State = record s { scope = [] } in
-        gave-after I kept (C I kept) Any (apart (go.form place (level + 1) depth b.init) s) (finish_keyword go.earlier (place_of b.init place) b.label)
+        gave-after I kept (C I kept) Any (apart (go.form place (level + 1) depth b.init) s) (evaluate_transformer go.earlier (place_of b.init place) b.label)
         (gave-apart I kept (C I kept) (go.form place (level + 1) depth b.init) s (keeps.form place (level + 1) depth b.init z (record { stage = h.stage; bindings = h.bindings }) k))
         (λ c u i y. finish-keyword-holds I kept go.earlier keeps.records (place_of b.init place) b.label c u i y)
 
@@ -341,8 +341,8 @@ module _ (I : Invariant) (kept : IsKept I) where
     keywords-hold : (place : Span) (level depth : ℕ) (recursive : Bool) (bs : List BindingSpec) (f : FrameNo) (s : State) → F I kept s → Each (SpecAt I kept) bs → Gave I kept Any (keywords go place level depth recursive bs f s)
     unfolding keywords
     keywords-hold place level depth recursive bs f s h k =
-        gave-after I kept (λ xs. Each (BoundHolds I kept) xs) Any (bind_keywords f place level bs s) (all_keywords go place level depth recursive f) (bind-keywords-holds I kept f place level bs s h k)
-        (λ xs u i y. gave-gather I kept (BoundHolds I kept) Any (keyword_in go place level depth recursive f) (λ d b t j w z. keyword-holds place level depth (seen_in recursive f b) t j (seen-holds recursive f b z)) tt xs u i tt y)
+        gave-after I kept (λ xs. Each (BoundHolds I kept) xs) Any (bind_keywords f place level bs s) (expand_transformers go place level depth recursive f) (bind-keywords-holds I kept f place level bs s h k)
+        (λ xs u i y. gave-gather I kept (BoundHolds I kept) Any (expand_transformer_in go place level depth recursive f) (λ d b t j w z. keyword-holds place level depth (seen_in recursive f b) t j (seen-holds recursive f b z)) tt xs u i tt y)
 
     pub with-keywords-holds : (place : Span) (level depth : ℕ) (recursive : Bool) (bs : List BindingSpec) (forms : List Tree) (s : State) → F I kept s → Each (SpecAt I kept) bs → Ts I kept forms
         → Gave I kept (Ts I kept) (with_keywords go place level depth recursive bs forms s)

@@ -25,7 +25,7 @@ use Rattle.sx_quasi_code.specs.Inserted.{dots, ellipsis, insert_variable, insert
 use Rattle.sx_quasi_code.specs.Parts.{part, with_made, quasi_parts, all_quasi_parts, insert_part, inserts_parts}
 use Rattle.sx_quasi_code.specs.declared.form.QuasiForm.{QuasiForm}
 use Rattle.sx_quasi_code.specs.declared.form.QuasiForm.TheVariants as forms
-use Rattle.sx_quasi_code.specs.declared.parts.Part.{Part}
+use Rattle.sx_quasi_code.specs.declared.parts.PartForm.{PartForm}
 use Rattle.std.specs.Prelude.{nat_lt}
 use Rattle.sx_shapes.specs.At.{place_of}
 use Rattle.sx_standing.specs.Binders.{put_row}
@@ -43,9 +43,9 @@ use Rattle.sx_invariant_expansion_laws.proofs.Quasi.{QuasiHolds, QuasisHold, qua
 use Rattle.sx_invariant_expansion_laws.proofs.QuasiSyntax.{quasi-syntax-holds}
 use Rattle.sx_invariant_expansion_laws.proofs.Standing.{F, C, Gave, gave-after, gave-each, gave-within, counted-holds, put-row-holds, template-holds, bind-pattern-holds}
 use Rattle.sx_invariant_laws.specs.Invariant.{Invariant}
-use Rattle.sx_invariant_expansion_laws.specs.Kept.{IsKept}
+use Rattle.sx_invariant_expansion_laws.specs.Kept.{IsKeptByExpansion}
 
-module _ (I : Invariant) (kept : IsKept I) where
+module _ (I : Invariant) (kept : IsKeptByExpansion I) where
   abbrev Any : {A : Type 0} → A → Type 0
   Any x = Unit {0}
 
@@ -80,10 +80,10 @@ module _ (I : Invariant) (kept : IsKept I) where
 
   -- Parts.
 
-  abbrev PartAt : Part → Type 0
+  abbrev PartAt : PartForm → Type 0
   PartAt p = I.trees p.form
 
-  with-made-holds : (t : Tree) (depth : ℕ) (done : List Part) → I.trees t → Each PartAt done → Each PartAt (with_made t depth done)
+  with-made-holds : (t : Tree) (depth : ℕ) (done : List PartForm) → I.trees t → Each PartAt done → Each PartAt (with_made t depth done)
   with-made-holds t depth done h k = by (nat_lt most_round depth)
     where
       by : (b : Bool) → Each PartAt (if b then done ++ part t depth ∷ [] else done)
@@ -91,12 +91,12 @@ module _ (I : Invariant) (kept : IsKept I) where
       by false = k
 
   mutual
-    quasi-parts-hold : (t : Tree) (depth : ℕ) (done : List Part) (q : PlainQuasi) → I.trees t → Each PartAt done → QuasiHolds I kept.built.closed q → Each PartAt (quasi_parts t depth done q)
+    quasi-parts-hold : (t : Tree) (depth : ℕ) (done : List PartForm) (q : PlainQuasi) → I.trees t → Each PartAt done → QuasiHolds I kept.built.closed q → Each PartAt (quasi_parts t depth done q)
     quasi-parts-hold t depth done (constant c) h k j = with-made-holds t depth done h k
     quasi-parts-hold t depth done (expression e) h k j = each_and PartAt done (part e depth) k j
     quasi-parts-hold t depth done (quasi_plan.call m qs) h k j = all-parts-hold t (deeper depth) (with_made t (deeper depth) done) qs h (with-made-holds t (deeper depth) done h k) j
 
-    all-parts-hold : (t : Tree) (depth : ℕ) (done : List Part) (qs : PlainQuasis) → I.trees t → Each PartAt done → QuasisHold I kept.built.closed qs → Each PartAt (all_quasi_parts t depth done qs)
+    all-parts-hold : (t : Tree) (depth : ℕ) (done : List PartForm) (qs : PlainQuasis) → I.trees t → Each PartAt done → QuasisHold I kept.built.closed qs → Each PartAt (all_quasi_parts t depth done qs)
     all-parts-hold t depth done none h k j = k
     all-parts-hold t depth done (more q qs) h k j = all-parts-hold t depth (quasi_parts t depth done q) qs h (quasi-parts-hold t depth done q h k j.0) j.1
 

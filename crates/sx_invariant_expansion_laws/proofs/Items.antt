@@ -36,9 +36,9 @@ use Rattle.sx_invariant_expansion_laws.specs.Forms.{WaitsHold}
 use Rattle.sx_invariant_expansion_laws.proofs.Shapes.{ShapeHolds, shape-holds}
 use Rattle.sx_invariant_expansion_laws.proofs.Standing.{F, Ts, Gave, gave-after, gave-if, SpecAt, BoundHolds, variable-holds, bind-keyword-holds}
 use Rattle.sx_invariant_laws.specs.Invariant.{Invariant}
-use Rattle.sx_invariant_expansion_laws.specs.Kept.{IsKept}
+use Rattle.sx_invariant_expansion_laws.specs.Kept.{IsKeptByExpansion}
 
-module _ (I : Invariant) (kept : IsKept I) where
+module _ (I : Invariant) (kept : IsKeptByExpansion I) where
   abbrev pub WaitsAt : Waits → Type 0
   WaitsAt w = WaitsHold I w
 

@@ -7,6 +7,6 @@ pub mod Plans
 pub mod Items
 pub mod Forms
 pub mod Inserts
-pub mod Settled
+pub mod PlannedForm
 pub mod Recorded
 pub mod Families

@@ -36,9 +36,9 @@ use Rattle.sx_invariant_laws.proofs.Trees.{OkHolds}
 use Rattle.sx_invariant_expansion_laws.proofs.Shapes.{FormalsHold, LambdaHolds, PatternCaseHolds, ShapeHolds, proper-holds, shape-holds}
 use Rattle.sx_invariant_expansion_laws.proofs.Standing.{F, Ts, C, Gave, gave-after, gave-if, SpecAt, template-holds}
 use Rattle.sx_invariant_laws.specs.Invariant.{Invariant}
-use Rattle.sx_invariant_expansion_laws.specs.Kept.{IsKept}
+use Rattle.sx_invariant_expansion_laws.specs.Kept.{IsKeptByExpansion}
 
-module _ (I : Invariant) (kept : IsKept I) where
+module _ (I : Invariant) (kept : IsKeptByExpansion I) where
   abbrev pub PlanAt : Plan → Type 0
   PlanAt (plans.Done c) = C I kept c
   PlanAt (plans.Call operator operands) = I.trees operator × Ts I kept operands

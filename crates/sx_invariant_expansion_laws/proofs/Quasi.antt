@@ -10,15 +10,15 @@ use Rattle.sx_quasi.specs.Parts.{behind_head, operands, taken_by, taken_at, rest
 use Rattle.sx_quasi.specs.Plan.{PlainQuasi, PlainQuasis, constant, expression, call, none, more, quasis}
 use Rattle.sx_quasi.specs.Quasi.{no_pieces, closed, expressions, with_each, with_splices, is_constant, with_item, is_end, without_splices, made_of, list_joined, vector_joined, Element, forms, step_by, step, walked, operand_or_bad, begun_by, begins, Tail, finished, flat, split_tail, list_made, vector_made, quasi_at, elements_made, tail_made, at_form, quasi}
 use Rattle.sx_quasi.specs.declared.maker.Maker.TheVariants as maker
-use Rattle.sx_quasi.specs.declared.parts.Taken.{Taken}
-use Rattle.sx_quasi.specs.declared.parts.Taken.TheVariants as taken
+use Rattle.sx_quasi.specs.declared.parts.QuasiTaken.{QuasiTaken}
+use Rattle.sx_quasi.specs.declared.parts.QuasiTaken.TheVariants as taken
 use Rattle.sx_quasi.specs.declared.quasi.Begun.{Begun}
 use Rattle.sx_quasi.specs.declared.quasi.Begun.TheVariants as begun
 use Rattle.sx_quasi.specs.declared.quasi.Pieces.{Pieces}
 use Rattle.sx_quasi.specs.declared.word.Reach.{Reach}
 use Rattle.sx_quasi.specs.declared.word.Reach.TheVariants as reached
-use Rattle.sx_quasi.specs.declared.word.Word.{Word}
-use Rattle.sx_quasi.specs.declared.word.Word.TheVariants as word
+use Rattle.sx_quasi.specs.declared.word.QuasiWord.{QuasiWord}
+use Rattle.sx_quasi.specs.declared.word.QuasiWord.TheVariants as word
 use Rattle.sx_value.specs.Cells.{Each}
 use Rattle.sx_invariant_laws.specs.Invariant.{OptionHolds}
 use Rattle.sx_invariant_laws.proofs.Eachs.{each_and, each_both, each_taken, each_dropped}
@@ -34,7 +34,7 @@ module _ (I : Invariant) (parts : IsClosed I) where
   abbrev Ts : List Tree → Type 0
   Ts ts = Each I.trees ts
 
-  abbrev pub TakenHolds : Taken → Type 0
+  abbrev pub TakenHolds : QuasiTaken → Type 0
   TakenHolds (taken.Each es) = Ts es
   TakenHolds (taken.Spliced es) = Ts es
   TakenHolds taken.Kept = Unit {0}
@@ -46,7 +46,7 @@ module _ (I : Invariant) (parts : IsClosed I) where
   operands-hold : (t : Tree) → I.trees t → OptionHolds Ts (operands t)
   operands-hold t h = some-holds Ts Ts (proper_elements t) behind_head (proper-holds I parts t h) behind-holds
 
-  taken-by-holds : (w : Word) (o : Option (List Tree)) → OptionHolds Ts o → TakenHolds (taken_by w o)
+  taken-by-holds : (w : QuasiWord) (o : Option (List Tree)) → OptionHolds Ts o → TakenHolds (taken_by w o)
   taken-by-holds word.Lower (Some es) h = h
   taken-by-holds word.Splice (Some es) h = h
   taken-by-holds word.Lower None h = tt
@@ -137,7 +137,7 @@ module _ (I : Invariant) (parts : IsClosed I) where
   forms-hold [] h = tt
   forms-hold (x ∷ xs) h = (h.0.form, forms-hold xs h.1)
 
-  step-by-holds : (n : ℕ) (x : Element) (p : Pieces) (u : Taken) → IsElement x → PiecesHold p → TakenHolds u → OkHolds PiecesHold (step_by n x p u)
+  step-by-holds : (n : ℕ) (x : Element) (p : Pieces) (u : QuasiTaken) → IsElement x → PiecesHold p → TakenHolds u → OkHolds PiecesHold (step_by n x p u)
   step-by-holds n x p (taken.Each es) one h k = with-each-holds p es h k
   step-by-holds n x p (taken.Spliced es) one h k = with-splices-holds p es h k
   step-by-holds n x p taken.Kept one h k = then-holds QuasiHolds PiecesHold (x.1 n) (λ q. Ok (with_item p q)) (one.made n) (λ q j. with-item-holds p q h j)

@@ -11,14 +11,14 @@ use Rattle.sx_quasi.specs.Words.{inner, reach}
 use Rattle.sx_quasi.specs.Parts.{taken_at, rest_at, splits, first_word, operand_of}
 use Rattle.sx_quasi.specs.Quasi.{at_form}
 use Rattle.sx_quasi.specs.QuasiSyntax.{Looked, Inserts, then_insert, insert_leaf, insert, no_trees, leaves, spliced, with_part, unchanged, rebuilt, list_joined, vector_joined, joined, Element, forms, step_by, step, walked, operand_or_bad, begun_by, begins, Tail, finished, flat, split_tail, escapes, list_made, vector_made, syntax_at, elements_made, tail_made, answer, quasi_syntax}
-use Rattle.sx_quasi.specs.declared.parts.Taken.{Taken}
-use Rattle.sx_quasi.specs.declared.parts.Taken.TheVariants as taken
+use Rattle.sx_quasi.specs.declared.parts.QuasiTaken.{QuasiTaken}
+use Rattle.sx_quasi.specs.declared.parts.QuasiTaken.TheVariants as taken
 use Rattle.sx_quasi.specs.declared.quasi_syntax.Begun.{Begun}
 use Rattle.sx_quasi.specs.declared.quasi_syntax.Begun.TheVariants as begun
 use Rattle.sx_quasi.specs.declared.quasi_syntax.Insert.{Insert}
-use Rattle.sx_quasi.specs.declared.quasi_syntax.Part.{Part}
+use Rattle.sx_quasi.specs.declared.quasi_syntax.QuasiPart.{QuasiPart}
 use Rattle.sx_quasi.specs.declared.quasi_syntax.QuasiSyntax.{QuasiSyntax}
-use Rattle.sx_quasi.specs.declared.quasi_syntax.Row.{Row}
+use Rattle.sx_quasi.specs.declared.quasi_syntax.QuasiRow.{QuasiRow}
 use Rattle.sx_quasi.specs.declared.word.Reach.{Reach}
 use Rattle.sx_quasi.specs.declared.word.Reach.TheVariants as reached
 use Rattle.sx_value.specs.Cells.{Each}
@@ -71,22 +71,22 @@ module _ (I : Invariant) (built : IsBuilt I) (of_insert : (k : ℕ) → I.trees 
       spliced-hold dots d ((ts ++ insert_leaf (length is) ∷ []) ++ dots ∷ []) es (is ++ insert 1 e is ∷ [])
       (each_and I.trees (ts ++ insert_leaf (length is) ∷ []) dots (each_and I.trees ts (insert_leaf (length is)) h (of_insert _)) d) k.1 (each_and InsertHolds is (insert 1 e is) j (insert-holds 1 e is k.0))
 
-  abbrev RowHolds : Row → Type 0
+  abbrev RowHolds : QuasiRow → Type 0
   RowHolds r = Each I.trees r.trees
 
-  abbrev PartHolds : Part → Type 0
+  abbrev PartHolds : QuasiPart → Type 0
   PartHolds p = I.trees p.tree
 
   rebuilt-holds : (t : Tree) (r : Result Tree Bare) → OkHolds I.trees r → OkHolds PartHolds (rebuilt t r)
   rebuilt-holds t (Ok u) h = built.spanned (span_of t) u h
   rebuilt-holds t (Err f) h = tt
 
-  list-joined-holds : (t : Tree) (r : Row) (p : Part) → I.trees t → RowHolds r → PartHolds p → OkHolds PartHolds (list_joined t r p)
+  list-joined-holds : (t : Tree) (r : QuasiRow) (p : QuasiPart) → I.trees t → RowHolds r → PartHolds p → OkHolds PartHolds (list_joined t r p)
   list-joined-holds t r p g h k =
       ok-if PartHolds (r.changed || p.changed) (rebuilt t (within (list_of r.trees (Some p.tree)))) (Ok (unchanged t))
       (rebuilt-holds t (within (list_of r.trees (Some p.tree))) (within_all I.trees (list_of r.trees (Some p.tree)) (λ v q. built.closed.list r.trees p.tree v h k q))) g
 
-  vector-joined-holds : (t : Tree) (r : Row) → I.trees t → RowHolds r → OkHolds PartHolds (vector_joined t r)
+  vector-joined-holds : (t : Tree) (r : QuasiRow) → I.trees t → RowHolds r → OkHolds PartHolds (vector_joined t r)
   vector-joined-holds t r g h =
       ok-if PartHolds r.changed (rebuilt t (within (vector_of r.trees))) (Ok (unchanged t)) (rebuilt-holds t (within (vector_of r.trees)) (within_all I.trees (vector_of r.trees) (λ v q. built.closed.vector r.trees v h q))) g
 
@@ -108,13 +108,13 @@ module _ (I : Invariant) (built : IsBuilt I) (of_insert : (k : ℕ) → I.trees 
   rest-holds (suc n) (vector s d) h = h
 
   module _ (w : Looked) (dots_hold : I.trees w.dots) where
-    step-by-holds : (n : ℕ) (x : Element) (r : Row) (u : Taken) (is : List Insert) → IsElement x → RowHolds r → TakenHolds I built.closed u → Is is → Both RowHolds (step_by w n x r u is)
+    step-by-holds : (n : ℕ) (x : Element) (r : QuasiRow) (u : QuasiTaken) (is : List Insert) → IsElement x → RowHolds r → TakenHolds I built.closed u → Is is → Both RowHolds (step_by w n x r u is)
     step-by-holds n x r (taken.Each es) is one h k j = leaves-hold r.trees es is h k j
     step-by-holds n x r (taken.Spliced es) is one h k j = spliced-hold w.dots dots_hold r.trees es is h k j
     step-by-holds n x r taken.Kept is one h k j =
         both-then PartHolds RowHolds (x.1 n is) (λ p inserts. Ok (with_part r p, inserts)) (one.made n is j) (λ p more g i. (each_and I.trees r.trees p.tree h g, i))
 
-    walked-holds : (n : ℕ) (r : Row) (xs : List Element) (is : List Insert) → RowHolds r → Each IsElement xs → Is is → Both RowHolds (walked w n r xs is)
+    walked-holds : (n : ℕ) (r : QuasiRow) (xs : List Element) (is : List Insert) → RowHolds r → Each IsElement xs → Is is → Both RowHolds (walked w n r xs is)
     walked-holds n r [] is h all j = (h, j)
     walked-holds n r (x ∷ xs) is h all j =
         both-then RowHolds RowHolds (step w n r x is) (λ q inserts. walked w n q xs inserts) (step-by-holds n x r (taken_at w.words n x.0) is all.0 h (taken-holds I built.closed w.words n x.0 all.0.form) j) (λ q more g i. walked-holds n q xs more g all.1 i)
@@ -127,7 +127,7 @@ module _ (I : Invariant) (built : IsBuilt I) (of_insert : (k : ℕ) → I.trees 
     or-bad-holds None is h j = tt
     or-bad-holds (Some e) is h j = (of_insert _, each_and InsertHolds is (insert 0 e is) j (insert-holds 0 e is h))
 
-    begun-holds : (o : Option Tree) (row : Inserts Row) (x : Reach) (is : List Insert) → OptionHolds I.trees o → Both RowHolds (row is) → Is is → Both BegunHolds (begun_by o row x is)
+    begun-holds : (o : Option Tree) (row : Inserts QuasiRow) (x : Reach) (is : List Insert) → OptionHolds I.trees o → Both RowHolds (row is) → Is is → Both BegunHolds (begun_by o row x is)
     begun-holds o row reached.Operand is h k j = or-bad-holds o is h j
     begun-holds o row reached.Refused is h k j = tt
     begun-holds o row reached.Elements is h k j = both-then RowHolds BegunHolds (row is) (λ r inserts. Ok (begun.Trees r, inserts)) k (λ r more g i. (g, i))
@@ -187,6 +187,6 @@ module _ (I : Invariant) (built : IsBuilt I) (of_insert : (k : ℕ) → I.trees 
     pub quasi-syntax-holds : (t form : Tree) (place : Span) → I.trees t → OkHolds SyntaxHolds (quasi_syntax w t form place)
     quasi-syntax-holds t form place g = by (syntax_at w t 0 []) (syntax-at-holds t g 0 [] tt)
       where
-        by : (r : Result (Part × List Insert) Bare) → Both PartHolds r → OkHolds SyntaxHolds (at_form form place r >>= λ p. Ok (answer p))
+        by : (r : Result (QuasiPart × List Insert) Bare) → Both PartHolds r → OkHolds SyntaxHolds (at_form form place r >>= λ p. Ok (answer p))
         by (Ok p) h = h
         by (Err f) h = tt

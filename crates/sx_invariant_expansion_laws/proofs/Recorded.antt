@@ -12,7 +12,7 @@ use Rattle.sx_core.specs.Bindings.{bound_to}
 use Rattle.sx_core.specs.Labels.{same_label, has_label}
 use Rattle.sx_core.specs.declared.binding.Binding.{Binding}
 use Rattle.sx_core.specs.declared.binding.Binding.TheVariants as binding
-use Rattle.sx_core.specs.declared.record.LibRecord.{LibRecord}
+use Rattle.sx_core.specs.declared.record.CompiledLibrary.{CompiledLibrary}
 use Rattle.sx_eval.specs.Codes.{Codes}
 use Rattle.sx_stage.specs.Stage.{keyword_at, expression_in, expression_of}
 use Rattle.sx_stage.specs.declared.keyword.Keyword.{Keyword}
@@ -27,7 +27,7 @@ use Rattle.sx_expand.specs.Body.{finish_all}
 use Rattle.sx_expand.specs.Expanding.{ready, body_of}
 use Rattle.sx_expand.specs.Expression.{inside, full_room}
 use Rattle.sx_expand.specs.Inside.{Inside}
-use Rattle.sx_expand.specs.Top.{stands_for, export, all_exports, exports, give_record, record_in, body_at, finished, first_pass, top}
+use Rattle.sx_expand.specs.Top.{stands_for, export, all_exports, exports, give_record, record_in, body_at, second_pass, first_pass, top}
 use Rattle.sx_expand.specs.declared.top.TopAt.{TopAt}
 use Rattle.sx_invariant_laws.specs.Invariant.{OptionHolds}
 use Rattle.sx_invariant_laws.proofs.Eachs.{each_both}
@@ -35,15 +35,15 @@ use Rattle.sx_invariant_laws.specs.Holds.{CodesHold, LineHolds}
 use Rattle.sx_invariant_laws.specs.Stages.{ExpressionHolds, KeywordHolds, RecordsHold}
 use Rattle.sx_invariant_laws.proofs.Variables.{looked_up}
 use Rattle.sx_invariant_expansion_laws.specs.Records.{RecordHolds, RecordsStay}
-use Rattle.sx_invariant_expansion_laws.specs.States.{BindingHolds, BindingsHold, HoldsIn}
+use Rattle.sx_invariant_expansion_laws.specs.States.{BindingHolds, BindingsHold, StateHoldsIn}
 use Rattle.sx_invariant_expansion_laws.proofs.Forms.{Keeps, stamps-hold, splice-holds, lines-hold}
 use Rattle.sx_invariant_expansion_laws.proofs.Items.{TakenAt}
-use Rattle.sx_invariant_expansion_laws.proofs.Settled.{inside-keeps}
+use Rattle.sx_invariant_expansion_laws.proofs.PlannedForm.{inside-keeps}
 use Rattle.sx_invariant_expansion_laws.proofs.Standing.{F, Ts, Gave, gave-after, gave-each}
 use Rattle.sx_invariant_laws.specs.Invariant.{Invariant}
-use Rattle.sx_invariant_expansion_laws.specs.Kept.{IsKept}
+use Rattle.sx_invariant_expansion_laws.specs.Kept.{IsKeptByExpansion}
 
-module _ (I : Invariant) (kept : IsKept I) where
+module _ (I : Invariant) (kept : IsKeptByExpansion I) where
   abbrev Any : {A : Type 0} → A → Type 0
   Any x = Unit {0}
 
@@ -102,8 +102,8 @@ module _ (I : Invariant) (kept : IsKept I) where
   -- The body of a library.
 
   module _ (go : Inside) (keeps : Keeps I kept go) where
-    finished-holds : (at : TopAt) (es : List (List ℕ × Tree)) (d : Taken) (s : State) → F I kept s → TakenAt I kept d → Gave I kept (RecordHolds I) (finished go at es d s)
-    unfolding finished
+    finished-holds : (at : TopAt) (es : List (List ℕ × Tree)) (d : Taken) (s : State) → F I kept s → TakenAt I kept d → Gave I kept (RecordHolds I) (second_pass go at es d s)
+    unfolding second_pass
     finished-holds at es d s h k =
         gave-after I kept Any (RecordHolds I) (exports at es s) (λ ls s'. after (finish_all go 0 d.waiting s') (λ lines. give_record at ls lines)) (exports-hold at es s h)
         (λ ls u i y. gave-after I kept (λ xs. Each (LineHolds I) xs) (RecordHolds I) (finish_all go 0 d.waiting u) (λ lines. give_record at ls lines) (lines-hold I kept go keeps 0 d.waiting u i k)
@@ -112,26 +112,26 @@ module _ (I : Invariant) (kept : IsKept I) where
     top-holds : (at : TopAt) (es : List (List ℕ × Tree)) (forms : List Tree) (s : State) → F I kept s → Ts I kept forms → Gave I kept (RecordHolds I) (top go at es forms s)
     unfolding top first_pass
     top-holds at es forms s h k =
-        gave-after I kept (TakenAt I kept) (RecordHolds I) (first_pass go at forms s) (finished go at es) (splice-holds I kept go keeps (body_at at s.library) 0 begun (map (stamp at.frame) forms) s h tt (stamps-hold I kept at.frame forms k))
+        gave-after I kept (TakenAt I kept) (RecordHolds I) (first_pass go at forms s) (second_pass go at es) (splice-holds I kept go keeps (body_at at s.library) 0 begun (map (stamp at.frame) forms) s h tt (stamps-hold I kept at.frame forms k))
         (λ d u i y. finished-holds at es d u i y)
 
   -- The law.
 
-  all-bindings : (rs : List LibRecord) → Each (RecordHolds I) rs → BindingsHold I (bindings_of rs)
+  all-bindings : (rs : List CompiledLibrary) → Each (RecordHolds I) rs → BindingsHold I (bindings_of rs)
   all-bindings [] h = tt
   all-bindings (r ∷ rs) h = each_both (λ (b : Label × Binding). BindingHolds I b.1) r.bindings (bindings_of rs) h.0.bindings (all-bindings rs h.1)
 
-  all-lines : (rs : List LibRecord) → Each (RecordHolds I) rs → RecordsHold I rs
+  all-lines : (rs : List CompiledLibrary) → Each (RecordHolds I) rs → RecordsHold I rs
   all-lines [] h = tt
   all-lines (r ∷ rs) h = (h.0.run, all-lines rs h.1)
 
-  of-record : (r : LibRecord) (q : Result (LibRecord × State) Fault) → Gave I kept (RecordHolds I) q → record_in q ≡ Ok r → RecordHolds I r
+  of-record : (r : CompiledLibrary) (q : Result (CompiledLibrary × State) Fault) → Gave I kept (RecordHolds I) q → record_in q ≡ Ok r → RecordHolds I r
   of-record r (Err f) h e = absurd (cc)
   of-record r (Ok p) h e =
       let is : p.0 ≡ r = cc in
       subst (RecordHolds I) is h.1
 
-  pub started-holds : (own : LibName) (records : List LibRecord) (imports : List (List ℕ × Label)) (codes : Codes) → Each (RecordHolds I) records → CodesHold I codes → HoldsIn I (started own records imports codes)
+  pub started-holds : (own : LibName) (records : List CompiledLibrary) (imports : List (List ℕ × Label)) (codes : Codes) → Each (RecordHolds I) records → CodesHold I codes → StateHoldsIn I (started own records imports codes)
   unfolding started
   started-holds own records imports codes before texts = record { stage = record { cells = tt; codes = texts; globals = tt; keywords = tt }; bindings = all-bindings records before }
 

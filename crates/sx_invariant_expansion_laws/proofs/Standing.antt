@@ -19,7 +19,7 @@ use Rattle.sx_core.specs.declared.binding.Binding.{Binding}
 use Rattle.sx_core.specs.declared.binding.Binding.TheVariants as binding
 use Rattle.sx_core.specs.declared.binding.VarInfo.{VarInfo}
 use Rattle.sx_core.specs.declared.core_form.CoreForm.{CoreForm}
-use Rattle.sx_core.specs.declared.record.LibRecord.{LibRecord}
+use Rattle.sx_core.specs.declared.record.CompiledLibrary.{CompiledLibrary}
 use Rattle.sx_core.specs.declared.link.Link.{Link}
 use Rattle.sx_core.specs.declared.link.LinkKind.TheVariants as kinds
 use Rattle.sx_pattern.specs.Compile as patterns
@@ -40,7 +40,7 @@ use Rattle.sx_standing.specs.InScope.{leaving, within, restoring, apart}
 use Rattle.sx_standing.specs.Patterns.{pattern_of, check_literals, put_pattern_variable, bind_pattern_variable, bind_next, bind_pattern, has_variables, first_outside, outside_fault, template_in, template_of}
 use Rattle.sx_standing.specs.RecordUses.{at_state, defines_type, count_record_type, record_tree, record_marked, use_record}
 use Rattle.sx_standing.specs.State.{State, Does, stage_of, staged, on_stage, fresh, note}
-use Rattle.sx_standing.specs.Uses.{macro_expression, use_keyword, asks_variable, put_keyword, bind_keyword_as, bind_keyword, bind_keywords, finish_keyword}
+use Rattle.sx_standing.specs.Uses.{macro_expression, use_keyword, asks_variable, put_keyword, bind_keyword_as, bind_keyword, bind_keywords, evaluate_transformer}
 use Rattle.sx_standing.specs.declared.binders.BoundSpec.{BoundSpec}
 use Rattle.sx_standing.proofs.Noted.{noted-keeps}
 use Rattle.sx_template.specs.Compile as templates
@@ -50,19 +50,19 @@ use Rattle.sx_invariant_laws.specs.Invariant.{OptionHolds}
 use Rattle.sx_invariant_laws.proofs.Eachs.{each_and}
 use Rattle.sx_invariant_laws.proofs.Trees.{OkHolds}
 use Rattle.sx_invariant_laws.proofs.Variables.{looked_up}
-use Rattle.sx_invariant_expansion_laws.specs.States.{BindingHolds, HoldsIn}
+use Rattle.sx_invariant_expansion_laws.specs.States.{BindingHolds, StateHoldsIn}
 use Rattle.sx_invariant_laws.specs.Stages.{ExpressionHolds, RecordsHold}
 use Rattle.sx_invariant_laws.proofs.Steady.{GaveStage, begin-holds, finish-holds, asks-holds, used-holds}
 use Rattle.sx_invariant_expansion_laws.proofs.Shapes.{FormalsHold, SpecHolds}
 use Rattle.sx_invariant_expansion_laws.proofs.Templates as of_templates
 use Rattle.sx_invariant_laws.specs.Invariant.{Invariant}
-use Rattle.sx_invariant_expansion_laws.specs.Kept.{IsKept}
+use Rattle.sx_invariant_expansion_laws.specs.Kept.{IsKeptByExpansion}
 use Rattle.sx_tree.specs.Tree.{Tree, atom, leaf, pair, vector, span_of}
 use Rattle.sx_scope.specs.Stands.{symbol_of, row_for}
 
-module _ (I : Invariant) (kept : IsKept I) where
+module _ (I : Invariant) (kept : IsKeptByExpansion I) where
   abbrev pub F : State → Type 0
-  F s = HoldsIn I s
+  F s = StateHoldsIn I s
 
   abbrev pub Ts : List Tree → Type 0
   Ts ts = Each I.trees ts
@@ -229,11 +229,11 @@ module _ (I : Invariant) (kept : IsKept I) where
   pub bind-keywords-holds : (frame : FrameNo) (place : Span) (level : ℕ) (bs : List BindingSpec) (s : State) → F s → Each SpecAt bs → Gave (λ xs. Each BoundHolds xs) (bind_keywords frame place level bs s)
   bind-keywords-holds frame place level bs s h k = gave-each SpecAt BoundHolds (bind_keyword frame place level) (λ b t i j. bind-keyword-holds frame place level b t i j) [] bs s h tt k
 
-  module _ (rs : List LibRecord) (records : RecordsHold I rs) where
-    pub finish-keyword-holds : (place : Span) (l : Label) (c : PlainCore) (s : State) → F s → C c → Gave Taken (finish_keyword rs place l c s)
-    unfolding finish_keyword
+  module _ (rs : List CompiledLibrary) (records : RecordsHold I rs) where
+    pub finish-keyword-holds : (place : Span) (l : Label) (c : PlainCore) (s : State) → F s → C c → Gave Taken (evaluate_transformer rs place l c s)
+    unfolding evaluate_transformer
     finish-keyword-holds place l c s h k =
-        gave-staged Taken s (stage.finish_keyword place rs l c (stage_of s)) h (finish-holds I kept.steady place rs l c (stage_of s) h.stage records k)
+        gave-staged Taken s (stage.evaluate_transformer place rs l c (stage_of s)) h (finish-holds I kept.steady place rs l c (stage_of s) h.stage records k)
 
     -- Uses.
 

@@ -16,7 +16,7 @@ use Rattle.sx_core.specs.Template.{PlainTemplate, list, vector}
 use Rattle.sx_core.specs.declared.binding.Binding.{Binding}
 use Rattle.sx_core.specs.declared.binding.Binding.TheVariants as binding
 use Rattle.sx_shapes.specs.Lists.{is_nil, tail_of}
-use Rattle.sx_template.specs.Compile.{Context, variable_made, bound_made, label_made, is_special, leaf_made, Element, dots_behind, reach, with_ellipses, fitted, item_made, Walked, step, walked, constant_of, template_of, items_of, is_fixed, is_changed, any_changed, tree_before, trees, rebuilt, placed, fixed_list, list_joined, fixed_vector, vector_joined, escape_of, unescaped, list_parts, list_made, vector_made, template, elements_made, tail_made, compiled}
+use Rattle.sx_template.specs.Compile.{TemplateScope, variable_made, bound_made, label_made, is_special, leaf_made, TemplateElement, dots_behind, reach, with_ellipses, fitted, item_made, Walked, step, walked, constant_of, template_of, items_of, is_fixed, is_changed, any_changed, tree_before, trees, rebuilt, placed, fixed_list, list_joined, fixed_vector, vector_joined, escape_of, unescaped, list_parts, list_made, vector_made, template, elements_made, tail_made, compiled}
 use Rattle.sx_pattern.specs.Keywords.{is_ellipsis}
 use Rattle.sx_value.specs.Cells.{Each}
 use Rattle.sx_invariant_laws.specs.Holds.{TemplateHolds, ItemsHold}
@@ -147,10 +147,10 @@ module _ (I : Invariant) (built : IsBuilt I) where
   form-holds : (t : Tree) → I.trees t → TemplateHolds I (constant_of t) × (I.trees t × Unit {0})
   form-holds t h = (built.unspanned t h, (h, tt))
 
-  abbrev IsElement : Element → Type 0
+  abbrev IsElement : TemplateElement → Type 0
   IsElement x = (escaped : Bool) (under : ℕ) → OkHolds MadeHolds (x.1 escaped under)
 
-  module _ (c : Context) where
+  module _ (c : TemplateScope) where
     variable-holds : (under : ℕ) (x : List ℕ) (t : Tree) (l : Label) (level depth : ℕ) → OkHolds MadeHolds (variable_made c under x t l level depth)
     variable-holds under x t l level depth = good-if MadeHolds (nat_eq level c.level) _ _ (good-if MadeHolds (nat_lt under depth) _ _ tt (tt, tt)) tt
 
@@ -176,32 +176,32 @@ module _ (I : Invariant) (built : IsBuilt I) where
         by None = h
         by (Some x) = tt
 
-    item-holds : (escaped : Bool) (under : ℕ) (x : Element) (es : List Tree) → IsElement x → OkHolds ItemHolds (item_made c escaped under x es)
+    item-holds : (escaped : Bool) (under : ℕ) (x : TemplateElement) (es : List Tree) → IsElement x → OkHolds ItemHolds (item_made c escaped under x es)
     item-holds escaped under x es one = good-then MadeHolds ItemHolds (x.1 escaped (under + length es)) (fitted c.place es) (one escaped (under + length es)) (λ m h. fitted-holds c.place es m h)
 
     abbrev AllHold : List MadeItem → Type 0
     AllHold is = Each ItemHolds is
 
-    step-holds : (escaped : Bool) (under skips : ℕ) (x : Element) (es : List Tree) (is : List MadeItem) → IsElement x → AllHold is → OkHolds (λ (w : Walked). AllHold w.1) (step c escaped under skips x es is)
+    step-holds : (escaped : Bool) (under skips : ℕ) (x : TemplateElement) (es : List Tree) (is : List MadeItem) → IsElement x → AllHold is → OkHolds (λ (w : Walked). AllHold w.1) (step c escaped under skips x es is)
     step-holds escaped under (suc skips) x es is one h = h
     step-holds escaped under zero x es is one h = good-then ItemHolds (λ (w : Walked). AllHold w.1) (item_made c escaped under x es) (λ i. Ok (length es, is ++ i ∷ [])) (item-holds escaped under x es one) (λ i k. each_and ItemHolds is i h k)
 
-    walked-holds : (escaped : Bool) (under skips : ℕ) (is : List MadeItem) (xs : List Element) → Each IsElement xs → AllHold is → OkHolds AllHold (walked c escaped under skips is xs)
+    walked-holds : (escaped : Bool) (under skips : ℕ) (is : List MadeItem) (xs : List TemplateElement) → Each IsElement xs → AllHold is → OkHolds AllHold (walked c escaped under skips is xs)
     walked-holds escaped under skips is [] all h = h
     walked-holds escaped under skips is (x ∷ xs) all h =
         good-then (λ (w : Walked). AllHold w.1) AllHold (step c escaped under skips x (dots_behind c.frames escaped xs) is) (λ w. walked c escaped under w.0 w.1 xs)
         (step-holds escaped under skips x (dots_behind c.frames escaped xs) is all.0 h) (λ w k. walked-holds escaped under w.0 w.1 xs all.1 k)
 
-    parts-hold : (escaped : Bool) (t : Tree) (xs : List Element) (tail : Bool → ℕ → Result Made Fault) (under : ℕ) → I.trees t → Each IsElement xs → ((e : Bool) (n : ℕ) → OkHolds MadeHolds (tail e n)) → OkHolds MadeHolds (list_parts c escaped t xs tail under)
+    parts-hold : (escaped : Bool) (t : Tree) (xs : List TemplateElement) (tail : Bool → ℕ → Result Made Fault) (under : ℕ) → I.trees t → Each IsElement xs → ((e : Bool) (n : ℕ) → OkHolds MadeHolds (tail e n)) → OkHolds MadeHolds (list_parts c escaped t xs tail under)
     parts-hold escaped t xs tail under g all last =
         good-then AllHold MadeHolds (walked c escaped under 0 [] xs) (λ items. tail escaped under >>= list_joined c.place t items) (walked-holds escaped under 0 [] xs all tt)
         (λ is h. good-then MadeHolds MadeHolds (tail escaped under) (list_joined c.place t is) (last escaped under) (λ m k. list-joins c.place t is m g h k))
 
-    abbrev IsEscape : Option Element → Type 0
+    abbrev IsEscape : Option TemplateElement → Type 0
     IsEscape None = Unit {0}
     IsEscape (Some y) = IsElement y
 
-    escape-is : (escaped : Bool) (xs : List Element) (ends : Bool) → Each IsElement xs → IsEscape (escape_of c.frames escaped xs ends)
+    escape-is : (escaped : Bool) (xs : List TemplateElement) (ends : Bool) → Each IsElement xs → IsEscape (escape_of c.frames escaped xs ends)
     escape-is false (x ∷ (y ∷ [])) true all = by (is_ellipsis c.frames x.0)
       where
         by : (b : Bool) → IsEscape (if b then Some y else None)
@@ -213,12 +213,12 @@ module _ (I : Invariant) (built : IsBuilt I) where
     escape-is false (x ∷ (y ∷ (z ∷ xs))) ends all = tt
     escape-is true xs ends all = tt
 
-    list-holds : (escaped : Bool) (t : Tree) (xs : List Element) (tail : Bool → ℕ → Result Made Fault) (under : ℕ) (o : Option Element) → I.trees t → Each IsElement xs → ((e : Bool) (n : ℕ) → OkHolds MadeHolds (tail e n)) → IsEscape o
+    list-holds : (escaped : Bool) (t : Tree) (xs : List TemplateElement) (tail : Bool → ℕ → Result Made Fault) (under : ℕ) (o : Option TemplateElement) → I.trees t → Each IsElement xs → ((e : Bool) (n : ℕ) → OkHolds MadeHolds (tail e n)) → IsEscape o
         → OkHolds MadeHolds (list_made c escaped t xs tail under o)
     list-holds escaped t xs tail under None g all last esc = parts-hold escaped t xs tail under g all last
     list-holds escaped t xs tail under (Some y) g all last esc = good-then MadeHolds MadeHolds (y.1 true under) (λ m. Ok (unescaped m)) (esc true under) (λ m h. unescaped-holds m h)
 
-    vector-holds : (escaped : Bool) (t : Tree) (xs : List Element) (under : ℕ) → I.trees t → Each IsElement xs → OkHolds MadeHolds (vector_made c escaped t xs under)
+    vector-holds : (escaped : Bool) (t : Tree) (xs : List TemplateElement) (under : ℕ) → I.trees t → Each IsElement xs → OkHolds MadeHolds (vector_made c escaped t xs under)
     vector-holds escaped t xs under g all = good-then AllHold MadeHolds (walked c escaped under 0 [] xs) (vector_joined c.place t) (walked-holds escaped under 0 [] xs all tt) (λ is h. vector-joins c.place t is g h)
 
     mutual

@@ -26,7 +26,7 @@ pub record IsBuilt (I : Invariant) : Type 0 where
   pub symbols : (s : Option Span) (x : List ℕ) (c : LeafContext) → I.trees (leaf s x c) → I.symbols x
 
 -- So do evaluations and record forms; it holds of the identifiers that quasi forms make, and of a clause it asks nothing of the pattern.
-pub record IsKept (I : Invariant) : Type 1 where
+pub record IsKeptByExpansion (I : Invariant) : Type 1 where
   pub built : IsBuilt I
   pub steady : IsSteady I
   pub insert : (k : ℕ) → I.trees (insert_leaf k)

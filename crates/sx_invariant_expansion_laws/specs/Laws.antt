@@ -6,7 +6,7 @@ use Rattle.sx_base.specs.declared.span.Span.{Span}
 use Rattle.sx_tree.specs.Tree.{Tree}
 use Rattle.sx_frames.specs.Scope.{Scope}
 use Rattle.sx_core.specs.declared.core_form.CoreForm.{CoreForm}
-use Rattle.sx_core.specs.declared.record.LibRecord.{LibRecord}
+use Rattle.sx_core.specs.declared.record.CompiledLibrary.{CompiledLibrary}
 use Rattle.sx_value.specs.Cells.{Each}
 use Rattle.sx_eval.specs.Codes.{Codes}
 use Rattle.sx_quasi.specs.QuasiSyntax.{insert_leaf}
@@ -31,6 +31,6 @@ pub record AreKeptByForms (t : Tests) : Type 0 where
 -- If the forms of a library pass, the records before it and the codes of texts, so does its record: the constants of its lines and of its keywords'
 -- expressions, and the symbols of its variables.
 abbrev pub ExpansionKeeps : Type 0
-ExpansionKeeps = (t : Tests) (own : LibName) (path : List ℕ) (records : List LibRecord) (imports : List (List ℕ × Label)) (version : List ℕ) (place : Span) (exports : List (List ℕ × Tree)) (forms : List Tree) (codes : Codes) (r : LibRecord)
+ExpansionKeeps = (t : Tests) (own : LibName) (path : List ℕ) (records : List CompiledLibrary) (imports : List (List ℕ × Label)) (version : List ℕ) (place : Span) (exports : List (List ℕ × Tree)) (forms : List Tree) (codes : Codes) (r : CompiledLibrary)
     → AreKeptByForms t → Each (RecordHolds (passing t)) records → CodesHold (passing t) codes → Each (λ (u : Tree). IsTrue (t.trees u)) forms
     → library_record (ready own path records imports codes) records version place exports forms ≡ Ok r → RecordHolds (passing t) r

@@ -20,6 +20,6 @@ module _ (I : Invariant) where
   abbrev pub BindingsHold : List (Label × Binding) → Type 0
   BindingsHold bs = Each (λ (b : Label × Binding). BindingHolds b.1) bs
 
-  pub record HoldsIn (s : State) : Type 0 where
+  pub record StateHoldsIn (s : State) : Type 0 where
     pub stage : SteadyStage I (stage_of s)
     pub bindings : BindingsHold s.bindings

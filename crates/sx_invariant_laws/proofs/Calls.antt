@@ -14,8 +14,8 @@ use Rattle.sx_value.specs.Cells.{Each, vector_at, string_at}
 use Rattle.sx_value.specs.declared.value.Value.{Value}
 use Rattle.sx_value.specs.declared.value.Value.TheVariants as value
 use Rattle.sx_value.specs.declared.cell.Cell.{Cell}
-use Rattle.sx_prims.specs.declared.made.Made.{Made}
-use Rattle.sx_prims.specs.declared.made.Made.TheVariants as made
+use Rattle.sx_prims.specs.declared.made.PrimResult.{PrimResult}
+use Rattle.sx_prims.specs.declared.made.PrimResult.TheVariants as made
 use Rattle.sx_prims.specs.declared.primitive.Primitive.{Primitive}
 use Rattle.sx_prims.specs.Answers.{Answer, refused, or_refused, given, said}
 use Rattle.sx_prims.specs.Basics as basics
@@ -52,7 +52,7 @@ use Rattle.sx_invariant_laws.specs.Invariant.{Invariant}
 use Rattle.sx_invariant_laws.specs.Closed.{IsClosed}
 
 module _ (I : Invariant) where
-  abbrev pub MadeHolds : Made → Type 0
+  abbrev pub MadeHolds : PrimResult → Type 0
   MadeHolds (made.Value x) = ValueHolds I x
   MadeHolds (made.List xs x) = ValuesHold I xs × ValueHolds I x
   MadeHolds (made.Vector xs) = ValuesHold I xs
@@ -61,7 +61,7 @@ module _ (I : Invariant) where
   MadeHolds (made.Datum x) = ValueHolds I x
   MadeHolds (made.Temporaries n) = Unit {0}
 
-  abbrev MadeOr : Option Made → Type 0
+  abbrev MadeOr : Option PrimResult → Type 0
   MadeOr None = Unit {0}
   MadeOr (Some m) = MadeHolds m
 
@@ -77,7 +77,7 @@ module _ (I : Invariant) where
     module _ (cells : List Cell) (cells_hold : CellsHold I cells) where
       -- Ways to make.
 
-      made_if : (t : Bool) (a b : Option Made) → MadeOr a → MadeOr b → MadeOr (if t then a else b)
+      made_if : (t : Bool) (a b : Option PrimResult) → MadeOr a → MadeOr b → MadeOr (if t then a else b)
       made_if true a b h k = h
       made_if false a b h k = k
 
@@ -88,19 +88,19 @@ module _ (I : Invariant) where
       given_made None r = tt
       given_made (Some x) r = r
 
-      some_made : {A : Type 0} (o : Option A) (f : A → Option Made) → ((x : A) → MadeOr (f x)) → MadeOr (if_some o f)
+      some_made : {A : Type 0} (o : Option A) (f : A → Option PrimResult) → ((x : A) → MadeOr (f x)) → MadeOr (if_some o f)
       some_made None f k = tt
       some_made (Some x) f k = k x
 
-      some_value : (o : Option Value) (f : Value → Option Made) → ValueOr I o → ((x : Value) → ValueHolds I x → MadeOr (f x)) → MadeOr (if_some o f)
+      some_value : (o : Option Value) (f : Value → Option PrimResult) → ValueOr I o → ((x : Value) → ValueHolds I x → MadeOr (f x)) → MadeOr (if_some o f)
       some_value None f r k = tt
       some_value (Some x) f r k = k x r
 
-      some_values : (o : Option (List Value)) (f : List Value → Option Made) → ValuesOr I o → ((xs : List Value) → ValuesHold I xs → MadeOr (f xs)) → MadeOr (if_some o f)
+      some_values : (o : Option (List Value)) (f : List Value → Option PrimResult) → ValuesOr I o → ((xs : List Value) → ValuesHold I xs → MadeOr (f xs)) → MadeOr (if_some o f)
       some_values None f r k = tt
       some_values (Some xs) f r k = k xs r
 
-      some_text : (o : Option (List ℕ)) (f : List ℕ → Option Made) → TextOr I o → ((s : List ℕ) → I.texts s → MadeOr (f s)) → MadeOr (if_some o f)
+      some_text : (o : Option (List ℕ)) (f : List ℕ → Option PrimResult) → TextOr I o → ((s : List ℕ) → I.texts s → MadeOr (f s)) → MadeOr (if_some o f)
       some_text None f r k = tt
       some_text (Some s) f r k = k s r
 
@@ -114,7 +114,7 @@ module _ (I : Invariant) where
           by None j again = tt
           by (Some y) j again = again (done ++ y ∷ []) (each_and Q done y h j)
 
-      some_each : {A : Type 0} (Q : A → Type 0) (o : Option (List A)) (f : List A → Option Made) → OptionHolds (Each Q) o → ((xs : List A) → Each Q xs → MadeOr (f xs)) → MadeOr (if_some o f)
+      some_each : {A : Type 0} (Q : A → Type 0) (o : Option (List A)) (f : List A → Option PrimResult) → OptionHolds (Each Q) o → ((xs : List A) → Each Q xs → MadeOr (f xs)) → MadeOr (if_some o f)
       some_each Q None f r k = tt
       some_each Q (Some xs) f r k = k xs r
 
@@ -462,7 +462,7 @@ module _ (I : Invariant) where
       syntax_ok op (k ∷ x ∷ []) h = tree_ok op x (identifiers.identifier k) (identifier_holds k h.0) h.1.0
       syntax_ok op (k ∷ x ∷ y ∷ args) h = tt
 
-      refused_ok : (op : ℕ) (o : Option Made) → MadeOr o → AnswerOr (or_refused op o)
+      refused_ok : (op : ℕ) (o : Option PrimResult) → MadeOr o → AnswerOr (or_refused op o)
       refused_ok op None r = tt
       refused_ok op (Some m) r = r
 

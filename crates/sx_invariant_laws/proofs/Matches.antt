@@ -16,7 +16,7 @@ use Rattle.sx_pattern.specs.Front.{has_room, fronted, on_pair, store_front, tree
 use Rattle.sx_pattern.specs.Matched.{nothing, and_then, kept, count, limit, repeated, no_rows, with_rows, on_elements, matched, all_matched}
 use Rattle.sx_pattern.specs.Values.{atom_of, is_atom, is_alike, stored_pair, vector_of}
 use Rattle.sx_pattern.specs.declared.columns.Column.{Column}
-use Rattle.sx_pattern.specs.declared.columns.Found.{Found}
+use Rattle.sx_pattern.specs.declared.columns.PatternBinds.{PatternBinds}
 use Rattle.sx_pattern.specs.declared.columns.Rows.{Rows}
 use Rattle.sx_pattern.specs.declared.front.Front.{Front}
 use Rattle.sx_invariant_laws.specs.Holds.{ValueHolds, ValuesHold, BindHolds, BindsHold, CellsHold}
@@ -30,15 +30,15 @@ module _ (I : Invariant) where
   abbrev pub AllBound : List (Label × PlainBind) → Type 0
   AllBound bs = Each (λ (b : Label × PlainBind). BindHolds I b.1) bs
 
-  abbrev pub FoundOr : Option Found → Type 0
+  abbrev pub FoundOr : Option PatternBinds → Type 0
   FoundOr None = Unit {0}
   FoundOr (Some f) = AllBound f.binds
 
-  found_then : (o : Option Found) (go : Found → Option Found) → FoundOr o → ((f : Found) → AllBound f.binds → FoundOr (go f)) → FoundOr (and_then o go)
+  found_then : (o : Option PatternBinds) (go : PatternBinds → Option PatternBinds) → FoundOr o → ((f : PatternBinds) → AllBound f.binds → FoundOr (go f)) → FoundOr (and_then o go)
   found_then None go h k = tt
   found_then (Some f) go h k = k f h
 
-  found_kept : (b : Bool) (s : Found) → AllBound s.binds → FoundOr (kept b s)
+  found_kept : (b : Bool) (s : PatternBinds) → AllBound s.binds → FoundOr (kept b s)
   found_kept true s h = h
   found_kept false s h = tt
 
@@ -82,12 +82,12 @@ module _ (I : Invariant) where
   RowsOr None = Unit {0}
   RowsOr (Some rows) = Columns rows.columns
 
-  repeated_hold : (go : Value → Found → Option Found) → ((v : Value) (s : Found) → ValueHolds I v → AllBound s.binds → FoundOr (go v s))
+  repeated_hold : (go : Value → PatternBinds → Option PatternBinds) → ((v : Value) (s : PatternBinds) → ValueHolds I v → AllBound s.binds → FoundOr (go v s))
       → (xs : List Value) (rows : Rows) → Columns rows.columns → ValuesHold I xs → RowsOr (repeated go rows xs)
   repeated_hold go goes [] rows h r = h
   repeated_hold go goes (x ∷ xs) rows h r = by_row (λ next k. repeated_hold go goes xs next k r.1) (go x (nothing (rows.taken + 1))) (goes x (nothing (rows.taken + 1)) r.0 tt)
     where
-      by_row : ((next : Rows) → Columns next.columns → RowsOr (repeated go next xs)) → (o : Option Found) → FoundOr o
+      by_row : ((next : Rows) → Columns next.columns → RowsOr (repeated go next xs)) → (o : Option PatternBinds) → FoundOr o
           → RowsOr (and_then o (λ row. repeated go (record { columns = grown [] rows.columns row.binds; taken = row.taken }) xs))
       by_row again None j = tt
       by_row again (Some row) j = again (record { columns = grown [] rows.columns row.binds; taken = row.taken }) (grown_hold [] rows.columns row.binds tt h j)
@@ -183,7 +183,7 @@ module _ (I : Invariant) where
 
     module _ (cells : List Cell) (cells_hold : CellsHold I cells) (fs : Scope) where
       mutual
-        pub matched_holds : (p : PlainPattern) (v : Value) (s : Found) → ValueHolds I v → AllBound s.binds → FoundOr (matched fs cells p v s)
+        pub matched_holds : (p : PlainPattern) (v : Value) (s : PatternBinds) → ValueHolds I v → AllBound s.binds → FoundOr (matched fs cells p v s)
         matched_holds any v s r b = b
         matched_holds (variable l) v s r b = each_and (λ (b : Label × PlainBind). BindHolds I b.1) s.binds (l, one v) b r
         matched_holds (literal t) v s r b = found_kept (is_alike fs t v) s b
@@ -198,7 +198,7 @@ module _ (I : Invariant) where
             by_elements None h k = tt
             by_elements (Some xs) h k = k xs h
 
-        all_hold : (ps : PlainPatterns) (xs : List Value) (s : Found) → ValuesHold I xs → AllBound s.binds → FoundOr (all_matched fs cells ps xs s)
+        all_hold : (ps : PlainPatterns) (xs : List Value) (s : PatternBinds) → ValuesHold I xs → AllBound s.binds → FoundOr (all_matched fs cells ps xs s)
         all_hold none [] s r b = b
         all_hold none (x ∷ xs) s r b = tt
         all_hold (more p ps) [] s r b = tt
@@ -208,7 +208,7 @@ module _ (I : Invariant) where
             let rows = repeated_hold (matched fs cells p) (λ v g k j. matched_holds p v g k j) (take n xs) (no_rows p s.taken) (empty_hold p [] tt) (each_taken (ValueHolds I) n xs r) in
             by_room (nat_le (count ps) (length xs)) (by_rows (repeated (matched fs cells p) (no_rows p s.taken) (take n xs)) rows (λ g k. all_hold ps (drop n xs) g (each_dropped (ValueHolds I) n xs r) k))
           where
-            by_rows : (o : Option Rows) → RowsOr o → ((g : Found) → AllBound g.binds → FoundOr (all_matched fs cells ps (drop (length xs - count ps) xs) g))
+            by_rows : (o : Option Rows) → RowsOr o → ((g : PatternBinds) → AllBound g.binds → FoundOr (all_matched fs cells ps (drop (length xs - count ps) xs) g))
                 → FoundOr (and_then o (λ rows. all_matched fs cells ps (drop (length xs - count ps) xs) (with_rows s rows)))
             by_rows None h k = tt
             by_rows (Some rows) h k = k (with_rows s rows) (each_both (λ (b : Label × PlainBind). BindHolds I b.1) s.binds (closed rows.columns) b (closed_hold rows.columns h))

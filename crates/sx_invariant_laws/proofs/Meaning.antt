@@ -21,7 +21,7 @@ use Rattle.sx_value.specs.declared.value.Value.TheVariants as value
 use Rattle.sx_value.specs.declared.cell.Cell.{Cell}
 use Rattle.sx_value.specs.declared.cell.Cell.TheVariants as cell
 use Rattle.sx_pattern.specs.Matched.{nothing}
-use Rattle.sx_pattern.specs.declared.columns.Found.{Found}
+use Rattle.sx_pattern.specs.declared.columns.PatternBinds.{PatternBinds}
 use Rattle.sx_prims.specs.Answers.{Answer}
 use Rattle.sx_prims.specs.Chains.{list_elements}
 use Rattle.sx_prims.specs.Cost.{cost}
@@ -34,7 +34,7 @@ use Rattle.sx_eval.specs.Procedures.{first_case, bound, bindings, has_text, text
 use Rattle.sx_eval.specs.Quoted.{datum_cost}
 use Rattle.sx_eval.specs.Setting.{PlainSetting}
 use Rattle.sx_eval.specs.Spread.{Call, apply_args, before_last, parted, with_elements, with_front, on_parts, spread_once, spread_on, spread_to, spread}
-use Rattle.sx_eval.specs.State.{State, Outcome, done, faulted, unfit, Go, then_do, charged, made, store, next_place, with_cell}
+use Rattle.sx_eval.specs.State.{WorldState, Outcome, done, faulted, unfit, Go, then_do, charged, made, store, next_place, with_cell}
 use Rattle.sx_eval.specs.Variables.{found, unset, assigned, all_assigned}
 use Rattle.sx_invariant_laws.specs.Holds.{ValueHolds, ValuesHold, VariableHolds, CellHolds, CellsHold, TemplateHolds, CoreHolds, CoresHold, InitsHold, CasesHold, ClausesHold, CodeHolds, LinesHold}
 use Rattle.sx_invariant_laws.specs.Outcome.{SettingHolds, StateHolds, OutcomeHolds}
@@ -50,17 +50,17 @@ use Rattle.sx_invariant_laws.proofs.Wider.{value_wider, values_wider, template_w
 use Rattle.sx_invariant_laws.specs.Closed.{IsClosed, Wider, Rises}
 
 module _ (own : LibName) (m : ℕ) (I : ℕ → Invariant) (rises : Rises own m I) where
-  abbrev S : ℕ → State → Type 0
+  abbrev S : ℕ → WorldState → Type 0
   S r s = StateHolds own I r s
 
   abbrev O : ℕ → Outcome → Type 0
   O r o = OutcomeHolds own I r o
 
   -- a value of a state
-  abbrev V : State → Value → Type 0
+  abbrev V : WorldState → Value → Type 0
   V s v = ValueHolds (I s.names.number) v
 
-  abbrev Vs : State → List Value → Type 0
+  abbrev Vs : WorldState → List Value → Type 0
   Vs s vs = ValuesHold (I s.names.number) vs
 
   rise : (r n : ℕ) → r ≤ n → Wider (I r) (I n)
@@ -69,15 +69,15 @@ module _ (own : LibName) (m : ℕ) (I : ℕ → Invariant) (rises : Rises own m 
   pub values_rise : (r n : ℕ) (vs : List Value) → r ≤ n → ValuesHold (I r) vs → ValuesHold (I n) vs
   values_rise r n vs le h = values_wider (I r) (I n) (rise r n le) vs h
 
-  closed : (s : State) → IsClosed (I s.names.number)
+  closed : (s : WorldState) → IsClosed (I s.names.number)
   closed s = rises.closed s.names.number
 
   -- States and outcomes.
 
-  pub state-less : (r n : ℕ) (s : State) → r ≤ n → S n s → S r s
+  pub state-less : (r n : ℕ) (s : WorldState) → r ≤ n → S n s → S r s
   state-less r n s le h = record { up = omega (arith, le, h.up); library = h.library; cells = h.cells }
 
-  pub state-self : (r : ℕ) (s : State) → S r s → S s.names.number s
+  pub state-self : (r : ℕ) (s : WorldState) → S r s → S s.names.number s
   state-self r s h = record { up = omega arith; library = h.library; cells = h.cells }
 
   pub outcome-less : (r n : ℕ) (o : Outcome) → r ≤ n → O n o → O r o
@@ -85,13 +85,13 @@ module _ (own : LibName) (m : ℕ) (I : ℕ → Invariant) (rises : Rises own m 
   outcome-less r n (faulted f s k) le h = state-less r n s le h
   outcome-less r n unfit le h = tt
 
-  stored-state : (r : ℕ) (s : State) (cells : List Cell) → S r s → CellsHold (I s.names.number) cells → S r (store cells s.names)
+  stored-state : (r : ℕ) (s : WorldState) (cells : List Cell) → S r s → CellsHold (I s.names.number) cells → S r (store cells s.names)
   stored-state r s cells h k = record { up = h.up; library = h.library; cells = k }
 
-  one-cell : (r : ℕ) (s : State) (c : Cell) → S r s → CellHolds (I s.names.number) c → S r (with_cell c s)
+  one-cell : (r : ℕ) (s : WorldState) (c : Cell) → S r s → CellHolds (I s.names.number) c → S r (with_cell c s)
   one-cell r s c h k = stored-state r s (s.cells ++ c ∷ []) h (each_and (CellHolds (I s.names.number)) s.cells c h.cells k)
 
-  pub holds-then : (r : ℕ) (o : Outcome) (g : Go) → O r o → ((v : Value) (t : State) (n : ℕ) → S r t → V t v → O t.names.number (g v t n)) → O r (then_do o g)
+  pub holds-then : (r : ℕ) (o : Outcome) (g : Go) → O r o → ((v : Value) (t : WorldState) (n : ℕ) → S r t → V t v → O t.names.number (g v t n)) → O r (then_do o g)
   holds-then r (done v t n) g h k = outcome-less r t.names.number (g v t n) h.0.up (k v t n h.0 h.1)
   holds-then r (faulted f t n) g h k = h
   holds-then r unfit g h k = tt
@@ -100,18 +100,18 @@ module _ (own : LibName) (m : ℕ) (I : ℕ → Invariant) (rises : Rises own m 
   holds-if r true o p h k = h
   holds-if r false o p h k = k
 
-  holds-charged : (r : ℕ) (s : State) (count n : ℕ) (g : ℕ → Outcome) → S r s → ((left : ℕ) → O r (g left)) → O r (charged count s n g)
+  holds-charged : (r : ℕ) (s : WorldState) (count n : ℕ) (g : ℕ → Outcome) → S r s → ((left : ℕ) → O r (g left)) → O r (charged count s n g)
   holds-charged r s count n g h k = holds-if r (nat_lt n count) (faulted fuel_spent s n) (g (n - count)) h (k (n - count))
 
   -- What needs no setting.
 
-  holds-answer : (s : State) (n : ℕ) (x : Answer) → S m s → AnswerOr (I s.names.number) x → O s.names.number (answer_made s n x)
+  holds-answer : (s : WorldState) (n : ℕ) (x : Answer) → S m s → AnswerOr (I s.names.number) x → O s.names.number (answer_made s n x)
   holds-answer s n (Ok x) h k =
       let p = performed_holds own m I rises x s.names s.cells h.library h.up h.cells k in
       (record { up = omega arith; library = h.library; cells = p.1 }, p.0)
   holds-answer s n (Err f) h k = state-self m s h
 
-  holds-quoted : (d : PlainDatum) (s : State) (n : ℕ) → (I s.names.number).constants d → S s.names.number s → O s.names.number (quoted_value d s n)
+  holds-quoted : (d : PlainDatum) (s : WorldState) (n : ℕ) → (I s.names.number).constants d → S s.names.number s → O s.names.number (quoted_value d s n)
   unfolding quoted_value
   holds-quoted d s n k h =
       let p = stored_holds (I s.names.number) (closed s) d s.cells ((closed s).constants d k) h.cells in
@@ -121,22 +121,22 @@ module _ (own : LibName) (m : ℕ) (I : ℕ → Invariant) (rises : Rises own m 
   MadeOr n (Ok p) = StoredHolds (I n) p
   MadeOr n (Err f) = Unit {0}
 
-  holds-made : (s : State) (r : Result (Value × List Cell) Bare) → S s.names.number s → MadeOr s.names.number r → (n : ℕ) → O s.names.number (instance_made s r n)
+  holds-made : (s : WorldState) (r : Result (Value × List Cell) Bare) → S s.names.number s → MadeOr s.names.number r → (n : ℕ) → O s.names.number (instance_made s r n)
   holds-made s (Ok p) h k n = (stored-state s.names.number s p.1 h k.1, k.0)
   holds-made s (Err f) h k n = h
 
-  holds-paid : (s : State) (n : ℕ) (r : Result (Value × List Cell) Bare) (c : Result ℕ Bare) → S s.names.number s → MadeOr s.names.number r → O s.names.number (instance_paid s n r c)
+  holds-paid : (s : WorldState) (n : ℕ) (r : Result (Value × List Cell) Bare) (c : Result ℕ Bare) → S s.names.number s → MadeOr s.names.number r → O s.names.number (instance_paid s n r c)
   holds-paid s n r (Ok count) h k = holds-charged s.names.number s count n (instance_made s r) h (holds-made s r h k)
   holds-paid s n r (Err f) h k = h
 
-  by-instance : (s : State) (bs : Binds) (t : PlainTemplate) → S s.names.number s → AllBound (I s.names.number) bs → TemplateHolds (I s.names.number) t → MadeOr s.names.number (instance_of bs t s.cells)
+  by-instance : (s : WorldState) (bs : Binds) (t : PlainTemplate) → S s.names.number s → AllBound (I s.names.number) bs → TemplateHolds (I s.names.number) t → MadeOr s.names.number (instance_of bs t s.cells)
   by-instance s bs t h b k = instance_holds (I s.names.number) (closed s) bs b t k [] s.cells h.cells
 
-  holds-with : (t : PlainTemplate) (s : State) (n : ℕ) (o : Option Binds) → S s.names.number s → TemplateHolds (I s.names.number) t → GatheredOr (I s.names.number) o → O s.names.number (instance_with t s n o)
+  holds-with : (t : PlainTemplate) (s : WorldState) (n : ℕ) (o : Option Binds) → S s.names.number s → TemplateHolds (I s.names.number) t → GatheredOr (I s.names.number) o → O s.names.number (instance_with t s n o)
   holds-with t s n None h k b = tt
   holds-with t s n (Some bs) h k b = holds-paid s n (instance_of bs t s.cells) (cost_of bs t) h (by-instance s bs t h b k)
 
-  holds-instanced : (t : PlainTemplate) (scope : Place) (s : State) (n : ℕ) → S s.names.number s → TemplateHolds (I s.names.number) t → O s.names.number (instanced t scope s n)
+  holds-instanced : (t : PlainTemplate) (scope : Place) (s : WorldState) (n : ℕ) → S s.names.number s → TemplateHolds (I s.names.number) t → O s.names.number (instanced t scope s n)
   unfolding instanced
   holds-instanced t scope s n h k = holds-with t s n (gathered s.cells scope t []) h k (gathered_hold (I s.names.number) s.cells h.cells scope t [] tt)
 
@@ -167,7 +167,7 @@ module _ (own : LibName) (m : ℕ) (I : ℕ → Invariant) (rises : Rises own m 
   apply-holds n (value.Syn t ∷ args) h = tt
   apply-holds n (value.Transformer p ∷ args) h = tt
 
-  module _ (s : State) (h : S s.names.number s) (g : Call) (holds : (vs : List Value) (n : ℕ) → Vs s vs → O s.names.number (g vs n)) where
+  module _ (s : WorldState) (h : S s.names.number s) (g : Call) (holds : (vs : List Value) (n : ℕ) → Vs s vs → O s.names.number (g vs n)) where
     holds-elements : (front : List Value) (n : ℕ) (o : Option (List Value)) → Vs s front → ValuesOr (I s.names.number) o → O s.names.number (with_elements front s g n o)
     holds-elements front n None k j = h
     holds-elements front n (Some xs) k j = holds-charged s.names.number s (length xs) n (g (front ++ xs)) h (λ left. holds (front ++ xs) left (each_both (ValueHolds (I s.names.number)) front xs k j))
@@ -184,7 +184,7 @@ module _ (own : LibName) (m : ℕ) (I : ℕ → Invariant) (rises : Rises own m 
     unfolding spread_once
     holds-once args n k = holds-parts n (parted args) (parted-holds s.names.number args k)
 
-  module _ (s : State) (h : S s.names.number s) (g : Call) (holds : (vs : List Value) (n : ℕ) → Vs s vs → O s.names.number (g vs n)) where
+  module _ (s : WorldState) (h : S s.names.number s) (g : Call) (holds : (vs : List Value) (n : ℕ) → Vs s vs → O s.names.number (g vs n)) where
     holds-to : (turns : ℕ) (vs : List Value) (n : ℕ) → Vs s vs → O s.names.number (spread_to turns s g vs n)
     holds-to zero vs n k = tt
     holds-to (suc turns) vs n k = by_args (holds-to turns) (apply_args vs) (apply-holds s.names.number vs k)
@@ -230,28 +230,28 @@ module _ (own : LibName) (m : ℕ) (I : ℕ → Invariant) (rises : Rises own m 
   -- In a setting of which it holds before this name is taken.
 
   module _ (w : PlainSetting) (setting : SettingHolds (I m) w) where
-    holds-primitive : (op : ℕ) (args : List Value) (s : State) (n : ℕ) → S m s → Vs s args → O s.names.number (primitive_called w op args s n)
+    holds-primitive : (op : ℕ) (args : List Value) (s : WorldState) (n : ℕ) → S m s → Vs s args → O s.names.number (primitive_called w op args s n)
     unfolding primitive_called
     holds-primitive op args s n h k =
         holds-charged s.names.number s (cost op args s.cells) n (λ left. answer_made s left (delta op args s.cells w.frames)) (state-self m s h)
         (λ left. holds-answer s left (delta op args s.cells w.frames) h (delta_ok (I s.names.number) (closed s) s.cells h.cells op args w.frames k))
 
-    holds-read : (l : Label) (s : State) (n : ℕ) (o : Option (Option Value)) → S s.names.number s → FoundValue (I s.names.number) o → O s.names.number (variable_read w l s n o)
+    holds-read : (l : Label) (s : WorldState) (n : ℕ) (o : Option (Option Value)) → S s.names.number s → FoundValue (I s.names.number) o → O s.names.number (variable_read w l s n o)
     holds-read l s n None h k = tt
     holds-read l s n (Some None) h k = h
     holds-read l s n (Some (Some v)) h k = (h, k)
 
-    holds-variable : (l : Label) (scope : Place) (s : State) (n : ℕ) → S m s → O s.names.number (variable_value w l scope s n)
+    holds-variable : (l : Label) (scope : Place) (s : WorldState) (n : ℕ) → S m s → O s.names.number (variable_value w l scope s n)
     unfolding variable_value
     holds-variable l scope s n h =
         holds-read l s n (found (suc (length s.cells)) w.globals s.cells l (Some scope)) (state-self m s h)
         (found_holds (I s.names.number) s.cells h.cells w.globals (globals_wider (I m) (I s.names.number) (rise m s.names.number h.up) w.globals setting.globals) (suc (length s.cells)) l (Some scope))
 
     abbrev pub Always : Evaluator → Type 0
-    Always E = (c : PlainCore) (scope : Place) (s : State) (n : ℕ) → CoreHolds (I m) c → S m s → O s.names.number (E c scope s n)
+    Always E = (c : PlainCore) (scope : Place) (s : WorldState) (n : ℕ) → CoreHolds (I m) c → S m s → O s.names.number (E c scope s n)
 
     module _ (E : Evaluator) (always : Always E) where
-      holds-case : (parent : Place) (args : List Value) (s : State) (n : ℕ) (x : Option (Formals × PlainCore)) → S m s → Vs s args → OptionHolds (λ (c : Formals × PlainCore). CoreHolds (I m) c.1) x
+      holds-case : (parent : Place) (args : List Value) (s : WorldState) (n : ℕ) (x : Option (Formals × PlainCore)) → S m s → Vs s args → OptionHolds (λ (c : Formals × PlainCore). CoreHolds (I m) c.1) x
           → O s.names.number (by_case w E parent args s n x)
       holds-case parent args s n None h k j = state-self m s h
       holds-case parent args s n (Some x) h k j =
@@ -260,15 +260,15 @@ module _ (own : LibName) (m : ℕ) (I : ℕ → Invariant) (rises : Rises own m 
           always x.1 (record { 0 = length p.1 }) (store (p.1 ++ cell.Scope p.0 (Some parent) ∷ []) s.names) n j
           (stored-state m s (p.1 ++ cell.Scope p.0 (Some parent) ∷ []) h (each_and (CellHolds (I s.names.number)) p.1 (cell.Scope p.0 (Some parent)) b.1 b.0))
 
-      holds-code : (parent : Place) (args : List Value) (s : State) (n : ℕ) (x : Option PlainCode) → S m s → Vs s args → OptionHolds (CodeHolds (I m)) x → O s.names.number (by_code w E parent args s n x)
+      holds-code : (parent : Place) (args : List Value) (s : WorldState) (n : ℕ) (x : Option PlainCode) → S m s → Vs s args → OptionHolds (CodeHolds (I m)) x → O s.names.number (by_code w E parent args s n x)
       holds-code parent args s n None h k j = tt
       holds-code parent args s n (Some x) h k j = holds-case parent args s n (first_case x.cases (length args)) h k (case-holds (I m) x.cases (length args) j)
 
-      holds-procedure : (number : CodeNo) (parent : Place) (args : List Value) (s : State) (n : ℕ) → S m s → Vs s args → O s.names.number (procedure_called w E number parent args s n)
+      holds-procedure : (number : CodeNo) (parent : Place) (args : List Value) (s : WorldState) (n : ℕ) → S m s → Vs s args → O s.names.number (procedure_called w E number parent args s n)
       unfolding procedure_called
       holds-procedure number parent args s n h k = holds-code parent args s n (code_at w.codes number) h k (code_holds (I m) w.codes number setting.codes)
 
-      holds-text_value : (args : List Value) (v : Value) (s : State) (n : ℕ) → S m s → Vs s args → O s.names.number (text_value_called w E args v s n)
+      holds-text_value : (args : List Value) (v : Value) (s : WorldState) (n : ℕ) → S m s → Vs s args → O s.names.number (text_value_called w E args v s n)
       holds-text_value args (value.Closure number parent) s n h k = holds-procedure number parent args s n h k
       holds-text_value args value.Unspecified s n h k = tt
       holds-text_value args (value.Atom x) s n h k = tt
@@ -281,23 +281,23 @@ module _ (own : LibName) (m : ℕ) (I : ℕ → Invariant) (rises : Rises own m 
       holds-text_value args (value.Transformer p) s n h k = tt
 
       -- with what was met in a state before
-      from : (s t : State) → S m s → S s.names.number t → S m t
+      from : (s t : WorldState) → S m s → S s.names.number t → S m t
       from s t h k = state-less m s.names.number t h.up k
 
-      holds-text : (args : List Value) (s : State) (n : ℕ) (x : Option PlainCore) → S m s → Vs s args → OptionHolds (CoreHolds (I m)) x → O s.names.number (by_text w E args s n x)
+      holds-text : (args : List Value) (s : WorldState) (n : ℕ) (x : Option PlainCore) → S m s → Vs s args → OptionHolds (CoreHolds (I m)) x → O s.names.number (by_text w E args s n x)
       holds-text args s n None h k j = tt
       holds-text args s n (Some body) h k j =
           holds-then s.names.number (E body (next_place s) (with_cell (cell.Scope [] None) s) n) (text_value_called w E args) (always body (next_place s) (with_cell (cell.Scope [] None) s) n j (one-cell m s (cell.Scope [] None) h tt))
           (λ v t left i x. holds-text_value args v t left (from s t h i) (values_rise s.names.number t.names.number args i.up k))
 
-      holds-op : (op : Op) (args : List Value) (s : State) (n : ℕ) → S m s → Vs s args → O s.names.number (op_called w E op args s n)
+      holds-op : (op : Op) (args : List Value) (s : WorldState) (n : ℕ) → S m s → Vs s args → O s.names.number (op_called w E op args s n)
       unfolding op_called
       holds-op op args s n h k =
           holds-if s.names.number (has_text op.0) _ _
           (holds-text args s n (text_body (code_at w.codes (text_number op.0))) h k (body-holds (I m) (code_at w.codes (text_number op.0)) (code_holds (I m) w.codes (text_number op.0) setting.codes)))
           (holds-primitive op.0 args s n h k)
 
-      holds-value : (f : Value) (args : List Value) (s : State) (n : ℕ) → S m s → Vs s args → O s.names.number (value_called w E f args s n)
+      holds-value : (f : Value) (args : List Value) (s : WorldState) (n : ℕ) → S m s → Vs s args → O s.names.number (value_called w E f args s n)
       holds-value (value.Closure number parent) args s n h k = holds-procedure number parent args s n h k
       holds-value (value.Prim op) args s n h k = holds-op op args s n h k
       holds-value value.Unspecified args s n h k = state-self m s h
@@ -309,41 +309,41 @@ module _ (own : LibName) (m : ℕ) (I : ℕ → Invariant) (rises : Rises own m 
       holds-value (value.Syn t) args s n h k = state-self m s h
       holds-value (value.Transformer p) args s n h k = state-self m s h
 
-      holds-first : (s : State) → S m s → (vs : List Value) (n : ℕ) → Vs s vs → O s.names.number (first_called w E s vs n)
+      holds-first : (s : WorldState) → S m s → (vs : List Value) (n : ℕ) → Vs s vs → O s.names.number (first_called w E s vs n)
       unfolding first_called
       holds-first s h [] n k = tt
       holds-first s h (f ∷ args) n k = holds-value f args s n h k.1
 
-      pub holds-applied : (vs : List Value) (s : State) (n : ℕ) → S m s → Vs s vs → O s.names.number (applied w E vs s n)
+      pub holds-applied : (vs : List Value) (s : WorldState) (n : ℕ) → S m s → Vs s vs → O s.names.number (applied w E vs s n)
       unfolding applied
       holds-applied vs s n h k = holds-spread s (state-self m s h) (first_called w E s) (holds-first s h) vs n k
 
-      holds-operands : (cs : PlainCores) (scope : Place) (vs : List Value) (s : State) (n : ℕ) → CoresHold (I m) cs → S m s → Vs s vs → O s.names.number (operands w E cs scope vs s n)
+      holds-operands : (cs : PlainCores) (scope : Place) (vs : List Value) (s : WorldState) (n : ℕ) → CoresHold (I m) cs → S m s → Vs s vs → O s.names.number (operands w E cs scope vs s n)
       holds-operands none scope vs s n c h k = holds-applied vs s n h k
       holds-operands (more x cs) scope vs s n c h k =
           holds-then s.names.number (E x scope s n) (λ v. operands w E cs scope (vs ++ v ∷ [])) (always x scope s n c.0 h)
           (λ v t left i j. holds-operands cs scope (vs ++ v ∷ []) t left c.1 (from s t h i) (each_and (ValueHolds (I t.names.number)) vs v (values_rise s.names.number t.names.number vs i.up k) j))
 
-      holds-sequence : (cs : PlainCores) (scope : Place) (s : State) (n : ℕ) → CoresHold (I m) cs → S m s → O s.names.number (in_sequence w E cs scope s n)
+      holds-sequence : (cs : PlainCores) (scope : Place) (s : WorldState) (n : ℕ) → CoresHold (I m) cs → S m s → O s.names.number (in_sequence w E cs scope s n)
       holds-sequence none scope s n c h = tt
       holds-sequence (more x none) scope s n c h = always x scope s n c.0 h
       holds-sequence (more x (more d cs)) scope s n c h =
           holds-then s.names.number (E x scope s n) (λ v. in_sequence w E (more d cs) scope) (always x scope s n c.0 h) (λ v t left i j. holds-sequence (more d cs) scope t left c.1 (from s t h i))
 
-      holds-one_arm : (c : PlainCore) (scope : Place) (v : Value) (s : State) (n : ℕ) → CoreHolds (I m) c → S m s → O s.names.number (one_arm w E c scope v s n)
+      holds-one_arm : (c : PlainCore) (scope : Place) (v : Value) (s : WorldState) (n : ℕ) → CoreHolds (I m) c → S m s → O s.names.number (one_arm w E c scope v s n)
       holds-one_arm c scope v s n k h = holds-if s.names.number (truth_of v) _ _ (always c scope s n k h) (state-self m s h, tt)
 
-      holds-two_arms : (c d : PlainCore) (scope : Place) (v : Value) (s : State) (n : ℕ) → CoreHolds (I m) c → CoreHolds (I m) d → S m s → O s.names.number (two_arms w E c d scope v s n)
+      holds-two_arms : (c d : PlainCore) (scope : Place) (v : Value) (s : WorldState) (n : ℕ) → CoreHolds (I m) c → CoreHolds (I m) d → S m s → O s.names.number (two_arms w E c d scope v s n)
       holds-two_arms c d scope v s n k j h = holds-if s.names.number (truth_of v) _ _ (always c scope s n k h) (always d scope s n j h)
 
-      holds-in_turn : (is : PlainInits) (body : PlainCore) (scope : Place) (s : State) (n : ℕ) → InitsHold (I m) is → CoreHolds (I m) body → S m s → O s.names.number (in_turn w E is body scope s n)
+      holds-in_turn : (is : PlainInits) (body : PlainCore) (scope : Place) (s : WorldState) (n : ℕ) → InitsHold (I m) is → CoreHolds (I m) body → S m s → O s.names.number (in_turn w E is body scope s n)
       holds-in_turn no_init body scope s n c b h = always body scope s n b h
       holds-in_turn (init l x is) body scope s n c b h =
           holds-then s.names.number (E x scope s n) (λ v t. in_turn w E is body scope (store (assigned t.cells scope l v) t.names)) (always x scope s n c.0 h)
           (λ v t left i j. holds-in_turn is body scope (store (assigned t.cells scope l v) t.names) left c.1 b
           (stored-state m t (assigned t.cells scope l v) (from s t h i) (assigned_holds (I t.names.number) t.cells scope l v i.cells j)))
 
-      holds-at_once : (is all : PlainInits) (body : PlainCore) (scope : Place) (vs : List Value) (s : State) (n : ℕ) → InitsHold (I m) is → CoreHolds (I m) body → S m s → Vs s vs
+      holds-at_once : (is all : PlainInits) (body : PlainCore) (scope : Place) (vs : List Value) (s : WorldState) (n : ℕ) → InitsHold (I m) is → CoreHolds (I m) body → S m s → Vs s vs
           → O s.names.number (at_once w E is all body scope vs s n)
       holds-at_once no_init all body scope vs s n c b h k =
           always body scope (store (all_assigned s.cells scope all vs) s.names) n b (stored-state m s (all_assigned s.cells scope all vs) h (all_assigned_hold (I s.names.number) s.cells scope all vs h.cells k))
@@ -351,7 +351,7 @@ module _ (own : LibName) (m : ℕ) (I : ℕ → Invariant) (rises : Rises own m 
           holds-then s.names.number (E x scope s n) (λ v. at_once w E is all body scope (vs ++ v ∷ [])) (always x scope s n c.0 h)
           (λ v t left i j. holds-at_once is all body scope (vs ++ v ∷ []) t left c.1 b (from s t h i) (each_and (ValueHolds (I t.names.number)) vs v (values_rise s.names.number t.names.number vs i.up k) j))
 
-      holds-letrec : (star : Bool) (is : PlainInits) (body : PlainCore) (scope : Place) (s : State) (n : ℕ) → InitsHold (I m) is → CoreHolds (I m) body → S m s
+      holds-letrec : (star : Bool) (is : PlainInits) (body : PlainCore) (scope : Place) (s : WorldState) (n : ℕ) → InitsHold (I m) is → CoreHolds (I m) body → S m s
           → O s.names.number (by_letrec w E star is body (next_place s) (with_cell (cell.Scope (unset is) (Some scope)) s) n)
       holds-letrec true is body scope s n c b h =
           holds-in_turn is body (next_place s) (with_cell (cell.Scope (unset is) (Some scope)) s) n c b (one-cell m s (cell.Scope (unset is) (Some scope)) h (unset_holds (I s.names.number) is))
@@ -360,25 +360,25 @@ module _ (own : LibName) (m : ℕ) (I : ℕ → Invariant) (rises : Rises own m 
 
       -- `syntax-case`
 
-      abbrev NextHolds : ℕ → (Place → State → ℕ → Outcome) → Type 0
-      NextHolds r g = (scope : Place) (s : State) (n : ℕ) → S r s → O s.names.number (g scope s n)
+      abbrev NextHolds : ℕ → (Place → WorldState → ℕ → Outcome) → Type 0
+      NextHolds r g = (scope : Place) (s : WorldState) (n : ℕ) → S r s → O s.names.number (g scope s n)
 
-      holds-output : (output : PlainCore) (scope : Place) (f : Found) (s : State) (n : ℕ) → CoreHolds (I m) output → S m s → AllBound (I s.names.number) f.binds → O s.names.number (output_given w E output scope f s n)
+      holds-output : (output : PlainCore) (scope : Place) (f : PatternBinds) (s : WorldState) (n : ℕ) → CoreHolds (I m) output → S m s → AllBound (I s.names.number) f.binds → O s.names.number (output_given w E output scope f s n)
       holds-output output scope f s n c h b = always output (next_place s) (with_cell (cell.Binds f.binds (Some scope)) s) n c (one-cell m s (cell.Binds f.binds (Some scope)) h b)
 
-      holds-passed : (r : ℕ) (g : Place → State → ℕ → Outcome) → NextHolds r g → (output : PlainCore) (scope inner : Place) (v : Value) (s : State) (n : ℕ) → CoreHolds (I m) output → S m s → S r s
+      holds-passed : (r : ℕ) (g : Place → WorldState → ℕ → Outcome) → NextHolds r g → (output : PlainCore) (scope inner : Place) (v : Value) (s : WorldState) (n : ℕ) → CoreHolds (I m) output → S m s → S r s
           → O s.names.number (fender_passed w E g output scope inner v s n)
       holds-passed r g next output scope inner v s n c h k = holds-if s.names.number (truth_of v) _ _ (always output inner s n c h) (next scope s n k)
 
-      holds-asked : (r : ℕ) (g : Place → State → ℕ → Outcome) → NextHolds r g → (fender output : PlainCore) (scope : Place) (f : Found) (s : State) (n : ℕ) → CoreHolds (I m) fender → CoreHolds (I m) output → S m s → S r s
+      holds-asked : (r : ℕ) (g : Place → WorldState → ℕ → Outcome) → NextHolds r g → (fender output : PlainCore) (scope : Place) (f : PatternBinds) (s : WorldState) (n : ℕ) → CoreHolds (I m) fender → CoreHolds (I m) output → S m s → S r s
           → AllBound (I s.names.number) f.binds → O s.names.number (fender_asked w E g fender output scope f s n)
       holds-asked r g next fender output scope f s n c d h k b =
           holds-then s.names.number (E fender (next_place s) (with_cell (cell.Binds f.binds (Some scope)) s) n) (fender_passed w E g output scope (next_place s))
           (always fender (next_place s) (with_cell (cell.Binds f.binds (Some scope)) s) n c (one-cell m s (cell.Binds f.binds (Some scope)) h b))
           (λ v t left i j. holds-passed r g next output scope (next_place s) v t left d (from s t h i) (state-less r s.names.number t k.up i))
 
-      holds-match : (r : ℕ) (g : Place → State → ℕ → Outcome) → NextHolds r g → (i : Found → State → ℕ → Outcome) → ((f : Found) (s : State) (n : ℕ) → S r s → AllBound (I s.names.number) f.binds → O s.names.number (i f s n))
-          → (scope : Place) (s : State) (n : ℕ) (o : Option Found) → S r s → FoundOr (I s.names.number) o → O s.names.number (on_match w E g i scope s n o)
+      holds-match : (r : ℕ) (g : Place → WorldState → ℕ → Outcome) → NextHolds r g → (i : PatternBinds → WorldState → ℕ → Outcome) → ((f : PatternBinds) (s : WorldState) (n : ℕ) → S r s → AllBound (I s.names.number) f.binds → O s.names.number (i f s n))
+          → (scope : Place) (s : WorldState) (n : ℕ) (o : Option PatternBinds) → S r s → FoundOr (I s.names.number) o → O s.names.number (on_match w E g i scope s n o)
       holds-match r g next i take scope s n None h k = next scope s n h
       holds-match r g next i take scope s n (Some f) h k = holds-charged s.names.number s f.taken n (i f s) (state-self r s h) (λ left. take f s left h k)
 
@@ -399,7 +399,7 @@ module _ (own : LibName) (m : ℕ) (I : ℕ → Invariant) (rises : Rises own m 
 
       -- Expressions.
 
-      holds-expressed : (c : PlainCore) (scope : Place) (s : State) (n : ℕ) → CoreHolds (I m) c → S m s → O s.names.number (expressed w E c scope s n)
+      holds-expressed : (c : PlainCore) (scope : Place) (s : WorldState) (n : ℕ) → CoreHolds (I m) c → S m s → O s.names.number (expressed w E c scope s n)
       holds-expressed (quoted d) scope s n k h = holds-quoted d s n ((rise m s.names.number h.up).constants d k) (state-self m s h)
       holds-expressed (variable l) scope s n k h = holds-variable l scope s n h
       holds-expressed (primitive op) scope s n k h = (state-self m s h, tt)
@@ -431,10 +431,10 @@ module _ (own : LibName) (m : ℕ) (I : ℕ → Invariant) (rises : Rises own m 
     unfolding eval_of
     holds-eval c scope s n k h = holds-evaluates n c scope s n k h
 
-    pub holds-call : (vs : List Value) (s : State) (n : ℕ) → S m s → Vs s vs → O s.names.number (applied w (eval_of w) vs s n)
+    pub holds-call : (vs : List Value) (s : WorldState) (n : ℕ) → S m s → Vs s vs → O s.names.number (applied w (eval_of w) vs s n)
     holds-call vs s n h k = holds-applied (eval_of w) holds-eval vs s n h k
 
-    pub holds-lines : (ls : List Line) (scope : Place) (s : State) (n : ℕ) → LinesHold (I m) ls → S m s → O s.names.number (lines_from (eval_of w) ls scope s n)
+    pub holds-lines : (ls : List Line) (scope : Place) (s : WorldState) (n : ℕ) → LinesHold (I m) ls → S m s → O s.names.number (lines_from (eval_of w) ls scope s n)
     holds-lines [] scope s n k h = (state-self m s h, tt)
     holds-lines (line.Define l c ∷ ls) scope s n k h =
         holds-then s.names.number (eval_of w c scope s n) (λ v t. lines_from (eval_of w) ls scope (store (assigned t.cells scope l v) t.names)) (holds-eval c scope s n k.0 h)

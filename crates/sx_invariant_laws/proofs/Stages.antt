@@ -15,7 +15,7 @@ use Rattle.sx_frames.specs.Scope.{Scope}
 use Rattle.sx_tree.specs.Tree.{Tree}
 use Rattle.sx_core.specs.Core.{PlainCore}
 use Rattle.sx_core.specs.Labels.{same_label}
-use Rattle.sx_core.specs.declared.record.LibRecord.{LibRecord}
+use Rattle.sx_core.specs.declared.record.CompiledLibrary.{CompiledLibrary}
 use Rattle.sx_value.specs.Cells.{Each, transformer_in}
 use Rattle.sx_value.specs.ToSyntax.{Reading, to_syntax}
 use Rattle.sx_value.specs.declared.value.Value.{Value}
@@ -31,7 +31,7 @@ use Rattle.sx_stage.specs.Libraries.{has_library, has_all, wanted, libraries_of}
 use Rattle.sx_stage.specs.Running.{setting_on, state_on, left_by, ended_at, with_codes_of, outcome_of, evaluate, outcome_of_call, outcome_of_lines, left_by_library, library_ended, evaluate_library, evaluate_wanted, evaluate_all, need}
 use Rattle.sx_stage.specs.Running as running
 use Rattle.sx_stage.specs.Stage.{PlainStage, Does, name_after, fresh_mark, keyword_at, with_keyword}
-use Rattle.sx_stage.specs.Transformers.{is_variable, is_transformer, transformer_only, transformer, begin_keyword, finish_keyword, value_in, import_keyword, value_or, keyword_value, is_variable_transformer}
+use Rattle.sx_stage.specs.Transformers.{is_variable, is_transformer, transformer_only, transformer, begin_keyword, evaluate_transformer, value_in, import_keyword, value_or, keyword_value, is_variable_transformer}
 use Rattle.sx_stage.specs.Uses.{procedure_in, call_procedure, tree_at, read_answer, transform, cut, transform_and_cut, transform_marked, used}
 use Rattle.sx_stage.specs.declared.keyword.Keyword.{Keyword}
 use Rattle.sx_stage.specs.declared.keyword.Keyword.TheVariants as keyword
@@ -65,8 +65,8 @@ keyword-wider I Q k (keyword.Kept e v) h = (expression-wider I Q k e h.0, value_
 pub keywords-wider : (I Q : Invariant) → Wider I Q → (ks : List (Label × Keyword)) → KeywordsHold I ks → KeywordsHold Q ks
 keywords-wider I Q k ks h = each_mapped (λ (x : Label × Keyword). KeywordHolds I x.1) (λ (x : Label × Keyword). KeywordHolds Q x.1) (λ x j. keyword-wider I Q k x.1 j) ks h
 
-pub records-wider : (I Q : Invariant) → Wider I Q → (rs : List LibRecord) → RecordsHold I rs → RecordsHold Q rs
-records-wider I Q k rs h = each_mapped (λ (r : LibRecord). LinesHold I r.run) (λ (r : LibRecord). LinesHold Q r.run) (λ r j. lines_wider I Q k r.run j) rs h
+pub records-wider : (I Q : Invariant) → Wider I Q → (rs : List CompiledLibrary) → RecordsHold I rs → RecordsHold Q rs
+records-wider I Q k rs h = each_mapped (λ (r : CompiledLibrary). LinesHold I r.run) (λ (r : CompiledLibrary). LinesHold Q r.run) (λ r j. lines_wider I Q k r.run j) rs h
 
 -- what is asked of an invariant on a stage: that it rises with the names, and of marks of rows that they stay known
 pub record Runs (own : LibName) (K : ℕ → Mark → Type 0) (I : ℕ → Invariant) : Type 1 where
@@ -119,7 +119,7 @@ module _ (own : LibName) (K : ℕ → Mark → Type 0) (I : ℕ → Invariant) (
   IsTree n t = (I n).trees t
 
   -- what an evaluation leaves
-  left-holds : (m : ℕ) (g : PlainStage) (new : run.State) (left : ℕ) → G m g → StateHolds own I g.names.number new → G m (left_by g new left)
+  left-holds : (m : ℕ) (g : PlainStage) (new : run.WorldState) (left : ℕ) → G m g → StateHolds own I g.names.number new → G m (left_by g new left)
   left-holds m g new left h k = record {
     up = omega (arith, h.up, k.up);
     library = k.library;
@@ -166,7 +166,7 @@ module _ (own : LibName) (K : ℕ → Mark → Type 0) (I : ℕ → Invariant) (
 
   -- Libraries.
 
-  library-left : (r : LibRecord) (m : ℕ) (g : PlainStage) (new : run.State) (left : ℕ) → G m g → LinesHold (I g.names.number) r.run → StateHolds own I g.names.number new → G m (left_by_library r g new left)
+  library-left : (r : CompiledLibrary) (m : ℕ) (g : PlainStage) (new : run.WorldState) (left : ℕ) → G m g → LinesHold (I g.names.number) r.run → StateHolds own I g.names.number new → G m (left_by_library r g new left)
   library-left r m g new left h k j =
       let up : Wider (I g.names.number) (I new.names.number) = later g.names.number new.names.number j.up in
       record {
@@ -179,27 +179,27 @@ module _ (own : LibName) (K : ℕ → Mark → Type 0) (I : ℕ → Invariant) (
         keywords = keywords-wider (I g.names.number) (I new.names.number) up g.keywords h.keywords;
       }
 
-  library-ends : (place : Span) (r : LibRecord) (m : ℕ) (g : PlainStage) (o : Outcome) → G m g → LinesHold (I g.names.number) r.run → OutcomeHolds own I g.names.number o → GaveStage Done m (library_ended place r g o)
+  library-ends : (place : Span) (r : CompiledLibrary) (m : ℕ) (g : PlainStage) (o : Outcome) → G m g → LinesHold (I g.names.number) r.run → OutcomeHolds own I g.names.number o → GaveStage Done m (library_ended place r g o)
   library-ends place r m g (done v new left) h k j = (library-left r m g new left h k j.0, tt)
   library-ends place r m g (faulted f new left) h k j = tt
   library-ends place r m g unfit h k j = tt
 
-  library-holds : (place : Span) (r : LibRecord) (m : ℕ) (g : PlainStage) → G m g → LinesHold (I g.names.number) r.run → GaveStage Done m (evaluate_library place r g)
+  library-holds : (place : Span) (r : CompiledLibrary) (m : ℕ) (g : PlainStage) → G m g → LinesHold (I g.names.number) r.run → GaveStage Done m (evaluate_library place r g)
   unfolding evaluate_library
   library-holds place r m g h k =
       library-ends place r m g (outcome_of_lines r.run g) h k
       (holds-lines own g.names.number I (rises-from g.names.number) (setting_on (with_lines r.run g.codes) g) (setting-holds m (with_lines r.run g.codes) g h (line-codes (I g.names.number) (alive.rises.code g.names.number) r.run g.codes h.codes k))
       r.run (next_place (state_on g)) (with_cell (cell.Scope (defined r.run) None) (state_on g)) most_fuel k (scope-holds m g (defined r.run) h (unset-defined (I g.names.number) (alive.rises.code g.names.number) r.run)))
 
-  abbrev pub Rs : ℕ → List LibRecord → Type 0
+  abbrev pub Rs : ℕ → List CompiledLibrary → Type 0
   Rs n rs = RecordsHold (I n) rs
 
-  wanted-holds : (place : Span) (ks : List LibName) (r : LibRecord) (m : ℕ) (g : PlainStage) → G m g → LinesHold (I g.names.number) r.run → GaveStage Done m (evaluate_wanted place ks r g)
+  wanted-holds : (place : Span) (ks : List LibName) (r : CompiledLibrary) (m : ℕ) (g : PlainStage) → G m g → LinesHold (I g.names.number) r.run → GaveStage Done m (evaluate_wanted place ks r g)
   unfolding evaluate_wanted
   wanted-holds place ks r m g h k =
       stage-if Done m (has_library ks r.name) _ (give tt g) (stage-if Done m (has_library g.evaluated r.name) (give tt g) (evaluate_library place r g) (h, tt) (library-holds place r m g h k)) (h, tt)
 
-  all-hold : (place : Span) (ks : List LibName) (rs : List LibRecord) (m : ℕ) (g : PlainStage) → G m g → Rs g.names.number rs → GaveStage Done m (evaluate_all place ks rs g)
+  all-hold : (place : Span) (ks : List LibName) (rs : List CompiledLibrary) (m : ℕ) (g : PlainStage) → G m g → Rs g.names.number rs → GaveStage Done m (evaluate_all place ks rs g)
   unfolding evaluate_all
   all-hold place ks [] m g h k = (h, tt)
   all-hold place ks (r ∷ rs) m g h k =
@@ -212,7 +212,7 @@ module _ (own : LibName) (K : ℕ → Mark → Type 0) (I : ℕ → Invariant) (
       stage-less-gave m g (Ok p) h j = (stage-less m g.names.number p.1 h.up j.0, tt)
       stage-less-gave m g (Err f) h j = tt
 
-  need-holds : (place : Span) (rs : List LibRecord) (c : PlainCore) (m : ℕ) (g : PlainStage) → G m g → Rs g.names.number rs → GaveStage Done m (need place rs c g)
+  need-holds : (place : Span) (rs : List CompiledLibrary) (c : PlainCore) (m : ℕ) (g : PlainStage) → G m g → Rs g.names.number rs → GaveStage Done m (need place rs c g)
   unfolding need
   need-holds place rs c m g h k = stage-if Done m (has_all g.evaluated (libraries_of c)) (give tt g) _ (h, tt) (all-hold place (wanted rs (libraries_of c)) rs m g h k)
 
@@ -221,7 +221,7 @@ module _ (own : LibName) (K : ℕ → Mark → Type 0) (I : ℕ → Invariant) (
   only-holds : (place : Span) (v : Value) (m : ℕ) (g : PlainStage) → G m g → IsValue g.names.number v → GaveStage IsValue m (transformer_only place v g)
   only-holds place v m g h k = stage-if IsValue m (is_transformer v) (give v g) _ (h, k) tt
 
-  transformer-holds : (place : Span) (rs : List LibRecord) (c : PlainCore) (m : ℕ) (g : PlainStage) → G m g → Rs g.names.number rs → CoreHolds (I g.names.number) c → GaveStage IsValue m (transformer place rs c g)
+  transformer-holds : (place : Span) (rs : List CompiledLibrary) (c : PlainCore) (m : ℕ) (g : PlainStage) → G m g → Rs g.names.number rs → CoreHolds (I g.names.number) c → GaveStage IsValue m (transformer place rs c g)
   unfolding transformer
   transformer-holds place rs c m g h k j =
       less (after (need place rs c g) (λ _ t. after (evaluate place c t) (λ p. transformer_only place p.0)))
@@ -254,14 +254,14 @@ module _ (own : LibName) (K : ℕ → Mark → Type 0) (I : ℕ → Invariant) (
   gave-less W m g (Ok p) h k = (stage-less m g.names.number p.1 h.up k.0, k.1)
   gave-less W m g (Err f) h k = tt
 
-  pub finish-holds : (place : Span) (rs : List LibRecord) (l : Label) (c : PlainCore) (m : ℕ) (g : PlainStage) → G m g → Rs g.names.number rs → CoreHolds (I g.names.number) c → GaveStage Done m (finish_keyword place rs l c g)
-  unfolding finish_keyword
+  pub finish-holds : (place : Span) (rs : List CompiledLibrary) (l : Label) (c : PlainCore) (m : ℕ) (g : PlainStage) → G m g → Rs g.names.number rs → CoreHolds (I g.names.number) c → GaveStage Done m (evaluate_transformer place rs l c g)
+  unfolding evaluate_transformer
   finish-holds place rs l c m g h k j =
       gave-less Done m g (after (transformer place rs c g) (λ v t. give tt (with_keyword l (keyword.Kept (Some c) v) t))) h
       (stage-after IsValue Done g.names.number (transformer place rs c g) (λ v t. give tt (with_keyword l (keyword.Kept (Some c) v) t)) (transformer-holds place rs c g.names.number g (stage-self m g h) k j)
       (λ v t i x. (keyword-put l (keyword.Kept (Some c) v) t.names.number t (stage-self g.names.number t i) (core_wider (I g.names.number) (I t.names.number) (later g.names.number t.names.number i.up) c j, x), tt)))
 
-  import-holds : (place : Span) (rs : List LibRecord) (l : Label) (e : Option PlainCore) (m : ℕ) (g : PlainStage) → G m g → Rs g.names.number rs → ExpressionHolds (I g.names.number) e → GaveStage IsValue m (import_keyword place rs l e g)
+  import-holds : (place : Span) (rs : List CompiledLibrary) (l : Label) (e : Option PlainCore) (m : ℕ) (g : PlainStage) → G m g → Rs g.names.number rs → ExpressionHolds (I g.names.number) e → GaveStage IsValue m (import_keyword place rs l e g)
   unfolding import_keyword
   import-holds place rs l None m g h k j = tt
   import-holds place rs l (Some c) m g h k j =
@@ -269,12 +269,12 @@ module _ (own : LibName) (K : ℕ → Mark → Type 0) (I : ℕ → Invariant) (
       (stage-after IsValue IsValue g.names.number (transformer place rs c g) (λ v t. give v (with_keyword l (keyword.Kept None v) t)) (transformer-holds place rs c g.names.number g (stage-self m g h) k j)
       (λ v t i x. (keyword-put l (keyword.Kept None v) t.names.number t (stage-self g.names.number t i) (tt, x), x)))
 
-  value-or-holds : (place : Span) (rs : List LibRecord) (l : Label) (e : Option PlainCore) (o : Option Value) (m : ℕ) (g : PlainStage) → G m g → Rs g.names.number rs → ExpressionHolds (I g.names.number) e → OptionHolds (ValueHolds (I g.names.number)) o
+  value-or-holds : (place : Span) (rs : List CompiledLibrary) (l : Label) (e : Option PlainCore) (o : Option Value) (m : ℕ) (g : PlainStage) → G m g → Rs g.names.number rs → ExpressionHolds (I g.names.number) e → OptionHolds (ValueHolds (I g.names.number)) o
       → GaveStage IsValue m (value_or place rs l e o g)
   value-or-holds place rs l e None m g h k j i = import-holds place rs l e m g h k j
   value-or-holds place rs l e (Some v) m g h k j i = (h, i)
 
-  pub value-holds : (place : Span) (rs : List LibRecord) (l : Label) (e : Option PlainCore) (m : ℕ) (g : PlainStage) → G m g → Rs g.names.number rs → ExpressionHolds (I g.names.number) e → GaveStage IsValue m (keyword_value place rs l e g)
+  pub value-holds : (place : Span) (rs : List CompiledLibrary) (l : Label) (e : Option PlainCore) (m : ℕ) (g : PlainStage) → G m g → Rs g.names.number rs → ExpressionHolds (I g.names.number) e → GaveStage IsValue m (keyword_value place rs l e g)
   unfolding keyword_value
   value-holds place rs l e m g h k j = by (keyword_at g.keywords l) (looked_up (KeywordHolds (I g.names.number)) (same_label l) g.keywords h.keywords)
     where
@@ -286,7 +286,7 @@ module _ (own : LibName) (K : ℕ → Mark → Type 0) (I : ℕ → Invariant) (
   abbrev pub Told : ℕ → Bool → Type 0
   Told n b = Unit {0}
 
-  pub asks-holds : (place : Span) (rs : List LibRecord) (l : Label) (e : Option PlainCore) (m : ℕ) (g : PlainStage) → G m g → Rs g.names.number rs → ExpressionHolds (I g.names.number) e → GaveStage Told m (is_variable_transformer place rs l e g)
+  pub asks-holds : (place : Span) (rs : List CompiledLibrary) (l : Label) (e : Option PlainCore) (m : ℕ) (g : PlainStage) → G m g → Rs g.names.number rs → ExpressionHolds (I g.names.number) e → GaveStage Told m (is_variable_transformer place rs l e g)
   unfolding is_variable_transformer
   asks-holds place rs l e m g h k j =
       gave-less Told m g (after (keyword_value place rs l e g) (λ v. give (is_variable v))) h
@@ -431,7 +431,7 @@ module _ (own : LibName) (K : ℕ → Mark → Type 0) (J : ℕ → FrameNo → 
       subst (λ (l : LibName). GaveStage own K I is.runs T (g.names.number + 1) (transform_marked place v t f (record { 0 = record { library = l; number = g.names.number } }) (record g { names = name_after g.names })))
       (sym h.library) (marked-holds place v t f low g h k i q)
 
-  pub used-holds : (place : Span) (rs : List LibRecord) (t : Tree) (l : Label) (e : Option PlainCore) (f : Option FrameNo) (m : ℕ) (g : PlainStage) → G own K I is.runs m g → RecordsHold (I g.names.number) rs → ExpressionHolds (I g.names.number) e → T g.names.number t → OptionHolds (J g.names.number) f
+  pub used-holds : (place : Span) (rs : List CompiledLibrary) (t : Tree) (l : Label) (e : Option PlainCore) (f : Option FrameNo) (m : ℕ) (g : PlainStage) → G own K I is.runs m g → RecordsHold (I g.names.number) rs → ExpressionHolds (I g.names.number) e → T g.names.number t → OptionHolds (J g.names.number) f
       → GaveStage own K I is.runs T m (used place rs t l e f g)
   unfolding used
   used-holds place rs t l e f m g h k j i q =

@@ -12,16 +12,16 @@ use Rattle.sx_tree.specs.declared.change.Change.TheVariants as change
 use Rattle.sx_frames.specs.Rows.{Row}
 use Rattle.sx_frames.specs.Scope.{Scope}
 use Rattle.sx_core.specs.Core.{PlainCore}
-use Rattle.sx_core.specs.declared.record.LibRecord.{LibRecord}
+use Rattle.sx_core.specs.declared.record.CompiledLibrary.{CompiledLibrary}
 use Rattle.sx_core.specs.declared.record.Line.{Line}
 use Rattle.sx_value.specs.Cells.{Each}
 use Rattle.sx_value.specs.declared.value.Value.{Value}
 use Rattle.sx_eval.specs.Lines.{lines_from}
 use Rattle.sx_eval.specs.Meaning.{eval_of, applied}
 use Rattle.sx_eval.specs.Setting.{PlainSetting}
-use Rattle.sx_eval.specs.State.{State, Outcome, done, faulted, unfit}
+use Rattle.sx_eval.specs.State.{WorldState, Outcome, done, faulted, unfit}
 use Rattle.sx_stage.specs.Stage.{PlainStage}
-use Rattle.sx_stage.specs.Transformers.{begin_keyword, finish_keyword, is_variable_transformer}
+use Rattle.sx_stage.specs.Transformers.{begin_keyword, evaluate_transformer, is_variable_transformer}
 use Rattle.sx_stage.specs.Uses.{used}
 use Rattle.sx_invariant_laws.specs.Closed.{Wider, Rises}
 use Rattle.sx_invariant_laws.specs.Holds.{ValuesHold, CoreHolds, LinesHold}
@@ -60,7 +60,7 @@ module _ (I : Invariant) (steady : IsSteady I) where
 
   -- Evaluations.
 
-  begun : (s : State) → SteadyState I s → StateHolds s.names.library Same s.names.number s
+  begun : (s : WorldState) → SteadyState I s → StateHolds s.names.library Same s.names.number s
   begun s h = record { up = omega arith; library = refl; cells = h }
 
   ended : (own : LibName) (m : ℕ) (o : Outcome) → OutcomeHolds own Same m o → SteadyOutcome I o
@@ -69,17 +69,17 @@ module _ (I : Invariant) (steady : IsSteady I) where
   ended own m unfit h = tt
 
   module _ (w : PlainSetting) (setting : SettingHolds I w) where
-    pub holds-eval : (c : PlainCore) (scope : Place) (s : State) (n : ℕ) → CoreHolds I c → SteadyState I s → SteadyOutcome I (eval_of w c scope s n)
+    pub holds-eval : (c : PlainCore) (scope : Place) (s : WorldState) (n : ℕ) → CoreHolds I c → SteadyState I s → SteadyOutcome I (eval_of w c scope s n)
     holds-eval c scope s n k h =
         ended s.names.library s.names.number (eval_of w c scope s n)
         (meaning.holds-eval s.names.library s.names.number Same (rises s.names.library s.names.number) w setting c scope s n k (begun s h))
 
-    pub holds-call : (vs : List Value) (s : State) (n : ℕ) → SteadyState I s → ValuesHold I vs → SteadyOutcome I (applied w (eval_of w) vs s n)
+    pub holds-call : (vs : List Value) (s : WorldState) (n : ℕ) → SteadyState I s → ValuesHold I vs → SteadyOutcome I (applied w (eval_of w) vs s n)
     holds-call vs s n h k =
         ended s.names.library s.names.number (applied w (eval_of w) vs s n)
         (meaning.holds-call s.names.library s.names.number Same (rises s.names.library s.names.number) w setting vs s n (begun s h) k)
 
-    pub holds-lines : (ls : List Line) (scope : Place) (s : State) (n : ℕ) → LinesHold I ls → SteadyState I s → SteadyOutcome I (lines_from (eval_of w) ls scope s n)
+    pub holds-lines : (ls : List Line) (scope : Place) (s : WorldState) (n : ℕ) → LinesHold I ls → SteadyState I s → SteadyOutcome I (lines_from (eval_of w) ls scope s n)
     holds-lines ls scope s n k h =
         ended s.names.library s.names.number (lines_from (eval_of w) ls scope s n)
         (meaning.holds-lines s.names.library s.names.number Same (rises s.names.library s.names.number) w setting ls scope s n k (begun s h))
@@ -122,15 +122,15 @@ module _ (I : Invariant) (steady : IsSteady I) where
   begin-holds l place g h =
       gave Done g.names.library g.names.number (begin_keyword l place g) (stages.begin-holds g.names.library AnyMark Same (runs g.names.library) l place g.names.number g (on-stage g h))
 
-  pub finish-holds : (place : Span) (rs : List LibRecord) (l : Label) (c : PlainCore) (g : PlainStage) → SteadyStage I g → RecordsHold I rs → CoreHolds I c → GaveStage Done (finish_keyword place rs l c g)
+  pub finish-holds : (place : Span) (rs : List CompiledLibrary) (l : Label) (c : PlainCore) (g : PlainStage) → SteadyStage I g → RecordsHold I rs → CoreHolds I c → GaveStage Done (evaluate_transformer place rs l c g)
   finish-holds place rs l c g h k j =
-      gave Done g.names.library g.names.number (finish_keyword place rs l c g) (stages.finish-holds g.names.library AnyMark Same (runs g.names.library) place rs l c g.names.number g (on-stage g h) k j)
+      gave Done g.names.library g.names.number (evaluate_transformer place rs l c g) (stages.finish-holds g.names.library AnyMark Same (runs g.names.library) place rs l c g.names.number g (on-stage g h) k j)
 
-  pub asks-holds : (place : Span) (rs : List LibRecord) (l : Label) (e : Option PlainCore) (g : PlainStage) → SteadyStage I g → RecordsHold I rs → ExpressionHolds I e → GaveStage Told (is_variable_transformer place rs l e g)
+  pub asks-holds : (place : Span) (rs : List CompiledLibrary) (l : Label) (e : Option PlainCore) (g : PlainStage) → SteadyStage I g → RecordsHold I rs → ExpressionHolds I e → GaveStage Told (is_variable_transformer place rs l e g)
   asks-holds place rs l e g h k j =
       gave Told g.names.library g.names.number (is_variable_transformer place rs l e g) (stages.asks-holds g.names.library AnyMark Same (runs g.names.library) place rs l e g.names.number g (on-stage g h) k j)
 
-  pub used-holds : (place : Span) (rs : List LibRecord) (t : Tree) (l : Label) (e : Option PlainCore) (f : Option FrameNo) (g : PlainStage) → SteadyStage I g → RecordsHold I rs → ExpressionHolds I e → I.trees t
+  pub used-holds : (place : Span) (rs : List CompiledLibrary) (t : Tree) (l : Label) (e : Option PlainCore) (f : Option FrameNo) (g : PlainStage) → SteadyStage I g → RecordsHold I rs → ExpressionHolds I e → I.trees t
       → GaveStage I.trees (used place rs t l e f g)
   used-holds place rs t l e f g h k j i =
       gave I.trees g.names.library g.names.number (used place rs t l e f g)

@@ -16,8 +16,8 @@ use Rattle.sx_prims.specs.Chains.{pair_of}
 use Rattle.sx_prims.specs.Copied.{text_in, own_datum, datum_by, datum_to, datum_in}
 use Rattle.sx_prims.specs.Perform.{name_after, temporary, temporaries, performed, names_taken}
 use Rattle.sx_prims.specs.Strings.{vector_of}
-use Rattle.sx_prims.specs.declared.made.Made.{Made}
-use Rattle.sx_prims.specs.declared.made.Made.TheVariants as made
+use Rattle.sx_prims.specs.declared.made.PrimResult.{PrimResult}
+use Rattle.sx_prims.specs.declared.made.PrimResult.TheVariants as made
 use Rattle.sx_invariant_laws.specs.Holds.{ValueHolds, ValuesHold, CellHolds, CellsHold}
 use Rattle.sx_invariant_laws.proofs.Eachs.{each_and}
 use Rattle.sx_invariant_laws.proofs.Calls.{MadeHolds}
@@ -132,7 +132,7 @@ module _ (own : LibName) (first : ℕ) (I : ℕ → Invariant) (rises : Rises ow
   temporaries_hold n (suc count) name e low le = (temporary_holds n name e low (omega (arith, le)), temporaries_hold n count (name_after 1 name) e (omega (arith, low)) (omega (arith, le)))
 
   -- what was made is stored, and names are taken
-  pub performed_holds : (m : Made) (name : Named) (cells : List Cell) → name.library ≡ own → first ≤ name.number → CellsHold (I name.number) cells → MadeHolds (I name.number) m
+  pub performed_holds : (m : PrimResult) (name : Named) (cells : List Cell) → name.library ≡ own → first ≤ name.number → CellsHold (I name.number) cells → MadeHolds (I name.number) m
       → StoredHolds (I (name_after (names_taken m) name).number) (performed m name cells)
   performed_holds m name cells e low h k = by m k
     where
@@ -142,7 +142,7 @@ module _ (own : LibName) (first : ℕ) (I : ℕ → Invariant) (rises : Rises ow
       later : (count : ℕ) (p : Value × List Cell) → StoredHolds (I n) p → StoredHolds (I (n + count)) p
       later count p s = (value_wider (I n) (I (n + count)) (rises.later n (n + count) (omega arith)) p.0 s.0, cells_wider (I n) (I (n + count)) (rises.later n (n + count) (omega arith)) p.1 s.1)
 
-      by : (m : Made) → MadeHolds (I n) m → StoredHolds (I (name_after (names_taken m) name).number) (performed m name cells)
+      by : (m : PrimResult) → MadeHolds (I n) m → StoredHolds (I (name_after (names_taken m) name).number) (performed m name cells)
       by (made.Value x) k = later 0 (x, cells) (k, h)
       by (made.List xs x) k = later 0 (pairs_stored xs (x, cells)) (pairs_hold (I n) xs (x, cells) k.0 (k.1, h))
       by (made.Vector xs) k = later 0 (vector_stored (xs, cells)) (vector_holds (I n) (xs, cells) (k, h))

@@ -11,14 +11,14 @@ use Rattle.sx_tree.specs.Changes.{changed}
 use Rattle.sx_tree.specs.Tree.{Tree}
 use Rattle.sx_tree.specs.declared.change.Change.{Change}
 use Rattle.sx_core.specs.Core.{PlainCore}
-use Rattle.sx_core.specs.declared.record.LibRecord.{LibRecord}
+use Rattle.sx_core.specs.declared.record.CompiledLibrary.{CompiledLibrary}
 use Rattle.sx_core.specs.declared.record.Line.{Line}
 use Rattle.sx_value.specs.declared.value.Value.{Value}
 use Rattle.sx_prims.specs.Perform.{temporary}
 use Rattle.sx_eval.specs.Lines.{lines_from}
 use Rattle.sx_eval.specs.Meaning.{eval_of, applied}
 use Rattle.sx_eval.specs.Setting.{PlainSetting}
-use Rattle.sx_eval.specs.State.{State}
+use Rattle.sx_eval.specs.State.{WorldState}
 use Rattle.sx_stage.specs.Stage.{PlainStage}
 use Rattle.sx_stage.specs.Uses.{used}
 use Rattle.sx_invariant_laws.specs.Closed.{IsClosed}
@@ -54,11 +54,11 @@ pub record AreKept (t : Tests) : Type 0 where
   pub changed : (cs : List Change) (u : Tree) → IsTrue (t.trees u) → IsTrue (t.trees (changed cs u))
 
 pub record EvaluationKeeps : Type 0 where
-  pub expressions : (t : Tests) (w : PlainSetting) (c : PlainCore) (scope : Place) (s : State) (n : ℕ) → AreKept t → SettingHolds (passing t) w → SteadyState (passing t) s
+  pub expressions : (t : Tests) (w : PlainSetting) (c : PlainCore) (scope : Place) (s : WorldState) (n : ℕ) → AreKept t → SettingHolds (passing t) w → SteadyState (passing t) s
       → CoreHolds (passing t) c → SteadyOutcome (passing t) (eval_of w c scope s n)
-  pub calls : (t : Tests) (w : PlainSetting) (vs : List Value) (s : State) (n : ℕ) → AreKept t → SettingHolds (passing t) w → SteadyState (passing t) s
+  pub calls : (t : Tests) (w : PlainSetting) (vs : List Value) (s : WorldState) (n : ℕ) → AreKept t → SettingHolds (passing t) w → SteadyState (passing t) s
       → ValuesHold (passing t) vs → SteadyOutcome (passing t) (applied w (eval_of w) vs s n)
-  pub libraries : (t : Tests) (w : PlainSetting) (ls : List Line) (scope : Place) (s : State) (n : ℕ) → AreKept t → SettingHolds (passing t) w → SteadyState (passing t) s
+  pub libraries : (t : Tests) (w : PlainSetting) (ls : List Line) (scope : Place) (s : WorldState) (n : ℕ) → AreKept t → SettingHolds (passing t) w → SteadyState (passing t) s
       → LinesHold (passing t) ls → SteadyOutcome (passing t) (lines_from (eval_of w) ls scope s n)
-  pub uses : (t : Tests) (place : Span) (rs : List LibRecord) (u v : Tree) (l : Label) (e : Option PlainCore) (f : Option FrameNo) (g h : PlainStage) → AreKept t → SteadyStage (passing t) g
+  pub uses : (t : Tests) (place : Span) (rs : List CompiledLibrary) (u v : Tree) (l : Label) (e : Option PlainCore) (f : Option FrameNo) (g h : PlainStage) → AreKept t → SteadyStage (passing t) g
       → RecordsHold (passing t) rs → ExpressionHolds (passing t) e → IsTrue (t.trees u) → used place rs u l e f g ≡ Ok (v, h) → IsTrue (t.trees v) × SteadyStage (passing t) h

@@ -2,7 +2,7 @@
 use Rattle.std.specs.Prelude.{◌≡◌, ◌≤◌, ℕ}
 use Rattle.sx_base.specs.declared.library.LibName.{LibName}
 use Rattle.sx_eval.specs.Setting.{PlainSetting}
-use Rattle.sx_eval.specs.State.{State, Outcome, done, faulted, unfit}
+use Rattle.sx_eval.specs.State.{WorldState, Outcome, done, faulted, unfit}
 use Rattle.sx_invariant_laws.specs.Holds.{ValueHolds, CellsHold, CodesHold, GlobalsHold}
 use Rattle.sx_invariant_laws.specs.Invariant.{Invariant}
 
@@ -12,7 +12,7 @@ pub record SettingHolds (I : Invariant) (w : PlainSetting) : Type 0 where
   pub globals : GlobalsHold I w.globals
 
 -- No name that was taken is free again, and in the cells holds what holds before the next is taken.
-pub record StateHolds (own : LibName) (I : ℕ → Invariant) (m : ℕ) (s : State) : Type 0 where
+pub record StateHolds (own : LibName) (I : ℕ → Invariant) (m : ℕ) (s : WorldState) : Type 0 where
   pub up : m ≤ s.names.number
   pub library : s.names.library ≡ own
   pub cells : CellsHold (I s.names.number) s.cells

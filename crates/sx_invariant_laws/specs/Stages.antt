@@ -7,7 +7,7 @@ use Rattle.sx_base.specs.declared.name.Mark.{Mark}
 use Rattle.sx_frames.specs.Rows.{Row}
 use Rattle.sx_frames.specs.Scope.{Scope}
 use Rattle.sx_core.specs.Core.{PlainCore}
-use Rattle.sx_core.specs.declared.record.LibRecord.{LibRecord}
+use Rattle.sx_core.specs.declared.record.CompiledLibrary.{CompiledLibrary}
 use Rattle.sx_value.specs.Cells.{Each}
 use Rattle.sx_stage.specs.Stage.{PlainStage}
 use Rattle.sx_stage.specs.declared.keyword.Keyword.{Keyword}
@@ -37,8 +37,8 @@ module _ (I : Invariant) where
   KeywordsHold ks = Each (λ (k : Label × Keyword). KeywordHolds k.1) ks
 
   -- the lines of libraries, which are evaluated on demand
-  abbrev pub RecordsHold : List LibRecord → Type 0
-  RecordsHold rs = Each (λ (r : LibRecord). LinesHold I r.run) rs
+  abbrev pub RecordsHold : List CompiledLibrary → Type 0
+  RecordsHold rs = Each (λ (r : CompiledLibrary). LinesHold I r.run) rs
 
 -- All that is kept on a stage, from when this was the next name.
 pub record StageHolds (own : LibName) (K : ℕ → Mark → Type 0) (I : ℕ → Invariant) (m : ℕ) (g : PlainStage) : Type 0 where

@@ -8,7 +8,7 @@ use Rattle.sx_tree.specs.declared.change.Change.{Change}
 use Rattle.sx_core.specs.Pattern.{PlainPattern}
 use Rattle.sx_value.specs.Cells.{Each}
 use Rattle.sx_prims.specs.Perform.{temporary}
-use Rattle.sx_eval.specs.State.{State, Outcome, done, faulted, unfit}
+use Rattle.sx_eval.specs.State.{WorldState, Outcome, done, faulted, unfit}
 use Rattle.sx_stage.specs.Stage.{PlainStage}
 use Rattle.sx_stage.specs.declared.keyword.Keyword.{Keyword}
 use Rattle.sx_invariant_laws.specs.Closed.{IsClosed}
@@ -25,7 +25,7 @@ pub record IsSteady (I : Invariant) : Type 1 where
   pub clauses : (p : PlainPattern) (A B : Type 0) → (A → B) → I.clauses p A → I.clauses p B
 
 module _ (I : Invariant) where
-  abbrev pub SteadyState : State → Type 0
+  abbrev pub SteadyState : WorldState → Type 0
   SteadyState s = CellsHold I s.cells
 
   -- a value and the cells then

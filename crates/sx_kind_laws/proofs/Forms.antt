@@ -10,7 +10,7 @@ use Rattle.sx_import.specs.declared.set.NameAt.{NameAt}
 use Rattle.sx_forms.specs.Export.{Exports, export_spec, add_by, add_export, exported}
 use Rattle.sx_forms.specs.Form.{form_of, not_library, bad_form, or_fault, import_specs, export_specs, library_with, library_of, library_parts, library_in, program_of}
 use Rattle.sx_forms.specs.Name.{named}
-use Rattle.sx_forms.specs.Set.{place_of, import_spec}
+use Rattle.sx_forms.specs.Set.{datum_place, import_spec}
 use Rattle.sx_forms.specs.declared.export.Export.{Export}
 use Rattle.sx_forms.specs.declared.name.VersionedName.{VersionedName}
 use Rattle.sx_forms.specs.declared.set.Import.{Import}
@@ -50,7 +50,7 @@ parts : (file : List ℕ) (f : Fault) (name : PlainDatum) (n : Option VersionedN
 parts file f name None es is h = h
 parts file f name (Some n) None is h = h
 parts file f name (Some n) (Some es) None h = h
-parts file f name (Some n) (Some es) (Some is) h = library file (place_of file name) es is n
+parts file f name (Some n) (Some es) (Some is) h = library file (datum_place file name) es is n
 
 inside : (file : List ℕ) (f : Fault) (ds : List PlainDatum) → IsOfForms f.kind → Tells IsOfForms (library_in file f ds)
 inside file f [] h = h
@@ -69,4 +69,4 @@ program file place is = f-then (import_specs file [] is) _ (specs file [] is) (�
 
 pub programs-tell : ProgramsTell
 programs-tell file [] = tt
-programs-tell file (d ∷ ds) = or-at-fault (not_library file (d ∷ ds)) (form_of (codes "import") d) (program_of file (place_of file d)) tt (λ is. program file (place_of file d) is)
+programs-tell file (d ∷ ds) = or-at-fault (not_library file (d ∷ ds)) (form_of (codes "import") d) (program_of file (datum_place file d)) tt (λ is. program file (datum_place file d) is)

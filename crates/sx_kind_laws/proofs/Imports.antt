@@ -9,8 +9,8 @@ use Rattle.sx_import.specs.Names.{Labelled, same_label, join_by, join_one, joine
 use Rattle.sx_import.specs.Table.{value_of}
 use Rattle.sx_import.specs.Turns.{turns}
 use Rattle.sx_import.specs.declared.set.NameAt.{NameAt}
-use Rattle.sx_import.specs.declared.set.Step.{Step}
-use Rattle.sx_import.specs.declared.set.Step.TheVariants.{Only, Except, Prefix, Rename}
+use Rattle.sx_import.specs.declared.set.ImportStep.{ImportStep}
+use Rattle.sx_import.specs.declared.set.ImportStep.TheVariants.{Only, Except, Prefix, Rename}
 use Rattle.sx_kind_laws.specs.Kinds.{IsOfImports, Tells}
 use Rattle.sx_kind_laws.specs.Laws.{ImportsTell, JoinsTell}
 use Rattle.sx_kind_laws.proofs.Tells.{tells-if, tells-then, tells-turns}
@@ -32,7 +32,7 @@ needs names ids x h = by (find (λ id. not (has_name names id.name)) ids)
     by None = h
     by (Some id) = tt
 
-step : (span : Span) (names : Labelled) (s : Step) → Tells IsOfImports (step_names span names s)
+step : (span : Span) (names : Labelled) (s : ImportStep) → Tells IsOfImports (step_names span names s)
 step span names (Only ids) = needs names ids (Ok (only ids names)) tt
 step span names (Except ids) = needs names ids (Ok (except ids names)) tt
 step span names (Prefix symbol) = tt

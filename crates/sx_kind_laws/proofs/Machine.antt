@@ -13,12 +13,12 @@ use Rattle.sx_lexer.specs.declared.token.Token.{Token}
 use Rattle.sx_lexer.specs.declared.token.Token.TheVariants as t
 use Rattle.sx_machine.specs.declared.extent.Extent.{Extent}
 use Rattle.sx_machine.specs.declared.extent.Misplaced.{Misplaced}
-use Rattle.sx_machine.specs.declared.partial.Tail.{Tail}
-use Rattle.sx_machine.specs.declared.partial.Tail.TheVariants as tail
-use Rattle.sx_machine.specs.declared.partial.Parts.{Parts}
-use Rattle.sx_machine.specs.declared.partial.Parts.TheVariants as parts
+use Rattle.sx_machine.specs.declared.partial.OpenTail.{OpenTail}
+use Rattle.sx_machine.specs.declared.partial.OpenTail.TheVariants as tail
+use Rattle.sx_machine.specs.declared.partial.OpenParts.{OpenParts}
+use Rattle.sx_machine.specs.declared.partial.OpenParts.TheVariants as parts
 use Rattle.sx_machine.specs.declared.partial.Partial.{Partial}
-use Rattle.sx_machine.specs.declared.partial.State.{State}
+use Rattle.sx_machine.specs.declared.partial.ReaderState.{ReaderState}
 use Rattle.sx_machine.specs.Extent.{span_at, fault_at, through}
 use Rattle.sx_machine.specs.Partial.{on_parts, room_in, misplaced_by, misplaced_in, misplaced}
 use Rattle.sx_machine.specs.Form.{joined, abbreviated, byte_of}
@@ -29,7 +29,7 @@ use Rattle.sx_kind_laws.proofs.Gaps.{r-if, r-then}
 module _ (file : List ℕ) where
   -- ---- a datum is complete
 
-  in-list : (b : Bracket) (ds : List PlainDatum) (e : Tail) (d : PlainDatum) → Tells IsOfReading (list_with file b ds e d)
+  in-list : (b : Bracket) (ds : List PlainDatum) (e : OpenTail) (d : PlainDatum) → Tells IsOfReading (list_with file b ds e d)
   in-list b ds tail.Absent d = tt
   in-list b ds (tail.Dotted dot) d = tt
   in-list b ds (tail.Given dot e) d = tt
@@ -42,7 +42,7 @@ module _ (file : List ℕ) where
   delivers [] ds d at = tt
   delivers (f ∷ fs) ds d at = by f.parts (λ k. delivers fs ds (abbreviated file k f.opening d (through f.opening at)) (through f.opening at))
     where
-      by : (p : Parts) → ((k : Abbreviation) → Tells IsOfReading (deliver file fs ds (abbreviated file k f.opening d (through f.opening at)) (through f.opening at)))
+      by : (p : OpenParts) → ((k : Abbreviation) → Tells IsOfReading (deliver file fs ds (abbreviated file k f.opening d (through f.opening at)) (through f.opening at)))
           → Tells IsOfReading (on_parts p
           (λ b items tail. list_with file b items tail d >>= λ q. Ok (state (with_parts f q ∷ fs) ds))
           (λ items. Ok (state (with_parts f (parts.Vector (items ++ d ∷ [])) ∷ fs) ds))
@@ -57,12 +57,12 @@ module _ (file : List ℕ) where
 
   -- ---- a close
 
-  last : (e : Tail) → Tells IsOfReading (tail_of file e)
+  last : (e : OpenTail) → Tells IsOfReading (tail_of file e)
   last tail.Absent = tt
   last (tail.Dotted dot) = tt
   last (tail.Given dot e) = tt
 
-  ends : (p : Parts) (b : Bracket) (at all : Extent) → Tells IsOfReading (ended file p b at all)
+  ends : (p : OpenParts) (b : Bracket) (at all : Extent) → Tells IsOfReading (ended file p b at all)
   ends (parts.List c ds e) b at all =
       r-then (tail_of file e) (λ z. if same_bracket b c then Ok (joined (span_at file all) ds z) else Err (fault_at file fault.StrayClose at)) (last e) (λ z. r-if (same_bracket b c) _ _ tt tt)
   ends (parts.Vector ds) b at all = r-if (same_bracket b bracket.Round) _ _ tt tt
@@ -77,7 +77,7 @@ module _ (file : List ℕ) where
 
   -- ---- an opening
 
-  nests : (nesting : ℕ) (s : State) (p : Parts) (at : Extent) → Tells IsOfReading (nested file nesting s p at)
+  nests : (nesting : ℕ) (s : ReaderState) (p : OpenParts) (at : Extent) → Tells IsOfReading (nested file nesting s p at)
   nests nesting s p at = r-if (room_in nesting s.stack == 0) _ _ tt tt
 
   -- what is wrong with a place is of these kinds
@@ -85,12 +85,12 @@ module _ (file : List ℕ) where
   Wrong None = Unit {0}
   Wrong (Some w) = IsOfReading w.kind
 
-  wrong-behind : (e : Tail) → Wrong (misplaced_by e)
+  wrong-behind : (e : OpenTail) → Wrong (misplaced_by e)
   wrong-behind tail.Absent = tt
   wrong-behind (tail.Dotted dot) = tt
   wrong-behind (tail.Given dot e) = tt
 
-  wrong-in : (p : Parts) (at : Extent) → Wrong (misplaced_in p at)
+  wrong-in : (p : OpenParts) (at : Extent) → Wrong (misplaced_in p at)
   wrong-in (parts.List b ds e) at = wrong-behind e
   wrong-in (parts.Vector ds) at = tt
   wrong-in (parts.Bytes ns) at = tt
@@ -105,15 +105,15 @@ module _ (file : List ℕ) where
   or-else None r h k = k
   or-else (Some w) r h k = h
 
-  opens : (nesting : ℕ) (s : State) (p : Parts) (at : Extent) → Tells IsOfReading (opened file nesting s p at)
+  opens : (nesting : ℕ) (s : ReaderState) (p : OpenParts) (at : Extent) → Tells IsOfReading (opened file nesting s p at)
   opens nesting s p at = or-else (misplaced s.stack at) (nested file nesting s p at) (wrong s.stack at) (nests nesting s p at)
 
-  opens-bytes : (nesting : ℕ) (s : State) (at : Extent) → Tells IsOfReading (opened_bytes file nesting s at)
+  opens-bytes : (nesting : ℕ) (s : ReaderState) (at : Extent) → Tells IsOfReading (opened_bytes file nesting s at)
   opens-bytes nesting s at = or-else (misplaced s.stack at) (Ok (state (record { opening = at; room = room_in nesting s.stack; parts = parts.Bytes [] } ∷ s.stack) s.done)) (wrong s.stack at) tt
 
   -- ---- a dot
 
-  dot-behind : (ds : List PlainDatum) (e : Tail) (at : Extent) → Tells IsOfReading (dot_in file ds e at)
+  dot-behind : (ds : List PlainDatum) (e : OpenTail) (at : Extent) → Tells IsOfReading (dot_in file ds e at)
   dot-behind ds tail.Absent at = r-if (length ds == 0) _ _ tt tt
   dot-behind ds (tail.Dotted dot) at = tt
   dot-behind ds (tail.Given dot e) at = tt
@@ -122,7 +122,7 @@ module _ (file : List ℕ) where
   dots [] ds at = tt
   dots (f ∷ fs) ds at = by f.parts
     where
-      by : (p : Parts)
+      by : (p : OpenParts)
           → Tells IsOfReading (on_parts p
           (λ b items tail. dot_in file items tail at >>= λ u. Ok (state (with_parts f (parts.List b items u) ∷ fs) ds))
           (λ items. Err (fault_at file fault.BadDot at))
@@ -137,7 +137,7 @@ module _ (file : List ℕ) where
 
   -- ---- each token
 
-  token : (nesting : ℕ) (s : State) (x : Token) (at : Extent) → Tells IsOfReading (step_by file nesting s x at)
+  token : (nesting : ℕ) (s : ReaderState) (x : Token) (at : Extent) → Tells IsOfReading (step_by file nesting s x at)
   token nesting s (t.Open b) at = opens nesting s (parts.List b [] tail.Absent) at
   token nesting s (t.Close b) at = closes s.stack s.done b at
   token nesting s t.OpenVector at = opens nesting s (parts.Vector []) at
@@ -148,7 +148,7 @@ module _ (file : List ℕ) where
   token nesting s (t.Atom c) at = delivers s.stack s.done (atom (span_at file at) c) at
   token nesting s (t.Symbol x) at = delivers s.stack s.done (symbol (span_at file at) x) at
 
-  pub tells-step : (nesting : ℕ) (s : State) (l : Lexeme) → Tells IsOfReading (step file nesting s l)
+  pub tells-step : (nesting : ℕ) (s : ReaderState) (l : Lexeme) → Tells IsOfReading (step file nesting s l)
   tells-step nesting s l = token nesting s l.token (extent_of l)
 
   pub tells-finish : (fs : List Partial) (ds : List PlainDatum) → Tells IsOfReading (finish file fs ds)

@@ -5,7 +5,7 @@ use Rattle.sx_lexer.specs.Start.{start_of}
 use Rattle.sx_lexer.specs.Tokens.{next_lexeme}
 use Rattle.sx_lexer.specs.declared.token.Lexeme.{Lexeme}
 use Rattle.sx_machine.specs.Step.{state, step}
-use Rattle.sx_machine.specs.declared.partial.State.{State}
+use Rattle.sx_machine.specs.declared.partial.ReaderState.{ReaderState}
 use Rattle.sx_reader.specs.Lexemes.{Lexed, lexed_on, lexed_from, lexed_behind, lexed}
 use Rattle.sx_reader.specs.Read.{ended, run, data_of}
 use Rattle.sx_kind_laws.specs.Kinds.{IsOfReading, Tells}
@@ -37,11 +37,11 @@ all-lexemes file bytes = by (start_of file bytes) (tells-start file bytes)
     by (Ok at) h = lexemes (next_lexeme file bytes) (tells-next file bytes) (suc (length bytes)) at
     by (Err f) h = h
 
-ends : (file : List ℕ) (s : State) (f : Option Fault) → Behind f → Tells IsOfReading (ended file s f)
+ends : (file : List ℕ) (s : ReaderState) (f : Option Fault) → Behind f → Tells IsOfReading (ended file s f)
 ends file s None h = tells-finish file s.stack s.done
 ends file s (Some f) h = h
 
-runs : (file : List ℕ) (nesting : ℕ) (s : State) (ls : List Lexeme) (f : Option Fault) → Behind f → Tells IsOfReading (run file nesting s ls f)
+runs : (file : List ℕ) (nesting : ℕ) (s : ReaderState) (ls : List Lexeme) (f : Option Fault) → Behind f → Tells IsOfReading (run file nesting s ls f)
 unfolding run
 runs file nesting s [] f h = ends file s f h
 runs file nesting s (l ∷ ls) f h = r-then (step file nesting s l) (λ next. run file nesting next ls f) (tells-step file nesting s l) (λ next. runs file nesting next ls f h)

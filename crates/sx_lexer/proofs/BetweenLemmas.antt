@@ -9,22 +9,22 @@ use Rattle.bstr.specs.Utf8.{Decoded, decoded}
 use Rattle.bstr.proofs.lemmas.PieceLemmas.{pieces-step, pieces-nil}
 use Rattle.sx_base.proofs.Chars.{decoded-some}
 use Rattle.sx_lexer.specs.Gap.{rest_of_line, comment_from, atmosphere_end, is_char}
-use Rattle.sx_lexer.specs.Between.{ends_comment, Line, Block, Atmosphere, GapsAre, no_gap, whitespace_first, opens, closes}
+use Rattle.sx_lexer.specs.Between.{ends_comment, CommentLine, BlockComment, Atmosphere, GapsAre, no_gap, whitespace_first, opens, closes}
 use Rattle.sx_lexer.specs.declared.gap.Until.TheVariants as until
 use Rattle.sx_lexer.proofs.RowLemmas.{StepsOver, row_is}
 use Rattle.sx_spelling.specs.Source.{characters, piece}
 use Rattle.sx_spelling.specs.Whitespace.{is_whitespace, is_delimited, whitespace_end}
 
 abbrev LineTo : ℕ → ℕ → List Decoded → Type 0
-LineTo at to text = (n : ℕ) × (to ≡ at + n) × Line text n
+LineTo at to text = (n : ℕ) × (to ≡ at + n) × CommentLine text n
 
 line_test : (file : List ℕ) (c size : ℕ) (ps : List Decoded) (at to : ℕ) (t : Bool) → ends_comment c ≡ t
     → (rest_of_line file until.LineOrParagraphEnd (at + size) ps ≡ Ok to → LineTo (at + size) to ps)
     → cond t (Ok at) (rest_of_line file until.LineOrParagraphEnd (at + size) ps) ≡ Ok to → LineTo at to (piece (Some c) size ∷ ps)
-line_test file c size ps at to true ends further e = (0, grind arith, Line.line_end c size ps ends)
+line_test file c size ps at to true ends further e = (0, grind arith, CommentLine.line_end c size ps ends)
 line_test file c size ps at to false ends further e =
     let r = further e in
-    (size + r.0, omega (arith, r.1), Line.char c size r.0 ps ends r.2)
+    (size + r.0, omega (arith, r.1), CommentLine.char c size r.0 ps ends r.2)
 
 line_char : (file : List ℕ) (char : Option ℕ) (size : ℕ) (ps : List Decoded) (at to : ℕ)
     → (rest_of_line file until.LineOrParagraphEnd (at + size) ps ≡ Ok to → LineTo (at + size) to ps)
@@ -34,16 +34,16 @@ line_char file (Some c) size ps at to further e = line_test file c size ps at to
 
 -- a line comment's text goes up to where the definition says
 pub line_sound : (file : List ℕ) (text : List Decoded) (at to : ℕ) → rest_of_line file until.LineOrParagraphEnd at text ≡ Ok to → LineTo at to text
-line_sound file [] at to e = (0, grind arith, Line.source_end)
+line_sound file [] at to e = (0, grind arith, CommentLine.source_end)
 line_sound file (p ∷ ps) at to e = line_char file p.char p.size ps at to (line_sound file ps (at + p.size) to) e
 
-pub line_complete : (file : List ℕ) (text : List Decoded) (at n : ℕ) → Line text n → rest_of_line file until.LineOrParagraphEnd at text ≡ Ok (at + n)
-line_complete file _ at _ Line.source_end = grind arith
-line_complete file _ at _ (Line.line_end c size rest ends) = rw ends (grind arith)
-line_complete file _ at _ (Line.char c size n rest goes more) = rw goes (line_complete file rest (at + size) n more ∙ ap Ok (omega arith))
+pub line_complete : (file : List ℕ) (text : List Decoded) (at n : ℕ) → CommentLine text n → rest_of_line file until.LineOrParagraphEnd at text ≡ Ok (at + n)
+line_complete file _ at _ CommentLine.source_end = grind arith
+line_complete file _ at _ (CommentLine.line_end c size rest ends) = rw ends (grind arith)
+line_complete file _ at _ (CommentLine.char c size n rest goes more) = rw goes (line_complete file rest (at + size) n more ∙ ap Ok (omega arith))
 
 abbrev BlockTo : ℕ → ℕ → ℕ → List Decoded → Type 0
-BlockTo depth at to text = (n : ℕ) × (to ≡ at + n) × Block depth text n
+BlockTo depth at to text = (n : ℕ) × (to ≡ at + n) × BlockComment depth text n
 
 module _ (file : List ℕ) where
   abbrev Sound : List Decoded → Type 0
@@ -53,25 +53,25 @@ module _ (file : List ℕ) where
       → length os == 1 ≡ t → Sound rest
       → cond t (Ok (at + p.size + q.size)) (comment_from file (take (length os - 1) os) None (at + p.size + q.size) rest) ≡ Ok to
       → BlockTo (suc depth) at to (p ∷ q ∷ rest)
-  block_close os zero at to p q rest true len pair one further e = (p.size + q.size + 0, grind arith, Block.close 0 0 p q rest pair (Block.closed rest))
+  block_close os zero at to p q rest true len pair one further e = (p.size + q.size + 0, grind arith, BlockComment.close 0 0 p q rest pair (BlockComment.closed rest))
   block_close os (suc d) at to p q rest true len pair one further e = absurd (omega (arith, eqb-true (length os) 1 one))
   block_close os zero at to p q rest false len pair one further e = absurd (grind (arith, nat_tests))
   block_close os (suc d) at to p q rest false len pair one further e =
       let r = further (take (length os - 1) os) d (at + p.size + q.size) to (omega (arith, length-take (length os - 1) os)) e in
-      (p.size + q.size + r.0, omega (arith, r.1), Block.close (suc d) r.0 p q rest pair r.2)
+      (p.size + q.size + r.0, omega (arith, r.1), BlockComment.close (suc d) r.0 p q rest pair r.2)
 
   block_open : (os : List ℕ) (depth at to o : ℕ) (p q : Decoded) (rest : List Decoded) → length os ≡ suc depth → opens (p ∷ q ∷ rest) ≡ true → Sound rest
       → comment_from file (os ++ o ∷ []) None (at + p.size + q.size) rest ≡ Ok to → BlockTo (suc depth) at to (p ∷ q ∷ rest)
   block_open os depth at to o p q rest len pair further e =
       let r = further (os ++ o ∷ []) (suc depth) (at + p.size + q.size) to (omega (arith, length-append os (o ∷ []))) e in
-      (p.size + q.size + r.0, omega (arith, r.1), Block.opening depth r.0 p q rest pair r.2)
+      (p.size + q.size + r.0, omega (arith, r.1), BlockComment.opening depth r.0 p q rest pair r.2)
 
   block_char : (os : List ℕ) (depth at to : ℕ) (p : Decoded) (rest : List Decoded) → length os ≡ suc depth → is_none p.char ≡ false
       → closes (p ∷ rest) ≡ false → opens (p ∷ rest) ≡ false → Sound rest
       → comment_from file os None (at + p.size) rest ≡ Ok to → BlockTo (suc depth) at to (p ∷ rest)
   block_char os depth at to p rest len some no_close no_open further e =
       let r = further os depth (at + p.size) to len e in
-      (p.size + r.0, omega (arith, r.1), Block.char depth r.0 p rest some no_close no_open r.2)
+      (p.size + r.0, omega (arith, r.1), BlockComment.char depth r.0 p rest some no_close no_open r.2)
 
   -- the second character, whose place in the definition is behind the first
   block_second : (os : List ℕ) (depth at to : ℕ) (p q : Decoded) (rest : List Decoded) (tc to_ : Bool) → length os ≡ suc depth → is_none p.char ≡ false → is_none q.char ≡ false
@@ -131,17 +131,17 @@ opens_alone : (p q : Decoded) (rest : List Decoded) → opens (p ∷ q ∷ rest)
 opens_alone p q rest h =
     not_both (is_char 0x7C p.char) (is_char 0x23 q.char) (other_char 0x23 0x7C p.char (λ e. cc) (left (is_char 0x23 p.char) (is_char 0x7C q.char) h))
 
-nothing_open : (depth n : ℕ) (text : List Decoded) → depth ≡ 0 → Block depth text n → n ≡ 0
-nothing_open _ _ text none (Block.closed _) = refl
-nothing_open _ _ _ none (Block.close depth n p q rest pair more) = absurd (omega arith)
-nothing_open _ _ _ none (Block.opening depth n p q rest pair more) = absurd (omega arith)
-nothing_open _ _ _ none (Block.char depth n p rest some c o more) = absurd (omega arith)
+nothing_open : (depth n : ℕ) (text : List Decoded) → depth ≡ 0 → BlockComment depth text n → n ≡ 0
+nothing_open _ _ text none (BlockComment.closed _) = refl
+nothing_open _ _ _ none (BlockComment.close depth n p q rest pair more) = absurd (omega arith)
+nothing_open _ _ _ none (BlockComment.opening depth n p q rest pair more) = absurd (omega arith)
+nothing_open _ _ _ none (BlockComment.char depth n p rest some c o more) = absurd (omega arith)
 
 module _ (file : List ℕ) where
   abbrev Complete : ℕ → List Decoded → ℕ → Type 0
   Complete depth text n = (os : List ℕ) (at : ℕ) → length os ≡ depth → 0 < depth → comment_from file os None at text ≡ Ok (at + n)
 
-  close_complete : (depth n : ℕ) (p q : Decoded) (rest : List Decoded) (os : List ℕ) (at : ℕ) → closes (p ∷ q ∷ rest) ≡ true → Block depth rest n → Complete depth rest n
+  close_complete : (depth n : ℕ) (p q : Decoded) (rest : List Decoded) (os : List ℕ) (at : ℕ) → closes (p ∷ q ∷ rest) ≡ true → BlockComment depth rest n → Complete depth rest n
       → length os ≡ suc depth → comment_from file os None at (p ∷ q ∷ rest) ≡ Ok (at + (p.size + q.size + n))
   close_complete zero n p q rest os at pair more further len =
       let p_some = some_of 0x7C p.char (left (is_char 0x7C p.char) (is_char 0x23 q.char) pair) in
@@ -171,11 +171,11 @@ module _ (file : List ℕ) where
   char_complete depth n p (q ∷ rest) os at some c o further len =
       rw (some, c, o) (further os (at + p.size) len (omega arith) ∙ ap Ok (omega arith))
 
-  pub block_complete : (depth n : ℕ) (text : List Decoded) → Block depth text n → Complete depth text n
-  block_complete _ _ text (Block.closed _) os at len some = absurd (omega arith)
-  block_complete _ _ _ (Block.close depth n p q rest pair more) os at len some = close_complete depth n p q rest os at pair more (block_complete depth n rest more) len
-  block_complete _ _ _ (Block.opening depth n p q rest pair more) os at len some = open_complete depth n p q rest os at pair (block_complete (suc (suc depth)) n rest more) len
-  block_complete _ _ _ (Block.char depth n p rest some_p c o more) os at len some = char_complete depth n p rest os at some_p c o (block_complete (suc depth) n rest more) len
+  pub block_complete : (depth n : ℕ) (text : List Decoded) → BlockComment depth text n → Complete depth text n
+  block_complete _ _ text (BlockComment.closed _) os at len some = absurd (omega arith)
+  block_complete _ _ _ (BlockComment.close depth n p q rest pair more) os at len some = close_complete depth n p q rest os at pair more (block_complete depth n rest more) len
+  block_complete _ _ _ (BlockComment.opening depth n p q rest pair more) os at len some = open_complete depth n p q rest os at pair (block_complete (suc (suc depth)) n rest more) len
+  block_complete _ _ _ (BlockComment.char depth n p rest some_p c o more) os at len some = char_complete depth n p rest os at some_p c o (block_complete (suc depth) n rest more) len
 
 -- the first character, by its first byte
 pub some_bytes : (bytes : List ℕ) (p : Decoded) (ps : List Decoded) → characters bytes ≡ p ∷ ps → 0 < length bytes
@@ -241,11 +241,11 @@ whitespace_steps file bytes at c size rest e white =
     let no_mark = not_true (starts_with nat_eq bytes (codes "#!r6rs")) (λ h. let same = first_ascii bytes c size 0x23 rest e (starts_mark bytes h).0 refl in cc (sym white, ap is_whitespace same)) in
     rw (no_line, no_block, no_mark, e, white) refl
 
-line_steps : (file bytes : List ℕ) (at n : ℕ) → slice_index bytes 0 ≡ 0x3B → Line (characters (drop 1 bytes)) n → Steps file bytes at (1 + n)
+line_steps : (file bytes : List ℕ) (at n : ℕ) → slice_index bytes 0 ≡ 0x3B → CommentLine (characters (drop 1 bytes)) n → Steps file bytes at (1 + n)
 unfolding atmosphere_end
 line_steps file bytes at n h line = rw (equal (slice_index bytes 0) 0x3B h) (line_complete file (characters (drop 1 bytes)) (at + 1) n line ∙ ap Ok (omega arith))
 
-block_steps : (file bytes : List ℕ) (at n : ℕ) → starts_with nat_eq bytes (codes "#|") ≡ true → Block 1 (characters (drop 2 bytes)) n → Steps file bytes at (2 + n)
+block_steps : (file bytes : List ℕ) (at n : ℕ) → starts_with nat_eq bytes (codes "#|") ≡ true → BlockComment 1 (characters (drop 2 bytes)) n → Steps file bytes at (2 + n)
 unfolding atmosphere_end
 block_steps file bytes at n h block =
     let no_line = not_equal (slice_index bytes 0) 0x3B (λ e. omega (arith, (starts_block bytes h).0)) in

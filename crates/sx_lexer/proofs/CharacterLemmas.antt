@@ -7,7 +7,7 @@ use Rattle.bstr.specs.Utf8.{Decoded}
 use Rattle.sx_base.specs.Gives.{◌>>=◌}
 use Rattle.sx_base.specs.declared.fault.Fault.{Fault}
 use Rattle.sx_base.specs.declared.fault.FaultKind.TheVariants as kind
-use Rattle.sx_lexer.specs.Grammar.{IsCharacter, SpellsCharacter, Run}
+use Rattle.sx_lexer.specs.Grammar.{IsCharacter, SpellsCharacter, CharacterRun}
 use Rattle.sx_lexer.specs.Characters.{named, scalar_or_fault, hex_character, character_but, long_character, character_to, lexeme_of_char, character_end, character_with, character_behind, character_at}
 use Rattle.sx_lexer.specs.declared.token.Lexeme.{Lexeme}
 use Rattle.sx_lexer.proofs.BetweenLemmas.{left, right, not_equal, equal}
@@ -61,7 +61,7 @@ module _ (file : List ℕ) (bytes : List ℕ) (from : ℕ) where
   end_is : (size n to : ℕ) → to ≡ from + 2 + size + n → to - from ≡ 2 + size + n
   end_is size n to e = omega (arith, e)
 
-  one_or_long : (c size n to d : ℕ) (ps : List Decoded) (t : Bool) → characters (drop 2 bytes) ≡ piece (Some c) size ∷ ps → Run runs_on (characters (drop (2 + size) bytes)) n
+  one_or_long : (c size n to d : ℕ) (ps : List Decoded) (t : Bool) → characters (drop 2 bytes) ≡ piece (Some c) size ∷ ps → CharacterRun runs_on (characters (drop (2 + size) bytes)) n
       → to ≡ from + 2 + size + n → to == from + 2 + size ≡ t → is_delimited (characters (drop (to - from) bytes)) ≡ true
       → cond t (Ok c) (long_character file from to (drop 2 (take (to - from) bytes))) ≡ Ok d → (m : ℕ) × (to ≡ from + m) × IsCharacter bytes m d
   one_or_long c size n to d ps true first run is_to one delimited given =
@@ -74,14 +74,14 @@ module _ (file : List ℕ) (bytes : List ℕ) (from : ℕ) where
       let size_is : to - from ≡ 2 + size + n = end_is size n to is_to in
       (2 + size + n, omega (arith, is_to), IsCharacter.long bytes c size n d ps first run some (rw size_is at delimited) (spells_sound file from to (drop 2 (take (2 + size + n) bytes)) d (rw size_is at given)))
 
-  to_sound : (c size n to d : ℕ) (ps : List Decoded) (t : Bool) → characters (drop 2 bytes) ≡ piece (Some c) size ∷ ps → Run runs_on (characters (drop (2 + size) bytes)) n
+  to_sound : (c size n to d : ℕ) (ps : List Decoded) (t : Bool) → characters (drop 2 bytes) ≡ piece (Some c) size ∷ ps → CharacterRun runs_on (characters (drop (2 + size) bytes)) n
       → to ≡ from + 2 + size + n → is_delimited (characters (drop (to - from) bytes)) ≡ t
       → cond t (cond (to == from + 2 + size) (Ok c) (long_character file from to (drop 2 (take (to - from) bytes))))
       (Err (record { kind = kind.BadToken; span = record { file = file; from = from; to = to }; words = [] })) ≡ Ok d → (m : ℕ) × (to ≡ from + m) × IsCharacter bytes m d
   to_sound c size n to d ps true first run is_to delimited given = one_or_long c size n to d ps (to == from + 2 + size) first run is_to refl delimited given
   to_sound c size n to d ps false first run is_to delimited given = absurd (cc)
 
-  with_result : (c size n to : ℕ) (ps : List Decoded) (l : Lexeme) (r : Result ℕ Fault) → characters (drop 2 bytes) ≡ piece (Some c) size ∷ ps → Run runs_on (characters (drop (2 + size) bytes)) n
+  with_result : (c size n to : ℕ) (ps : List Decoded) (l : Lexeme) (r : Result ℕ Fault) → characters (drop 2 bytes) ≡ piece (Some c) size ∷ ps → CharacterRun runs_on (characters (drop (2 + size) bytes)) n
       → to ≡ from + 2 + size + n → character_to file bytes from c size to ≡ r → (r >>= λ d. Ok (lexeme_of_char from to d)) ≡ Ok l → CharacterIs l
   with_result c size n to ps l (Err f) first run is_to is given = absurd (cc)
   with_result c size n to ps l (Ok d) first run is_to is given =

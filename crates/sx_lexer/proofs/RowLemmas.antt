@@ -5,7 +5,7 @@ use Rattle.std.proofs.lemmas.Bool.Decides.{nat_tests}
 use Rattle.sx_base.specs.Gives.{◌>>=◌}
 use Rattle.sx_base.specs.declared.fault.Fault.{Fault}
 use Rattle.sx_lexer.specs.Repeat.{repeat, repeated}
-use Rattle.sx_lexer.specs.Row.{Row}
+use Rattle.sx_lexer.specs.Row.{PartRow}
 
 differ : (at n : ℕ) → 0 < n → (at + n) == at ≡ false
 differ at n h = grind (arith, nat_tests)
@@ -27,19 +27,19 @@ module _ (step : List ℕ → ℕ → Result ℕ Fault) (ends : List ℕ → Boo
     (stays : (bytes : List ℕ) (at : ℕ) → ends bytes ≡ true → step bytes at ≡ Ok at)
     (some : (bytes : List ℕ) (n : ℕ) → Part bytes n → (0 < n) × (0 < length bytes)) where
   abbrev RowTo : List ℕ → ℕ → ℕ → Type 0
-  RowTo bytes at to = (n : ℕ) × (to ≡ at + n) × Row ends Part bytes n
+  RowTo bytes at to = (n : ℕ) × (to ≡ at + n) × PartRow ends Part bytes n
 
   row_mid : (k : ℕ) (bytes : List ℕ) (at mid to : ℕ) → length bytes < suc k
       → ((rest : List ℕ) (here : ℕ) → length rest < k → repeated step k rest here ≡ Ok to → RowTo rest here to)
       → StepsOver ends Part bytes at mid → cond (mid == at) (Ok at) (repeated step k (drop (mid - at) bytes) mid) ≡ Ok to → RowTo bytes at to
   row_mid k bytes at mid to enough further (inl (same, none)) given =
       let e = rw (same, itself at) at given in
-      (0, (grind arith), Row.none bytes none)
+      (0, (grind arith), PartRow.none bytes none)
   row_mid k bytes at mid to enough further (inr (n, same, part)) given =
       let left = some bytes n part in
       let e = rw (same, differ at n left.0, behind at n) at given in
       let r = further (drop n bytes) (at + n) (omega (arith, left.0, left.1, length-drop n bytes)) e in
-      (n + r.0, omega (arith, r.1), Row.more bytes n r.0 part r.2)
+      (n + r.0, omega (arith, r.1), PartRow.more bytes n r.0 part r.2)
 
   row_step : (k : ℕ) (bytes : List ℕ) (at to : ℕ) (r : Result ℕ Fault) → length bytes < suc k
       → ((rest : List ℕ) (here : ℕ) → length rest < k → repeated step k rest here ≡ Ok to → RowTo rest here to)
@@ -67,13 +67,13 @@ module _ (step : List ℕ → ℕ → Result ℕ Fault) (ends : List ℕ → Boo
       rw (complete bytes at size part, differ at size left.0, behind at size)
       (further k (omega (arith, left.0, left.1, length-drop size bytes)) ∙ ap Ok (omega arith))
 
-  row_complete : (bytes : List ℕ) (n : ℕ) → Row ends Part bytes n → (k at : ℕ) → length bytes < k → repeated step k bytes at ≡ Ok (at + n)
-  row_complete _ _ (Row.none bytes none) k at enough = row_here bytes k at none ∙ ap Ok (omega arith)
-  row_complete _ _ (Row.more bytes size n part rest) k at enough =
+  row_complete : (bytes : List ℕ) (n : ℕ) → PartRow ends Part bytes n → (k at : ℕ) → length bytes < k → repeated step k bytes at ≡ Ok (at + n)
+  row_complete _ _ (PartRow.none bytes none) k at enough = row_here bytes k at none ∙ ap Ok (omega arith)
+  row_complete _ _ (PartRow.more bytes size n part rest) k at enough =
       row_further bytes size k at n enough part (λ j fewer. row_complete (drop size bytes) n rest j (at + size) fewer)
 
   -- repeating the step goes over exactly a row of parts
-  pub row_is : (bytes : List ℕ) (at to : ℕ) → (repeat step bytes at ≡ Ok to) ↔ ((n : ℕ) × (to ≡ at + n) × Row ends Part bytes n)
+  pub row_is : (bytes : List ℕ) (at to : ℕ) → (repeat step bytes at ≡ Ok to) ↔ ((n : ℕ) × (to ≡ at + n) × PartRow ends Part bytes n)
   row_is bytes at to = (
     λ e. row_sound (suc (length bytes)) bytes at to (omega arith) e,
     λ g. row_complete bytes g.0 g.2 (suc (length bytes)) at (omega arith) ∙ ap Ok (sym g.1),

@@ -8,10 +8,10 @@ use Rattle.sx_base.specs.Gives.{◌>>=◌}
 use Rattle.sx_base.specs.declared.atom.Atom.TheVariants as atom
 use Rattle.sx_base.specs.declared.fault.Fault.{Fault}
 use Rattle.sx_base.specs.declared.fault.FaultKind.TheVariants as kind
-use Rattle.sx_lexer.specs.Grammar.{IsToken, IsBare, Bare, Elements, sign_of, hash_sign_of, is_special, OneToken, LexemesAre, EndsAre}
+use Rattle.sx_lexer.specs.Grammar.{IsToken, IsBare, Bare, StringElements, sign_of, hash_sign_of, is_special, OneToken, LexemesAre, EndsAre}
 use Rattle.sx_lexer.specs.Between.{Gap}
 use Rattle.sx_lexer.specs.Gap.{gap_end}
-use Rattle.sx_lexer.specs.Row.{Row}
+use Rattle.sx_lexer.specs.Row.{PartRow}
 use Rattle.sx_lexer.specs.Tokens.{next_lexeme, lexeme_behind, lexeme_at, hash_at, word_at, marked_at, integer_in, unquoting, bare_at, bare_to, bare, bare_end, number, number_of, spelt_or_fault, identifier_or_else, is_dot, begins_number, lexeme, is_number_mark, radix, is_true, is_false}
 use Rattle.sx_lexer.specs.declared.token.Abbreviation.TheVariants as abbreviation
 use Rattle.sx_lexer.specs.declared.token.Bracket.TheVariants as bracket
@@ -280,7 +280,7 @@ module _ (file : List ℕ) (bytes : List ℕ) (from : ℕ) where
   string_first : slice_index bytes 0 ≡ 0x22 → lexeme_at file bytes from ≡ string_at file bytes from
   string_first first = rw first refl
 
-  string_token : (text : List ℕ) (n : ℕ) → slice_index bytes 0 ≡ 0x22 → Elements (drop 1 bytes) n text → lexeme_at file bytes from ≡ Ok (lexeme (token.Atom (atom.Str text)) from (from + 1 + n))
+  string_token : (text : List ℕ) (n : ℕ) → slice_index bytes 0 ≡ 0x22 → StringElements (drop 1 bytes) n text → lexeme_at file bytes from ≡ Ok (lexeme (token.Atom (atom.Str text)) from (from + 1 + n))
   string_token text n first elements = string_first first ∙ (string_is file from bytes (lexeme (token.Atom (atom.Str text)) from (from + 1 + n))).1 (n, text, refl, elements)
 
   hash_first : slice_index bytes 0 ≡ 0x23 → lexeme_at file bytes from ≡ hash_at file bytes from
@@ -413,8 +413,8 @@ no_sign [] t h = absurd (cc)
 no_sign (b ∷ bs) t h = omega arith
 
 row_some : (n : ℕ) (bytes : List ℕ) → Bare bytes n → 0 < n → 0 < length bytes
-row_some _ _ (Row.none bytes ends) some = absurd (omega arith)
-row_some _ _ (Row.more bytes size n part rest) some = (part_some [] kind.BadEscape 0 bytes size part).1
+row_some _ _ (PartRow.none bytes ends) some = absurd (omega arith)
+row_some _ _ (PartRow.more bytes size n part rest) some = (part_some [] kind.BadEscape 0 bytes size part).1
 
 token_some : (bytes : List ℕ) (n : ℕ) (t : Token) → IsToken bytes n t → 0 < length bytes
 token_some _ _ _ (IsToken.sign bytes t h) = no_sign bytes t h

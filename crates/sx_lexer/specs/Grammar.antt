@@ -6,7 +6,7 @@ use Rattle.sx_base.specs.Place.{line_end}
 use Rattle.sx_base.specs.declared.atom.Atom.TheVariants as atom
 use Rattle.sx_lexer.specs.Between.{Gap}
 use Rattle.sx_lexer.specs.Characters.{named}
-use Rattle.sx_lexer.specs.Row.{Row}
+use Rattle.sx_lexer.specs.Row.{PartRow}
 use Rattle.sx_lexer.specs.Strings.{simple_escape, char_text}
 use Rattle.sx_lexer.specs.Tokens.{is_number_mark, radix, is_true, is_false, is_dot, begins_number, next_lexeme}
 use Rattle.sx_lexer.specs.declared.token.Abbreviation.TheVariants as abbreviation
@@ -36,29 +36,29 @@ ends_bare bytes = not (slice_index bytes 0 == 0x5C) && not (runs_first (characte
 
 -- the characters of a bare token, which takes so many bytes
 abbrev pub Bare : List ℕ → ℕ → Type 0
-Bare = Row ends_bare BarePart
+Bare = PartRow ends_bare BarePart
 
 -- a run of the characters of a test, which takes so many bytes, as long as it can be
-pub data Run (test : Option ℕ → Bool) : List Decoded → ℕ → Type 0 where
-  source_end : Run test [] 0
-  stop : (p : Decoded) (rest : List Decoded) → test p.char ≡ false → Run test (p ∷ rest) 0
-  more : (n : ℕ) (p : Decoded) (rest : List Decoded) → test p.char ≡ true → Run test rest n → Run test (p ∷ rest) (p.size + n)
+pub data CharacterRun (test : Option ℕ → Bool) : List Decoded → ℕ → Type 0 where
+  source_end : CharacterRun test [] 0
+  stop : (p : Decoded) (rest : List Decoded) → test p.char ≡ false → CharacterRun test (p ∷ rest) 0
+  more : (n : ℕ) (p : Decoded) (rest : List Decoded) → test p.char ≡ true → CharacterRun test rest n → CharacterRun test (p ∷ rest) (p.size + n)
 
 -- an element of a string, what it stands for, if anything, and how many bytes it takes (R6RS 4.2.7)
-pub data Element : List ℕ → Option ℕ → ℕ → Type 0 where
-  char : (bytes : List ℕ) (c size : ℕ) (rest : List Decoded) → slice_index bytes 0 ≢ 0x5C → characters bytes ≡ piece (Some c) size ∷ rest → line_end bytes ≡ 0 → Element bytes (Some c) size
-  line : (bytes : List ℕ) → slice_index bytes 0 ≢ 0x5C → 0 < line_end bytes → Element bytes (Some 0x0A) (line_end bytes)
-  simple : (bytes : List ℕ) (c : ℕ) → slice_index bytes 0 ≡ 0x5C → simple_escape (slice_index bytes 1) ≡ Some c → Element bytes (Some c) 2
-  hex : (bytes : List ℕ) (l : Letter) → slice_index bytes 0 ≡ 0x5C → escape bytes ≡ Some l → Element bytes (Some l.char) l.size
+pub data StringElement : List ℕ → Option ℕ → ℕ → Type 0 where
+  char : (bytes : List ℕ) (c size : ℕ) (rest : List Decoded) → slice_index bytes 0 ≢ 0x5C → characters bytes ≡ piece (Some c) size ∷ rest → line_end bytes ≡ 0 → StringElement bytes (Some c) size
+  line : (bytes : List ℕ) → slice_index bytes 0 ≢ 0x5C → 0 < line_end bytes → StringElement bytes (Some 0x0A) (line_end bytes)
+  simple : (bytes : List ℕ) (c : ℕ) → slice_index bytes 0 ≡ 0x5C → simple_escape (slice_index bytes 1) ≡ Some c → StringElement bytes (Some c) 2
+  hex : (bytes : List ℕ) (l : Letter) → slice_index bytes 0 ≡ 0x5C → escape bytes ≡ Some l → StringElement bytes (Some l.char) l.size
   continued : (bytes rest : List ℕ) (before after c size : ℕ) (ps : List Decoded) → slice_index bytes 0 ≡ 0x5C → simple_escape (slice_index bytes 1) ≡ None → slice_index bytes 1 ≢ 0x78
-      → Run is_intraline_char (characters (drop 1 bytes)) before → rest ≡ drop (1 + before) bytes → 0 < line_end rest → characters rest ≡ piece (Some c) size ∷ ps
-      → Run is_intraline_char (characters (drop (line_end rest) rest)) after → Element bytes None (1 + before + line_end rest + after)
+      → CharacterRun is_intraline_char (characters (drop 1 bytes)) before → rest ≡ drop (1 + before) bytes → 0 < line_end rest → characters rest ≡ piece (Some c) size ∷ ps
+      → CharacterRun is_intraline_char (characters (drop (line_end rest) rest)) after → StringElement bytes None (1 + before + line_end rest + after)
 
 -- the elements of a string, with the closing quote, and the text that they stand for
-pub data Elements : List ℕ → ℕ → List ℕ → Type 0 where
-  close : (bytes : List ℕ) → slice_index bytes 0 ≡ 0x22 → Elements bytes 1 []
-  more : (bytes text : List ℕ) (char : Option ℕ) (size n : ℕ) → slice_index bytes 0 ≢ 0x22 → Element bytes char size → Elements (drop size bytes) n text
-      → Elements bytes (size + n) (char_text char ++ text)
+pub data StringElements : List ℕ → ℕ → List ℕ → Type 0 where
+  close : (bytes : List ℕ) → slice_index bytes 0 ≡ 0x22 → StringElements bytes 1 []
+  more : (bytes text : List ℕ) (char : Option ℕ) (size n : ℕ) → slice_index bytes 0 ≢ 0x22 → StringElement bytes char size → StringElements (drop size bytes) n text
+      → StringElements bytes (size + n) (char_text char ++ text)
 
 -- ( ) [ ] ' `
 abbrev pub sign_of : ℕ → Option Token
@@ -82,9 +82,9 @@ pub data SpellsCharacter : List ℕ → ℕ → Type 0 where
 
 -- bytes that begin with `#\` spell a character in so many bytes, before a delimiter
 pub data IsCharacter : List ℕ → ℕ → ℕ → Type 0 where
-  one : (bytes : List ℕ) (c size : ℕ) (ps : List Decoded) → characters (drop 2 bytes) ≡ piece (Some c) size ∷ ps → Run runs_on (characters (drop (2 + size) bytes)) 0
+  one : (bytes : List ℕ) (c size : ℕ) (ps : List Decoded) → characters (drop 2 bytes) ≡ piece (Some c) size ∷ ps → CharacterRun runs_on (characters (drop (2 + size) bytes)) 0
       → is_delimited (characters (drop (2 + size) bytes)) ≡ true → IsCharacter bytes (2 + size) c
-  long : (bytes : List ℕ) (c size n d : ℕ) (ps : List Decoded) → characters (drop 2 bytes) ≡ piece (Some c) size ∷ ps → Run runs_on (characters (drop (2 + size) bytes)) n → 0 < n
+  long : (bytes : List ℕ) (c size n d : ℕ) (ps : List Decoded) → characters (drop 2 bytes) ≡ piece (Some c) size ∷ ps → CharacterRun runs_on (characters (drop (2 + size) bytes)) n → 0 < n
       → is_delimited (characters (drop (2 + size + n) bytes)) ≡ true → SpellsCharacter (drop 2 (take (2 + size + n) bytes)) d → IsCharacter bytes (2 + size + n) d
 
 -- the token that a bare text spells: the dot, an identifier or a number (R6RS 4.2.4 and 4.2.8)
@@ -101,7 +101,7 @@ pub data IsToken : List ℕ → ℕ → Token → Type 0 where
   sign : (bytes : List ℕ) (t : Token) → sign_of (slice_index bytes 0) ≡ Some t → IsToken bytes 1 t
   unquote : (bytes : List ℕ) → slice_index bytes 0 ≡ 0x2C → slice_index bytes 1 ≢ 0x40 → IsToken bytes 1 (token.Abbreviation abbreviation.Unquote)
   unquote_splicing : (bytes : List ℕ) → slice_index bytes 0 ≡ 0x2C → slice_index bytes 1 ≡ 0x40 → IsToken bytes 2 (token.Abbreviation abbreviation.UnquoteSplicing)
-  string : (bytes text : List ℕ) (n : ℕ) → slice_index bytes 0 ≡ 0x22 → Elements (drop 1 bytes) n text → IsToken bytes (1 + n) (token.Atom (atom.Str text))
+  string : (bytes text : List ℕ) (n : ℕ) → slice_index bytes 0 ≡ 0x22 → StringElements (drop 1 bytes) n text → IsToken bytes (1 + n) (token.Atom (atom.Str text))
   hash_sign : (bytes : List ℕ) (t : Token) → slice_index bytes 0 ≡ 0x23 → hash_sign_of (slice_index bytes 1) ≡ Some t → IsToken bytes 2 t
   unsyntax : (bytes : List ℕ) → slice_index bytes 0 ≡ 0x23 → slice_index bytes 1 ≡ 0x2C → slice_index bytes 2 ≢ 0x40 → IsToken bytes 2 (token.Abbreviation abbreviation.Unsyntax)
   unsyntax_splicing : (bytes : List ℕ) → slice_index bytes 0 ≡ 0x23 → slice_index bytes 1 ≡ 0x2C → slice_index bytes 2 ≡ 0x40

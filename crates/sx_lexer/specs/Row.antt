@@ -2,6 +2,6 @@
 use Rattle.std.specs.Prelude.{◌≡◌, ℕ, ◌+◌, Bool, true, List, drop}
 
 -- a row of parts, which takes so many bytes; behind it comes what ends a row
-pub data Row (ends : List ℕ → Bool) (Part : List ℕ → ℕ → Type 0) : List ℕ → ℕ → Type 0 where
-  none : (bytes : List ℕ) → ends bytes ≡ true → Row ends Part bytes 0
-  more : (bytes : List ℕ) (size n : ℕ) → Part bytes size → Row ends Part (drop size bytes) n → Row ends Part bytes (size + n)
+pub data PartRow (ends : List ℕ → Bool) (Part : List ℕ → ℕ → Type 0) : List ℕ → ℕ → Type 0 where
+  none : (bytes : List ℕ) → ends bytes ≡ true → PartRow ends Part bytes 0
+  more : (bytes : List ℕ) (size n : ℕ) → Part bytes size → PartRow ends Part (drop size bytes) n → PartRow ends Part bytes (size + n)

@@ -6,7 +6,7 @@ ghost use Rattle.sx_base.specs.Gives.{Gives};
 ghost use Rattle.sx_lexer.specs.Characters.{named, hex_character, long_character, character_to, character_with, character_end, character_at};
 
 use crate::faults::refuse;
-use crate::text::Text;
+use crate::text::TokenText;
 use crate::token::{Lexeme, Token};
 use std::alloc::Global;
 use sx_base::atom::Atom;
@@ -14,7 +14,7 @@ use sx_base::fault::{FaultKind, Stop};
 use sx_base::symbol::Symbol;
 use sx_spelling::escapes::scalar_of;
 use sx_spelling::numbers::is_digits;
-use sx_spelling::source::{Piece, behind, byte_at, front};
+use sx_spelling::source::{SourcePiece, behind, byte_at, front};
 use sx_spelling::whitespace::{is_delimited, run_end};
 
 /// The character whose `#\` is the first of the bytes.
@@ -40,7 +40,7 @@ fn character_with(
     file: &Symbol,
     bytes: &[u8],
     from: u32,
-    first: Piece,
+    first: SourcePiece,
 ) -> Result<Lexeme, Stop>
     requires first { (0 < first.size) × (2 + first.size ≤ length bytes.now) }
     requires fits { from + length bytes.now < 2 ^ 32 }
@@ -51,7 +51,7 @@ fn character_with(
         return refuse(alloc, file, FaultKind::BadUtf8, from + 2, from + 3);
     };
     let to = character_end(bytes, from, first.size);
-    let text = Text { bytes, from, to };
+    let text = TokenText { bytes, from, to };
     let c = character_to(alloc, file, &text, c, first.size)?;
     Ok(Lexeme {
         token: Token::Atom(Atom::Char(c)),
@@ -73,7 +73,7 @@ fn character_end(bytes: &[u8], from: u32, size: usize) -> u32
 fn character_to(
     alloc: Global,
     file: &Symbol,
-    text: &Text,
+    text: &TokenText,
     c: char,
     size: usize,
 ) -> Result<char, Stop>

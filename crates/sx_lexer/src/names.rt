@@ -16,21 +16,21 @@ use sx_base::symbol::Symbol;
 /// The symbols that a source has had so far. A symbol that comes again is another owner of the first one's text, so a
 /// source holds each of its names once. What is read doesn't depend on them, and contracts see nothing of them.
 #[derive(Drop)]
-pub struct Names {
+pub struct SymbolTable {
     symbols: IndexSet<Symbol>,
 }
 
-impl Model for Names {
+impl Model for SymbolTable {
     ghost Value = { Unit {0} };
 
     ghost view = { λ n. tt };
 }
 
-impl Names {
+impl SymbolTable {
     /// No symbols. It takes no memory.
-    pub fn new(alloc: Global) -> Names {
+    pub fn new(alloc: Global) -> SymbolTable {
         let symbols = IndexSet::new(alloc);
-        Names { symbols }
+        SymbolTable { symbols }
     }
 
     /// Where the names take memory.

@@ -18,7 +18,7 @@ use sx_base::place::line_end;
 use sx_base::symbol::Symbol;
 use sx_spelling::escapes::escape;
 use sx_spelling::numbers::digits_size;
-use sx_spelling::source::{Piece, behind, byte_at, front};
+use sx_spelling::source::{SourcePiece, behind, byte_at, front};
 use sx_spelling::whitespace::blanks_end;
 
 /// The string that is read: the file that spans and faults name, and the offset of the opening quote.
@@ -30,7 +30,7 @@ struct StringContext<'a> {
 }
 
 impl<'a> StringContext<'a> {
-    fn refuse(&self, kind: FaultKind, from: u32, to: u32) -> Result<Piece, Stop>
+    fn refuse(&self, kind: FaultKind, from: u32, to: u32) -> Result<SourcePiece, Stop>
         ensures { Gives (λ p. piece p.char p.size) result (refused self.now.file.now kind from to) }
     {
         refuse(self.alloc, self.file, kind, from, to)
@@ -86,7 +86,7 @@ fn push_char(text: &mut String, char: Option<char>) -> Result<(), AllocError>
 /// What the string goes on with at `at`: the character that it stands for, if any, and how many
 /// bytes it takes.
 #[tactic(auto, unfolding(crate::specs::Strings::string_part))]
-fn string_part(context: &StringContext, bytes: &[u8], at: u32) -> Result<Piece, Stop>
+fn string_part(context: &StringContext, bytes: &[u8], at: u32) -> Result<SourcePiece, Stop>
     requires quoted { context.now.quote < at }
     requires fits { at + length bytes.now < 2 ^ 32 }
     ensures gives { Gives (λ p. piece p.char p.size) result (string_part context.now.file.now context.now.quote bytes.now at) }
@@ -99,14 +99,14 @@ fn string_part(context: &StringContext, bytes: &[u8], at: u32) -> Result<Piece, 
     if size == 0 {
         return char_here(context, bytes, at);
     }
-    Ok(Piece {
+    Ok(SourcePiece {
         char: Some('\n'),
         size,
     })
 }
 
 /// The character with which the string goes on at `at`.
-fn char_here(context: &StringContext, bytes: &[u8], at: u32) -> Result<Piece, Stop>
+fn char_here(context: &StringContext, bytes: &[u8], at: u32) -> Result<SourcePiece, Stop>
     requires quoted { context.now.quote < at }
     requires fits { at + length bytes.now < 2 ^ 32 }
     ensures gives { Gives (λ p. piece p.char p.size) result (char_here context.now.file.now context.now.quote at (characters bytes.now)) }
@@ -114,16 +114,16 @@ fn char_here(context: &StringContext, bytes: &[u8], at: u32) -> Result<Piece, St
 {
     match front(bytes) {
         Some(
-            Piece {
+            SourcePiece {
                 char: Some(c),
                 size,
             },
-        ) => Ok(Piece {
+        ) => Ok(SourcePiece {
             char: Some(c),
             size,
         }),
         Some(
-            Piece {
+            SourcePiece {
                 char: None,
                 size: _,
             },
@@ -151,7 +151,7 @@ fn simple_escape(b: u8) -> Option<char>
 }
 
 /// What the backslash at `at` begins, which is the first of the bytes.
-fn escape_part(context: &StringContext, bytes: &[u8], at: u32) -> Result<Piece, Stop>
+fn escape_part(context: &StringContext, bytes: &[u8], at: u32) -> Result<SourcePiece, Stop>
     requires some { 0 < length bytes.now }
     requires quoted { context.now.quote < at }
     requires fits { at + length bytes.now < 2 ^ 32 }
@@ -160,7 +160,7 @@ fn escape_part(context: &StringContext, bytes: &[u8], at: u32) -> Result<Piece, 
 {
     let b = byte_at(bytes, 1);
     if let Some(c) = simple_escape(b) {
-        return Ok(Piece {
+        return Ok(SourcePiece {
             char: Some(c),
             size: 2,
         });
@@ -174,7 +174,7 @@ fn escape_part(context: &StringContext, bytes: &[u8], at: u32) -> Result<Piece, 
 }
 
 /// The escape `\xHEX;` at `at`, which has `n` digits.
-fn hex_part(context: &StringContext, n: usize, bytes: &[u8], at: u32) -> Result<Piece, Stop>
+fn hex_part(context: &StringContext, n: usize, bytes: &[u8], at: u32) -> Result<SourcePiece, Stop>
     requires digits { n + 2 ≤ length bytes.now }
     requires quoted { context.now.quote < at }
     requires fits { at + length bytes.now < 2 ^ 32 }
@@ -183,7 +183,7 @@ fn hex_part(context: &StringContext, n: usize, bytes: &[u8], at: u32) -> Result<
 {
     let _end = char_here(context, behind(bytes, 2 + n), at + 2 + n as u32)?;
     match escape(bytes) {
-        Some(letter) => Ok(Piece {
+        Some(letter) => Ok(SourcePiece {
             char: Some(letter.char),
             size: letter.size,
         }),
@@ -192,7 +192,7 @@ fn hex_part(context: &StringContext, n: usize, bytes: &[u8], at: u32) -> Result<
 }
 
 /// Behind a backslash at `at` and blanks: a line end and blanks, which stand for nothing.
-fn line_part(context: &StringContext, at: u32, rest: &[u8], here: u32) -> Result<Piece, Stop>
+fn line_part(context: &StringContext, at: u32, rest: &[u8], here: u32) -> Result<SourcePiece, Stop>
     requires quoted { context.now.quote < at }
     requires forward { at < here }
     requires fits { here + length rest.now < 2 ^ 32 }
@@ -205,7 +205,7 @@ fn line_part(context: &StringContext, at: u32, rest: &[u8], here: u32) -> Result
         return context.refuse(FaultKind::BadEscape, context.quote, at);
     }
     let to = blanks_end(behind(rest, n), here + n as u32);
-    Ok(Piece {
+    Ok(SourcePiece {
         char: None,
         size: (to - at) as usize,
     })

@@ -9,9 +9,9 @@ ghost use Rattle.sx_lexer.specs.Tokens.{next_lexeme, lexeme_at, hash_at, word_at
 use crate::characters::character_at;
 use crate::faults::refuse;
 use crate::gap::gap_end;
-use crate::names::Names;
+use crate::names::SymbolTable;
 use crate::strings::string_at;
-use crate::text::Text;
+use crate::text::TokenText;
 use crate::token::{Abbreviation, Bracket, Lexeme, Token};
 use std::alloc::Global;
 use sx_base::atom::Atom;
@@ -26,7 +26,7 @@ use sx_spelling::whitespace::{is_delimited, run_end, runs_on};
 
 /// The lexeme behind the gap at `at`, or none where the source ends there.
 pub fn next_lexeme(
-    names: &mut Names,
+    names: &mut SymbolTable,
     file: &Symbol,
     bytes: &[u8],
     at: u32,
@@ -46,7 +46,7 @@ pub fn next_lexeme(
     Ok(Some(lexeme))
 }
 
-fn lexeme_at(names: &mut Names, file: &Symbol, bytes: &[u8], from: u32) -> Result<Lexeme, Stop>
+fn lexeme_at(names: &mut SymbolTable, file: &Symbol, bytes: &[u8], from: u32) -> Result<Lexeme, Stop>
     requires some { 0 < length bytes.now }
     requires fits { from + length bytes.now < 2 ^ 32 }
     ensures gives { Gives (λ x. x) result (lexeme_at file.now bytes.now from) }
@@ -209,7 +209,7 @@ fn marked_at(alloc: Global, file: &Symbol, bytes: &[u8], from: u32) -> Result<Le
     };
     let to = bare_end(&context, behind(bytes, 2), from + 2)?;
     let (text, _) = bytes.split_at((to - from) as usize);
-    let digits = Text {
+    let digits = TokenText {
         bytes: behind(text, 2),
         from,
         to,
@@ -219,7 +219,7 @@ fn marked_at(alloc: Global, file: &Symbol, bytes: &[u8], from: u32) -> Result<Le
 }
 
 /// The integer that a text spells in a base.
-fn integer_in(alloc: Global, file: &Symbol, base: u8, text: &Text) -> Result<Token, Stop>
+fn integer_in(alloc: Global, file: &Symbol, base: u8, text: &TokenText) -> Result<Token, Stop>
     ensures { Gives (λ x. x) result (integer_in file.now base text.now.bytes.now text.now.from text.now.to) }
 {
     if base == 0 || !is_integer(base, text.bytes) {
@@ -232,7 +232,7 @@ fn integer_in(alloc: Global, file: &Symbol, base: u8, text: &Text) -> Result<Tok
 }
 
 /// A token that runs up to a delimiter.
-fn bare_at(names: &mut Names, file: &Symbol, bytes: &[u8], from: u32) -> Result<Lexeme, Stop>
+fn bare_at(names: &mut SymbolTable, file: &Symbol, bytes: &[u8], from: u32) -> Result<Lexeme, Stop>
     requires some { 0 < length bytes.now }
     requires fits { from + length bytes.now < 2 ^ 32 }
     ensures gives { Gives (λ x. x) result (bare_at file.now bytes.now from) }
@@ -250,7 +250,7 @@ fn bare_at(names: &mut Names, file: &Symbol, bytes: &[u8], from: u32) -> Result<
         return refuse(alloc, file, FaultKind::BadUtf8, from, from + 1);
     }
     let (text, _) = bytes.split_at((to - from) as usize);
-    let text = Text {
+    let text = TokenText {
         bytes: text,
         from,
         to,
@@ -323,7 +323,7 @@ fn char_end(bytes: &[u8], at: u32) -> u32
 }
 
 /// The token that a bare text spells.
-fn bare(names: &mut Names, file: &Symbol, text: &Text) -> Result<Token, Stop>
+fn bare(names: &mut SymbolTable, file: &Symbol, text: &TokenText) -> Result<Token, Stop>
     ensures { Gives (λ x. x) result (bare file.now text.now.bytes.now text.now.from text.now.to) }
 {
     if is_dot(text.bytes) {
@@ -336,7 +336,7 @@ fn bare(names: &mut Names, file: &Symbol, text: &Text) -> Result<Token, Stop>
 }
 
 /// The identifier that the text spells, if it spells one, with the text that the first one of its name had.
-fn identifier_in(names: &mut Names, text: &[u8]) -> Result<Option<Symbol>, Memory>
+fn identifier_in(names: &mut SymbolTable, text: &[u8]) -> Result<Option<Symbol>, Memory>
     ensures { IfOk result (λ s. s ≡ identifier text.now) }
 {
     if let Some(plain) = plain_identifier(text) {
@@ -354,7 +354,7 @@ fn is_dot(text: &[u8]) -> bool
     text.len() == 1 && text[0] == b'.'
 }
 
-fn no_identifier(alloc: Global, file: &Symbol, text: &Text) -> Result<Token, Stop>
+fn no_identifier(alloc: Global, file: &Symbol, text: &TokenText) -> Result<Token, Stop>
     ensures { Gives (λ x. x) result (no_identifier file.now text.now.bytes.now text.now.from text.now.to) }
 {
     if begins_number(byte_at(text.bytes, 0)) {
@@ -371,7 +371,7 @@ fn begins_number(b: u8) -> bool
 }
 
 /// The number that a text spells: an integer, or a ratio or a decimal as it is spelt.
-fn number_of(alloc: Global, file: &Symbol, text: &Text) -> Result<Token, Stop>
+fn number_of(alloc: Global, file: &Symbol, text: &TokenText) -> Result<Token, Stop>
     ensures { Gives (λ x. x) result (number_of file.now text.now.bytes.now text.now.from text.now.to) }
 {
     if is_integer(10, text.bytes) {

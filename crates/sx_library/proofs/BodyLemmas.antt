@@ -5,7 +5,7 @@ use Rattle.sx_base.specs.Gives.{Stops, ◌>>=◌}
 use Rattle.sx_base.specs.declared.fault.Fault.{Fault}
 use Rattle.sx_base.specs.declared.fault.Stop.{Stop}
 use Rattle.sx_base.specs.declared.fault.Stop.TheVariants as stops
-use Rattle.sx_core.specs.declared.record.LibRecord.{LibRecord}
+use Rattle.sx_core.specs.declared.record.CompiledLibrary.{CompiledLibrary}
 use Rattle.sx_eval.specs.Codes.{Codes}
 use Rattle.sx_expand.specs.Expanding.{library_linked}
 use Rattle.sx_forms.specs.declared.form.LibraryForm.{LibraryForm}
@@ -15,28 +15,28 @@ use Rattle.sx_library.specs.Imports.{form_names}
 use Rattle.sx_prelude.specs.Spent.{spent_behind}
 use Rattle.sx_library.specs.Library.{trees_at, export_tree, expander_of, body_of, expand_body, link_library, body_spent, form_spent}
 use Rattle.sx_library.specs.Records.{needed_records}
-use Rattle.sx_library.specs.declared.library.Body.{Body}
+use Rattle.sx_library.specs.declared.library.LibrarySource.{LibrarySource}
 
 bind_twice : {A B C : Type 0} (r : Result A Fault) (f : A → Result B Fault) (g : B → Result C Fault) → ((r >>= f) >>= g) ≡ (r >>= (λ a. f a >>= g))
 bind_twice (Ok a) f g = refl
 bind_twice (Err e) f g = refl
 
-abbrev body_with : Labelled → List Tree → Body
+abbrev body_with : Labelled → List Tree → LibrarySource
 body_with names forms = record { names = names; forms = forms }
 
-names_then : {C : Type 0} (r : Result Labelled Fault) (trees : Result (List Tree) Fault) (g : Body → Result C Fault)
+names_then : {C : Type 0} (r : Result Labelled Fault) (trees : Result (List Tree) Fault) (g : LibrarySource → Result C Fault)
     → ((r >>= (λ names. trees >>= (λ forms. Ok (body_with names forms)))) >>= g) ≡ (r >>= (λ names. trees >>= (λ forms. g (body_with names forms))))
 names_then (Ok names) trees g = bind_twice trees (λ forms. Ok (body_with names forms)) g
 names_then (Err e) trees g = refl
 
-module _ (prelude : Result Codes Fault) (records : List LibRecord) (path : List ℕ) (form : LibraryForm) (body : List PlainDatum) where
+module _ (prelude : Result Codes Fault) (records : List CompiledLibrary) (path : List ℕ) (form : LibraryForm) (body : List PlainDatum) where
   by_body : (body_of records form body >>= expand_body prelude records path form) ≡ link_library prelude records path form body
   unfolding body_of expand_body link_library
   by_body =
       names_then (form_names records form.imports) (trees_at form.name_span [] body)
       (λ b. expander_of prelude form.name path records b.names >>= (λ e. library_linked e records form.version form.name_span (map export_tree form.exports) b.forms))
 
-  pub library_given : (read : Body) → body_of records form body ≡ Ok read → expand_body prelude records path form read ≡ link_library prelude records path form body
+  pub library_given : (read : LibrarySource) → body_of records form body ≡ Ok read → expand_body prelude records path form read ≡ link_library prelude records path form body
   library_given read h = sym (ap (λ r. r >>= expand_body prelude records path form) h) ∙ by_body
 
   pub library_stops : (stop : Stop) → Stops stop (body_of records form body) → Stops stop (link_library prelude records path form body)
@@ -44,8 +44,8 @@ module _ (prelude : Result Codes Fault) (records : List LibRecord) (path : List 
   library_stops (stops.Fault f) h = sym by_body ∙ ap (λ r. r >>= expand_body prelude records path form) h
 
 -- the same behind the records that a file needs
-module _ (prelude : Result Codes Fault) (records : List LibRecord) (path : List ℕ) (form : LibraryForm) (needs : List Bool) (body other : List PlainDatum) where
-  pub read_given : (marks again : List Bool) (read : Body) → marks ≡ true ∷ needs → again ≡ true ∷ needs → other ≡ body → body_of (needed_records records marks) form other ≡ Ok read
+module _ (prelude : Result Codes Fault) (records : List CompiledLibrary) (path : List ℕ) (form : LibraryForm) (needs : List Bool) (body other : List PlainDatum) where
+  pub read_given : (marks again : List Bool) (read : LibrarySource) → marks ≡ true ∷ needs → again ≡ true ∷ needs → other ≡ body → body_of (needed_records records marks) form other ≡ Ok read
       → expand_body prelude (needed_records records again) path form read ≡ link_library prelude (needed_records records (true ∷ needs)) path form body
   read_given marks again read is same e h =
       ap (λ m. expand_body prelude (needed_records records m) path form read) same
@@ -59,7 +59,7 @@ module _ (prelude : Result Codes Fault) (records : List LibRecord) (path : List 
       (subst (λ b. Stops stop (body_of (needed_records records (true ∷ needs)) form b)) e (subst (λ m. Stops stop (body_of (needed_records records m) form other)) is h))
 
   -- and so is the fuel that is spent
-  pub read_spent : (marks again : List Bool) (read : Body) → marks ≡ true ∷ needs → again ≡ true ∷ needs → other ≡ body → body_of (needed_records records marks) form other ≡ Ok read
+  pub read_spent : (marks again : List Bool) (read : LibrarySource) → marks ≡ true ∷ needs → again ≡ true ∷ needs → other ≡ body → body_of (needed_records records marks) form other ≡ Ok read
       → body_spent prelude (needed_records records again) path form read ≡ form_spent prelude (needed_records records (true ∷ needs)) path form body
   unfolding form_spent
   read_spent marks again read is same e h =

@@ -8,7 +8,7 @@ use Rattle.indexmap.specs.IndexMap.{IndexMap, insert_entry}
 use Rattle.indexmap.proofs.CallerLemmas.{insert_entry-new}
 use Rattle.sx_base.specs.Same.{same_library, same_library_decides}
 use Rattle.sx_base.specs.declared.library.LibName.{LibName}
-use Rattle.sx_core.specs.declared.record.LibRecord.{LibRecord}
+use Rattle.sx_core.specs.declared.record.CompiledLibrary.{CompiledLibrary}
 use Rattle.sx_load.specs.Found.{places_from, is_marked}
 use Rattle.sx_standing.specs.Start.{records_at}
 use Rattle.sx_library.specs.Imports.{named}
@@ -56,7 +56,7 @@ module _ (name : LibName) where
       by true h = refl
       by false h = h
 
-  first_more : (rs : List LibRecord) (r : LibRecord) → first_place name (rs ++ r ∷ []) ≡ or_else (first_place name rs) (place_if name r.name (length rs))
+  first_more : (rs : List CompiledLibrary) (r : CompiledLibrary) → first_place name (rs ++ r ∷ []) ≡ or_else (first_place name rs) (place_if name r.name (length rs))
   first_more [] r = refl
   first_more (x ∷ xs) r = by (same_library name x.name) (first_more xs r)
     where
@@ -87,7 +87,7 @@ taken_back rows name place = by (is_some (place_in name rows))
     by false = take-append_seam rows ((name, place) ∷ [])
 
 -- the table with the row of one record more, if it has no row of that library
-pub places_more : (rows : List (LibName × ℕ)) (rs : List LibRecord) (r : LibRecord) → ArePlaces rows rs → ArePlaces (with_place rows r.name (length rs)) (rs ++ r ∷ [])
+pub places_more : (rows : List (LibName × ℕ)) (rs : List CompiledLibrary) (r : CompiledLibrary) → ArePlaces rows rs → ArePlaces (with_place rows r.name (length rs)) (rs ++ r ∷ [])
 places_more rows rs r right name = by (is_some (place_in r.name rows)) refl
   where
     here : (b : Bool) → same_library name r.name ≡ b → is_some (place_in r.name rows) ≡ true → or_else (first_place name rs) (cond b (Some (length rs)) None) ≡ first_place name rs
@@ -98,7 +98,7 @@ places_more rows rs r right name = by (is_some (place_in r.name rows)) refl
     by true h = right name ∙ sym (first_more name rs r ∙ here (same_library name r.name) refl h)
     by false h = place_more name rows r.name (length rs) ∙ ap (λ o. or_else o (place_if name r.name (length rs))) (right name) ∙ sym (first_more name rs r)
 
-module _ (rows grown : List (LibName × ℕ)) (rs more : List LibRecord) (r added : LibRecord) (name : LibName) (place : ℕ) where
+module _ (rows grown : List (LibName × ℕ)) (rs more : List CompiledLibrary) (r added : CompiledLibrary) (name : LibName) (place : ℕ) where
   pub pushed : ArePlaces rows rs → grown ≡ with_place rows name place → name ≡ r.name → place ≡ length rs → added ≡ r → more ≡ rs ++ added ∷ [] → ArePlaces grown more
   pushed right with named here same is q =
       ap (place_in q) (with ∙ ap (λ n. with_place rows n place) named ∙ ap (with_place rows r.name) here)
@@ -107,13 +107,13 @@ module _ (rows grown : List (LibName × ℕ)) (rs more : List LibRecord) (r adde
 
 -- ---- the record that is looked for
 
-abbrev NotBefore : LibName → List LibRecord → ℕ → Type 0
+abbrev NotBefore : LibName → List CompiledLibrary → ℕ → Type 0
 NotBefore name rs k = (q : ℕ) → q < k → named_at name (slice_get rs q) ≡ None
 
-abbrev IsFirst : LibName → List LibRecord → ℕ → Type 0
-IsFirst name rs k = NotBefore name rs k × ((r : LibRecord) × (slice_get rs k ≡ Some r) × (named_at name (slice_get rs k) ≡ Some r))
+abbrev IsFirst : LibName → List CompiledLibrary → ℕ → Type 0
+IsFirst name rs k = NotBefore name rs k × ((r : CompiledLibrary) × (slice_get rs k ≡ Some r) × (named_at name (slice_get rs k) ≡ Some r))
 
-unnamed : (name : LibName) (r : LibRecord) (b : Bool) → same_library name r.name ≡ b → named_at name (Some r) ≡ (if b then Some r else None)
+unnamed : (name : LibName) (r : CompiledLibrary) (b : Bool) → same_library name r.name ≡ b → named_at name (Some r) ≡ (if b then Some r else None)
 unnamed name r b e = ap (λ c. if c then Some r else None) (same_either_way r.name name ∙ e)
 
 suc_some : (o : Option ℕ) (k : ℕ) → option_map suc o ≡ Some (suc k) → o ≡ Some k
@@ -130,7 +130,7 @@ suc_none (Some n) h = cc
 
 module _ (name : LibName) where
   -- no record is before the first
-  first_is : (rs : List LibRecord) (k : ℕ) → first_place name rs ≡ Some k → IsFirst name rs k
+  first_is : (rs : List CompiledLibrary) (k : ℕ) → first_place name rs ≡ Some k → IsFirst name rs k
   first_is [] k h = cc
   first_is (r ∷ rs) zero h = by (same_library name r.name) refl h
     where
@@ -149,7 +149,7 @@ module _ (name : LibName) where
           before none (suc q) q<k = none q (omega (arith, q<k))
 
   -- a library without a first record has none
-  none_is : (rs : List LibRecord) → first_place name rs ≡ None → (q : ℕ) → named_at name (slice_get rs q) ≡ None
+  none_is : (rs : List CompiledLibrary) → first_place name rs ≡ None → (q : ℕ) → named_at name (slice_get rs q) ≡ None
   none_is [] h q = refl
   none_is (r ∷ rs) h q = by (same_library name r.name) refl h q (λ later p. none_is rs later p)
     where
@@ -159,7 +159,7 @@ module _ (name : LibName) where
       by false e h zero on = unnamed name r false e
       by false e h (suc q) on = on (suc_none (first_place name rs) h) q
 
-module _ (name : LibName) (rs : List LibRecord) where
+module _ (name : LibName) (rs : List CompiledLibrary) where
   none_among : (ps : List ℕ) → ((q : ℕ) → named_at name (slice_get rs q) ≡ None) → named name (records_at rs ps) ≡ None
   none_among [] none = refl
   none_among (p ∷ ps) none =
@@ -170,7 +170,7 @@ module _ (name : LibName) (rs : List LibRecord) where
   pub not_there : (needs : List Bool) → first_place name rs ≡ None → named name (needed_records rs needs) ≡ None
   not_there needs h = none_among (places_from 0 needs) (none_is name rs h)
 
-  module _ (k : ℕ) (none : NotBefore name rs k) (r : LibRecord) (at : named_at name (slice_get rs k) ≡ Some r) where
+  module _ (k : ℕ) (none : NotBefore name rs k) (r : CompiledLibrary) (at : named_at name (slice_get rs k) ≡ Some r) where
     -- the places of marks rise, so that of the first record comes before those of others with its name
     first_among : (ms : List Bool) (i j : ℕ) → i + j ≡ k → slice_get ms j ≡ Some true → named name (records_at rs (places_from i ms)) ≡ Some r
     unfolding places_from

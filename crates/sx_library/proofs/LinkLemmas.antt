@@ -5,7 +5,7 @@ use Rattle.sx_base.specs.Gives.{Stops, ◌>>=◌}
 use Rattle.sx_base.specs.declared.fault.Fault.{Fault}
 use Rattle.sx_base.specs.declared.fault.Stop.{Stop}
 use Rattle.sx_base.specs.declared.fault.Stop.TheVariants as stops
-use Rattle.sx_core.specs.declared.record.LibRecord.{LibRecord}
+use Rattle.sx_core.specs.declared.record.CompiledLibrary.{CompiledLibrary}
 use Rattle.sx_eval.specs.Codes.{Codes}
 use Rattle.sx_expand.specs.Expanding.{Expanding, library_record, library_linked}
 use Rattle.sx_expand.specs.Top.{record_in, linked_in}
@@ -38,16 +38,16 @@ by_value prelude all rows found is = ap (turns (next_linked prelude) all) is ∙
 
 -- ---- without links
 
-record_alone : (t : Result (LibRecord × State) Fault) → unlinked (linked_in t) ≡ record_in t
+record_alone : (t : Result (CompiledLibrary × State) Fault) → unlinked (linked_in t) ≡ record_in t
 record_alone (Ok p) = refl
 record_alone (Err f) = refl
 
-module _ {A : Type 0} (f : A → Result Linked Fault) (g : A → Result LibRecord Fault) (same : (a : A) → unlinked (f a) ≡ g a) where
+module _ {A : Type 0} (f : A → Result Linked Fault) (g : A → Result CompiledLibrary Fault) (same : (a : A) → unlinked (f a) ≡ g a) where
   then_alone : (r : Result A Fault) → unlinked (r >>= f) ≡ (r >>= g)
   then_alone (Ok a) = same a
   then_alone (Err e) = refl
 
-pub library_alone : (prelude : Result Codes Fault) (records : List LibRecord) (path : List ℕ) (form : LibraryForm) (body : List PlainDatum)
+pub library_alone : (prelude : Result Codes Fault) (records : List CompiledLibrary) (path : List ℕ) (form : LibraryForm) (body : List PlainDatum)
     → unlinked (link_library prelude records path form body) ≡ expand_library prelude records path form body
 unfolding link_library expand_library
 library_alone prelude records path form body =
@@ -55,13 +55,13 @@ library_alone prelude records path form body =
     then_alone {A = List Tree} _ _ (λ forms.
     then_alone {A = Expanding} _ _ (λ e. record_alone _) (expander_of prelude form.name path records names)) (trees_at form.name_span [] body)) (form_names records form.imports)
 
-pub found_alone : (prelude : Result Codes Fault) (records : List LibRecord) (found : Found) (body : List PlainDatum)
+pub found_alone : (prelude : Result Codes Fault) (records : List CompiledLibrary) (found : Found) (body : List PlainDatum)
     → unlinked (link_found prelude records found body) ≡ expand_found prelude records found body
 found_alone prelude records found body = library_alone prelude _ found.opened.path found.opened.form body
 
 -- what a library gives without its links
-module _ (prelude : Result Codes Fault) (records : List LibRecord) (found : Found) (body : List PlainDatum) where
-  pub record_given : (l : Linked) (r : LibRecord) → link_found prelude records found body ≡ Ok l → r ≡ l.library → expand_found prelude records found body ≡ Ok r
+module _ (prelude : Result Codes Fault) (records : List CompiledLibrary) (found : Found) (body : List PlainDatum) where
+  pub record_given : (l : Linked) (r : CompiledLibrary) → link_found prelude records found body ≡ Ok l → r ≡ l.library → expand_found prelude records found body ≡ Ok r
   record_given l r given is = sym (found_alone prelude records found body) ∙ ap unlinked given ∙ ap Ok (sym is)
 
   pub record_stops : (stop : Stop) → Stops stop (link_found prelude records found body) → Stops stop (expand_found prelude records found body)

@@ -5,7 +5,7 @@ use Rattle.sx_base.specs.Gives.{Stops, ◌>>=◌}
 use Rattle.sx_base.specs.declared.fault.Fault.{Fault}
 use Rattle.sx_base.specs.declared.fault.Stop.{Stop}
 use Rattle.sx_base.specs.declared.fault.Stop.TheVariants as stops
-use Rattle.sx_core.specs.declared.record.LibRecord.{LibRecord}
+use Rattle.sx_core.specs.declared.record.CompiledLibrary.{CompiledLibrary}
 use Rattle.sx_eval.specs.Codes.{Codes}
 use Rattle.sx_import.specs.Turns.{turns}
 use Rattle.sx_load.specs.declared.found.Found.{Found}
@@ -21,15 +21,15 @@ module _ {S X : Type 0} (step : S → X → Result S Fault) (left others : List 
   taken_stop (stops.Fault f) given so_far = sym so_far ∙ ap (turns step s) first ∙ ap (λ r. r >>= (λ u. turns step u others)) given
 
 -- what a library adds, whose name doesn't matter
-abbrev pub next_found : Result Codes Fault → List LibRecord → Found → Result (List LibRecord) Fault
+abbrev pub next_found : Result Codes Fault → List CompiledLibrary → Found → Result (List CompiledLibrary) Fault
 next_found prelude records found = expand_next prelude records ([], found)
 
-values_alone : (prelude : Result Codes Fault) (records : List LibRecord) (rows : List (List ℕ × Found))
+values_alone : (prelude : Result Codes Fault) (records : List CompiledLibrary) (rows : List (List ℕ × Found))
     → turns (next_found prelude) records (map (λ (e : List ℕ × Found). e.1) rows) ≡ turns (expand_next prelude) records rows
 values_alone prelude records [] = refl
 values_alone prelude records (row ∷ rows) = λ i. expand_next prelude records row >>= (λ rs. values_alone prelude rs rows i)
 
 -- the libraries of a table, without their names, give what the table gives
-pub by_value : (prelude : Result Codes Fault) (records : List LibRecord) (rows : List (List ℕ × Found)) (found : List Found) → found ≡ map (λ (e : List ℕ × Found). e.1) rows
+pub by_value : (prelude : Result Codes Fault) (records : List CompiledLibrary) (rows : List (List ℕ × Found)) (found : List Found) → found ≡ map (λ (e : List ℕ × Found). e.1) rows
     → turns (next_found prelude) records found ≡ turns (expand_next prelude) records rows
 by_value prelude records rows found is = ap (turns (next_found prelude) records) is ∙ values_alone prelude records rows

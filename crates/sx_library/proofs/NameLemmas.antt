@@ -3,18 +3,18 @@ use Rattle.std.proofs.Common.{◌≡◌, ℕ, ◌+◌, ◌<◌, ◌≤◌, Bool,
 use Rattle.std.specs.Prelude.{slice_get, if◌then◌else◌}
 use Rattle.sx_base.specs.Same.{same_library}
 use Rattle.sx_base.specs.declared.library.LibName.{LibName}
-use Rattle.sx_core.specs.declared.record.LibRecord.{LibRecord}
+use Rattle.sx_core.specs.declared.record.CompiledLibrary.{CompiledLibrary}
 use Rattle.sx_load.specs.Found.{places_from}
 use Rattle.sx_standing.specs.Start.{or_skip, records_at}
 use Rattle.sx_library.specs.Imports.{named}
 use Rattle.sx_library.specs.Chosen.{named_at}
 use Rattle.sx_library.proofs.PlaceLemmas.{places_on, no_places}
 
-abbrev pub or_later : Option LibRecord → Option LibRecord → Option LibRecord
+abbrev pub or_later : Option CompiledLibrary → Option CompiledLibrary → Option CompiledLibrary
 or_later None later = later
 or_later (Some r) later = Some r
 
-pub first_named : (name : LibName) (here : Option LibRecord) (rest : List LibRecord) → named name (or_skip here rest) ≡ or_later (named_at name here) (named name rest)
+pub first_named : (name : LibName) (here : Option CompiledLibrary) (rest : List CompiledLibrary) → named name (or_skip here rest) ≡ or_later (named_at name here) (named name rest)
 first_named name None rest = refl
 first_named name (Some r) rest = by (same_library r.name name) refl
   where
@@ -22,11 +22,11 @@ first_named name (Some r) rest = by (same_library r.name name) refl
     by true e = rw e refl
     by false e = rw e refl
 
-module _ (name : LibName) (records : List LibRecord) (ms : List Bool) (i : ℕ) (whole : Option LibRecord) where
-  abbrev among : List ℕ → Option LibRecord
+module _ (name : LibName) (records : List CompiledLibrary) (ms : List Bool) (i : ℕ) (whole : Option CompiledLibrary) where
+  abbrev among : List ℕ → Option CompiledLibrary
   among ps = named name (records_at records ps)
 
-  abbrev later : Option LibRecord
+  abbrev later : Option CompiledLibrary
   later = among (places_from (i + 1) (drop (i + 1) ms))
 
   here : i < length ms → get_or ms i false ≡ true → among (places_from i (drop i ms)) ≡ or_later (named_at name (slice_get records i)) later
@@ -38,7 +38,7 @@ module _ (name : LibName) (records : List LibRecord) (ms : List Bool) (i : ℕ) 
   pub not_asked : i < length ms → get_or ms i false ≡ false → among (places_from i (drop i ms)) ≡ whole → later ≡ whole
   not_asked h e so_far = sym (ap among (places_on ms i false h e)) ∙ so_far
 
-  pub named_here : (r : LibRecord) → i < length ms → get_or ms i false ≡ true → named_at name (slice_get records i) ≡ Some r → among (places_from i (drop i ms)) ≡ whole → whole ≡ Some r
+  pub named_here : (r : CompiledLibrary) → i < length ms → get_or ms i false ≡ true → named_at name (slice_get records i) ≡ Some r → among (places_from i (drop i ms)) ≡ whole → whole ≡ Some r
   named_here r h e there so_far = sym so_far ∙ here h e ∙ ap (λ o. or_later o later) there
 
   pub named_end : length ms ≤ i → among (places_from i (drop i ms)) ≡ whole → whole ≡ None

@@ -2,7 +2,7 @@
 use Rattle.std.proofs.Common.{◌≡◌, ℕ, suc, ◌+◌, ◌<◌, ◌≤◌, Bool, true, false, cond, List, [], ◌∷◌, length, get_or, drop, refl, ap, sym, ◌∙◌, add-one, drop-cons}
 use Rattle.std.specs.Prelude.{slice_get, if◌then◌else◌}
 use Rattle.std.proofs.lemmas.List.{drop_all}
-use Rattle.sx_core.specs.declared.record.LibRecord.{LibRecord}
+use Rattle.sx_core.specs.declared.record.CompiledLibrary.{CompiledLibrary}
 use Rattle.sx_load.specs.Found.{places_from}
 use Rattle.sx_stage.specs.Libraries as stage
 use Rattle.sx_standing.specs.Ready as of_marks
@@ -19,7 +19,7 @@ module _ (ms : List Bool) (i : ℕ) where
 
 -- ---- the records at the places of marks are those that are marked
 
-pub places_behind : (r : LibRecord) (rs : List LibRecord) (i : ℕ) (ms : List Bool) → records_at (r ∷ rs) (places_from (suc i) ms) ≡ records_at rs (places_from i ms)
+pub places_behind : (r : CompiledLibrary) (rs : List CompiledLibrary) (i : ℕ) (ms : List Bool) → records_at (r ∷ rs) (places_from (suc i) ms) ≡ records_at rs (places_from i ms)
 unfolding places_from
 places_behind r rs i [] = refl
 places_behind r rs i (m ∷ ms) = by m (places_behind r rs (suc i) ms)
@@ -33,7 +33,7 @@ none_at : (ps : List ℕ) → records_at [] ps ≡ []
 none_at [] = refl
 none_at (p ∷ ps) = none_at ps
 
-pub at_marks : (ms : List Bool) (rs : List LibRecord) → records_at rs (places_from 0 ms) ≡ of_marks.needed_records ms rs
+pub at_marks : (ms : List Bool) (rs : List CompiledLibrary) → records_at rs (places_from 0 ms) ≡ of_marks.needed_records ms rs
 unfolding places_from
 at_marks [] rs = refl
 at_marks (m ∷ ms) [] = none_at (places_from 0 (m ∷ ms))
@@ -41,19 +41,19 @@ at_marks (m ∷ ms) (r ∷ rs) = by m (places_behind r rs 0 ms ∙ at_marks ms r
   where
     by : (b : Bool) → records_at (r ∷ rs) (places_from 1 ms) ≡ of_marks.needed_records ms rs
         → records_at (r ∷ rs) (cond b (0 ∷ places_from 1 ms) (places_from 1 ms)) ≡ cond b (r ∷ of_marks.needed_records ms rs) (of_marks.needed_records ms rs)
-    by true h = ap (λ (x : List LibRecord). r ∷ x) h
+    by true h = ap (λ (x : List CompiledLibrary). r ∷ x) h
     by false h = h
 
-same_marked : (ms : List Bool) (rs : List LibRecord) → stage.needed_records ms rs ≡ of_marks.needed_records ms rs
+same_marked : (ms : List Bool) (rs : List CompiledLibrary) → stage.needed_records ms rs ≡ of_marks.needed_records ms rs
 same_marked [] rs = refl
 same_marked (m ∷ ms) [] = refl
 same_marked (m ∷ ms) (r ∷ rs) = by m (same_marked ms rs)
   where
     by : (b : Bool) → stage.needed_records ms rs ≡ of_marks.needed_records ms rs
         → cond b (r ∷ stage.needed_records ms rs) (stage.needed_records ms rs) ≡ cond b (r ∷ of_marks.needed_records ms rs) (of_marks.needed_records ms rs)
-    by true h = ap (λ (x : List LibRecord). r ∷ x) h
+    by true h = ap (λ (x : List CompiledLibrary). r ∷ x) h
     by false h = h
 
 -- what an evaluation takes for the records before a library
-pub at_stage : (ms : List Bool) (rs : List LibRecord) → stage.needed_records ms rs ≡ records_at rs (places_from 0 ms)
+pub at_stage : (ms : List Bool) (rs : List CompiledLibrary) → stage.needed_records ms rs ≡ records_at rs (places_from 0 ms)
 at_stage ms rs = same_marked ms rs ∙ sym (at_marks ms rs)

@@ -3,7 +3,7 @@ use Rattle.std.proofs.Common.{◌≡◌, ℕ, ◌+◌, List, [], ◌∷◌, ◌+
 use Rattle.std.specs.Prelude.{OnOk}
 use Rattle.sx_base.specs.Gives.{◌>>=◌}
 use Rattle.sx_base.specs.declared.fault.Fault.{Fault}
-use Rattle.sx_core.specs.declared.record.LibRecord.{LibRecord}
+use Rattle.sx_core.specs.declared.record.CompiledLibrary.{CompiledLibrary}
 use Rattle.sx_derived.specs.Derived.{derived_record, derived_spent}
 use Rattle.sx_eval.specs.Codes.{Codes}
 use Rattle.sx_expand.specs.declared.top.Linked.{Linked}
@@ -19,31 +19,31 @@ use Rattle.sx_library.specs.declared.loaded.Gathered.{Gathered}
 
 module _ (prelude : Result Codes Fault) where
   -- what the first library spends, and those behind it
-  first_spent : (records more : List LibRecord) (f : Found) (fs : List Found) → expand_next prelude records ([], f) ≡ Ok more
+  first_spent : (records more : List CompiledLibrary) (f : Found) (fs : List Found) → expand_next prelude records ([], f) ≡ Ok more
       → each_spent prelude records (f ∷ fs) ≡ found_spent prelude records f (library_body f.opened.«data») + each_spent prelude more fs
   unfolding each_spent
   first_spent records more f fs given = ap (λ r. found_spent prelude records f (library_body f.opened.«data») + spent_behind r (λ rs. each_spent prelude rs fs)) given
 
-  none_spent : (records : List LibRecord) → each_spent prelude records [] ≡ 0
+  none_spent : (records : List CompiledLibrary) → each_spent prelude records [] ≡ 0
   unfolding each_spent
   none_spent records = refl
 
   -- one library further on
-  pub spent_on : (records more : List LibRecord) (f : Found) (left others : List Found) (start before after : ℕ) → left ≡ f ∷ others → expand_next prelude records ([], f) ≡ Ok more
+  pub spent_on : (records more : List CompiledLibrary) (f : Found) (left others : List Found) (start before after : ℕ) → left ≡ f ∷ others → expand_next prelude records ([], f) ≡ Ok more
       → after ≡ before + found_spent prelude records f (library_body f.opened.«data») → before + each_spent prelude records left ≡ start → after + each_spent prelude more others ≡ start
   spent_on records more f left others start before after first given rose so_far =
       let e = ap (each_spent prelude records) first ∙ first_spent records more f others given in omega (arith, e, rose, so_far)
 
   -- no library is left
-  pub spent_end : (records : List LibRecord) (left : List Found) (before whole after : ℕ) → left ≡ [] → after + each_spent prelude records left ≡ before + whole → after ≡ before + whole
+  pub spent_end : (records : List CompiledLibrary) (left : List Found) (before whole after : ℕ) → left ≡ [] → after + each_spent prelude records left ≡ before + whole → after ≡ before + whole
   spent_end records left before whole after none so_far = let e = ap (each_spent prelude records) none ∙ none_spent records in omega (arith, e, so_far)
 
   -- with links the records are the same
-  next_of : (all more : Gathered) (r : Result Linked Fault) (q : Result LibRecord Fault) → unlinked r ≡ q → (r >>= (λ l. Ok (with_linked all l))) ≡ Ok more
-      → (q >>= (λ one. let rs : Result (List LibRecord) Fault = Ok (all.records ++ one ∷ []) in rs)) ≡ Ok more.records
+  next_of : (all more : Gathered) (r : Result Linked Fault) (q : Result CompiledLibrary Fault) → unlinked r ≡ q → (r >>= (λ l. Ok (with_linked all l))) ≡ Ok more
+      → (q >>= (λ one. let rs : Result (List CompiledLibrary) Fault = Ok (all.records ++ one ∷ []) in rs)) ≡ Ok more.records
   next_of all more (Ok l) q same h =
-      ap (λ (s : Result LibRecord Fault). s >>= (λ one. let rs : Result (List LibRecord) Fault = Ok (all.records ++ one ∷ []) in rs)) (sym same)
-      ∙ (let e : with_linked all l ≡ more = cc in ap (λ (g : Gathered). let rs : Result (List LibRecord) Fault = Ok g.records in rs) e)
+      ap (λ (s : Result CompiledLibrary Fault). s >>= (λ one. let rs : Result (List CompiledLibrary) Fault = Ok (all.records ++ one ∷ []) in rs)) (sym same)
+      ∙ (let e : with_linked all l ≡ more = cc in ap (λ (g : Gathered). let rs : Result (List CompiledLibrary) Fault = Ok g.records in rs) e)
   next_of all more (Err f) q same h = absurd (cc)
 
   pub next_records : (all more : Gathered) (f : Found) → link_next prelude all ([], f) ≡ Ok more → expand_next prelude all.records ([], f) ≡ Ok more.records
@@ -56,19 +56,19 @@ module _ (prelude : Result Codes Fault) where
   then_next all last row rows (Err f) is others e = absurd (cc)
 
   pub all_next : (all last : Gathered) (rows : List (List ℕ × Found)) → turns (link_next prelude) all rows ≡ Ok last → turns (expand_next prelude) all.records rows ≡ Ok last.records
-  all_next all last [] h = let e : all ≡ last = cc in ap (λ (g : Gathered). let rs : Result (List LibRecord) Fault = Ok g.records in rs) e
+  all_next all last [] h = let e : all ≡ last = cc in ap (λ (g : Gathered). let rs : Result (List CompiledLibrary) Fault = Ok g.records in rs) e
   all_next all last (row ∷ rows) h = then_next all last row rows (link_next prelude all row) refl (λ more e. all_next more last rows e) h
 
   -- ---- behind the derived library
 
-  pub all_behind : {X E : Type 0} (result : Result X E) (derived : LibRecord) (records : List LibRecord) (fs : List Found) (before middle after : ℕ) → derived_record prelude ≡ Ok derived → records ≡ derived ∷ []
+  pub all_behind : {X E : Type 0} (result : Result X E) (derived : CompiledLibrary) (records : List CompiledLibrary) (fs : List Found) (before middle after : ℕ) → derived_record prelude ≡ Ok derived → records ≡ derived ∷ []
       → middle ≡ before + derived_spent prelude → OnOk result (after ≡ middle + each_spent prelude records fs) → OnOk result (after ≡ before + all_spent prelude fs)
   all_behind result derived records fs before middle after given is first rest =
       spent_both_by (derived_record prelude) derived (λ d. each_spent prelude (d ∷ []) fs) given result before middle after (derived_spent prelude) first
-      (subst (λ (rs : List LibRecord). OnOk result (after ≡ middle + each_spent prelude rs fs)) is rest)
+      (subst (λ (rs : List CompiledLibrary). OnOk result (after ≡ middle + each_spent prelude rs fs)) is rest)
 
   -- what was gathered of the derived library
-  alone : (r : Result LibRecord Fault) (all : Gathered) → (r >>= (λ d. let g : Result Gathered Fault = Ok (record { records = d ∷ []; links = [] }) in g)) ≡ Ok all
+  alone : (r : Result CompiledLibrary Fault) (all : Gathered) → (r >>= (λ d. let g : Result Gathered Fault = Ok (record { records = d ∷ []; links = [] }) in g)) ≡ Ok all
       → (fs : List Found) → spent_behind r (λ d. each_spent prelude (d ∷ []) fs) ≡ each_spent prelude all.records fs
   alone (Ok d) all h fs = let e : ◌≡◌ {A = Gathered} (record { records = d ∷ []; links = [] }) all = cc in ap (λ (g : Gathered). each_spent prelude g.records fs) e
   alone (Err f) all h fs = absurd (cc)
@@ -78,7 +78,7 @@ module _ (prelude : Result Codes Fault) where
   all_linked_behind (Ok x) all fs before middle after given first rest = let e = alone (derived_record prelude) all given fs in let r : after ≡ middle + each_spent prelude all.records fs = rest in omega (arith, e, first, r)
   all_linked_behind (Err x) all fs before middle after given first rest = tt
 
-  gathered : (r : Result LibRecord Fault) (last : Gathered) (rows : List (List ℕ × Found)) → derived_record prelude ≡ r
+  gathered : (r : Result CompiledLibrary Fault) (last : Gathered) (rows : List (List ℕ × Found)) → derived_record prelude ≡ r
       → ((r >>= (λ d. let g : Result Gathered Fault = Ok (record { records = d ∷ []; links = [] }) in g)) >>= (λ all. turns (link_next prelude) all rows)) ≡ Ok last → all_records prelude rows ≡ Ok last.records
   gathered (Ok d) last rows is h = ap (λ s. s >>= (λ x. turns (expand_next prelude) (x ∷ []) rows)) is ∙ all_next (record { records = d ∷ []; links = [] }) last rows h
   gathered (Err f) last rows is h = absurd (cc)
@@ -87,7 +87,7 @@ module _ (prelude : Result Codes Fault) where
   all_gathered last rows h = gathered (derived_record prelude) last rows refl h
 
   -- and a program behind all of them
-  pub program_behind : (rows : List (List ℕ × Found)) (found : Found) (records : List LibRecord) (before middle after : ℕ) → all_records prelude rows ≡ Ok records
+  pub program_behind : (rows : List (List ℕ × Found)) (found : Found) (records : List CompiledLibrary) (before middle after : ℕ) → all_records prelude rows ≡ Ok records
       → middle ≡ before + all_spent prelude (map (λ (row : List ℕ × Found). row.1) rows) → after ≡ middle + found_spent prelude records found (program_body found.opened.«data») → after ≡ before + program_spent prelude rows found
   unfolding program_spent
   program_behind rows found records before middle after given first rest =

@@ -2,9 +2,9 @@
 use Rattle.std.specs.Prelude.{Option, Some, None, if◌then◌else◌}
 use Rattle.sx_base.specs.Same.{same_library}
 use Rattle.sx_base.specs.declared.library.LibName.{LibName}
-use Rattle.sx_core.specs.declared.record.LibRecord.{LibRecord}
+use Rattle.sx_core.specs.declared.record.CompiledLibrary.{CompiledLibrary}
 
 -- a record, where it is that of a library
-abbrev pub named_at : LibName → Option LibRecord → Option LibRecord
+abbrev pub named_at : LibName → Option CompiledLibrary → Option CompiledLibrary
 named_at name None = None
 named_at name (Some r) = if same_library r.name name then Some r else None

@@ -9,7 +9,7 @@ use Rattle.sx_base.specs.declared.library.LibName.{LibName}
 use Rattle.sx_base.specs.declared.library.LibName.TheVariants as names
 use Rattle.sx_builtin.specs.Exports.{exports}
 use Rattle.sx_derived.specs.Derived.{relabelled_in}
-use Rattle.sx_core.specs.declared.record.LibRecord.{LibRecord}
+use Rattle.sx_core.specs.declared.record.CompiledLibrary.{CompiledLibrary}
 use Rattle.sx_import.specs.Names.{Labelled, import_names, joined}
 use Rattle.sx_import.specs.Turns.{turns}
 use Rattle.sx_import.specs.declared.set.ImportSet.{ImportSet}
@@ -17,43 +17,43 @@ use Rattle.sx_forms.specs.declared.set.Import.{Import}
 use Rattle.sx_load.specs.Load.{about, fitting, builtin_version}
 
 -- the record of a library
-abbrev pub named : LibName → List LibRecord → Option LibRecord
+abbrev pub named : LibName → List CompiledLibrary → Option CompiledLibrary
 named name records = find (λ r. same_library r.name name) records
 
-abbrev pub record_referred : ImportSet → Option LibRecord → Result (Unit {0}) Fault
+abbrev pub record_referred : ImportSet → Option CompiledLibrary → Result (Unit {0}) Fault
 record_referred set None = Err (about kind.LibraryNotFound set)
 record_referred set (Some r) = fitting r.version set tt
 
 -- the library is there, and its version fits the reference
-abbrev pub referred : List LibRecord → ImportSet → Result (Unit {0}) Fault
+abbrev pub referred : List CompiledLibrary → ImportSet → Result (Unit {0}) Fault
 referred records set =
     if is_some (exports set.library) then fitting builtin_version set tt
     else record_referred set (named set.library records)
 
-abbrev pub refer : List LibRecord → Unit {0} → Import → Result (Unit {0}) Fault
+abbrev pub refer : List CompiledLibrary → Unit {0} → Import → Result (Unit {0}) Fault
 refer records done import = referred records import.set
 
-abbrev pub record_exports : Option LibRecord → Labelled
+abbrev pub record_exports : Option CompiledLibrary → Labelled
 record_exports None = []
 record_exports (Some r) = r.exports
 
 -- of the names of the implementation a derived one stands for what the derived record exports, where that is there
-abbrev pub given_names : Option LibRecord → Labelled → Labelled
+abbrev pub given_names : Option CompiledLibrary → Labelled → Labelled
 given_names None names = names
 given_names (Some r) names = map (λ e. relabelled_in r e) names
 
-abbrev pub exported_by : Option LibRecord → Option LibRecord → Option Labelled → Labelled
+abbrev pub exported_by : Option CompiledLibrary → Option CompiledLibrary → Option Labelled → Labelled
 exported_by d r None = record_exports r
 exported_by d r (Some names) = given_names d names
 
 -- what a library exports: one that is given with the implementation, or one of these
-abbrev pub exported : List LibRecord → LibName → Labelled
+abbrev pub exported : List CompiledLibrary → LibName → Labelled
 exported records library = exported_by (named names.Derived records) (named library records) (exports library)
 
 -- the names of an import set, joined to others
-abbrev pub import_into : List LibRecord → Labelled → Import → Result Labelled Fault
+abbrev pub import_into : List CompiledLibrary → Labelled → Import → Result Labelled Fault
 import_into records names import = import_names import.set import.span (exported records import.set.library) >>= (λ more. joined import.span names more)
 
 -- each library is there in a version that fits, before any name is looked for
-unfoldable pub form_names : List LibRecord → List Import → Result Labelled Fault
+unfoldable pub form_names : List CompiledLibrary → List Import → Result Labelled Fault
 form_names records imports = turns (refer records) tt imports >>= (λ done. turns (import_into records) [] imports)

@@ -10,7 +10,7 @@ use Rattle.sx_tree.specs.Context.{blank}
 use Rattle.sx_tree.specs.Measures.{within}
 use Rattle.sx_tree.specs.Tree.{Tree, leaf}
 use Rattle.sx_tree.specs.Leaves.{tree_of}
-use Rattle.sx_core.specs.declared.record.LibRecord.{LibRecord}
+use Rattle.sx_core.specs.declared.record.CompiledLibrary.{CompiledLibrary}
 use Rattle.sx_import.specs.declared.set.NameAt.{NameAt}
 use Rattle.sx_forms.specs.declared.form.LibraryForm.{LibraryForm}
 use Rattle.sx_eval.specs.Codes.{Codes}
@@ -19,7 +19,7 @@ use Rattle.sx_expand.specs.Expanding.{Expanding, ready, library_record, library_
 use Rattle.sx_expand.specs.declared.top.Linked.{Linked}
 use Rattle.sx_prelude.specs.Spent.{spent_behind}
 use Rattle.sx_library.specs.Imports.{form_names}
-use Rattle.sx_library.specs.declared.library.Body.{Body}
+use Rattle.sx_library.specs.declared.library.LibrarySource.{LibrarySource}
 
 -- ---- what stands in the file, as syntax trees
 
@@ -49,23 +49,23 @@ export_tree e = (e.0, leaf (Some e.1.span) e.1.name blank)
 -- ---- the record
 
 -- an expander behind these records, which knows what the procedures mean that are texts
-abbrev pub expander_of : Result Codes Fault → LibName → List ℕ → List LibRecord → List (List ℕ × Label) → Result Expanding Fault
+abbrev pub expander_of : Result Codes Fault → LibName → List ℕ → List CompiledLibrary → List (List ℕ × Label) → Result Expanding Fault
 expander_of prelude name path records names = prelude >>= (λ codes. Ok (ready name path records names codes))
 
 -- the names that the form imports, and the forms of its body
-unfoldable pub body_of : List LibRecord → LibraryForm → List PlainDatum → Result Body Fault
+unfoldable pub body_of : List CompiledLibrary → LibraryForm → List PlainDatum → Result LibrarySource Fault
 body_of records form body =
     form_names records form.imports >>= (λ names.
     trees_at form.name_span [] body >>= (λ forms. Ok (record { names = names; forms = forms })))
 
 -- what procedures mean that are texts, and then the body, after these records: its record and its links
-unfoldable pub expand_body : Result Codes Fault → List LibRecord → List ℕ → LibraryForm → Body → Result Linked Fault
+unfoldable pub expand_body : Result Codes Fault → List CompiledLibrary → List ℕ → LibraryForm → LibrarySource → Result Linked Fault
 expand_body prelude records path form body =
     expander_of prelude form.name path records body.names >>= (λ e.
     library_linked e records form.version form.name_span (map export_tree form.exports) body.forms)
 
 -- the names that the form imports, the forms of its body, what procedures mean that are texts, and then the body, after these records
-unfoldable pub expand_library : Result Codes Fault → List LibRecord → List ℕ → LibraryForm → List PlainDatum → Result LibRecord Fault
+unfoldable pub expand_library : Result Codes Fault → List CompiledLibrary → List ℕ → LibraryForm → List PlainDatum → Result CompiledLibrary Fault
 expand_library prelude records path form body =
     form_names records form.imports >>= (λ names.
     trees_at form.name_span [] body >>= (λ forms.
@@ -73,7 +73,7 @@ expand_library prelude records path form body =
     library_record e records form.version form.name_span (map export_tree form.exports) forms)))
 
 -- the same, with the links of its expansion
-unfoldable pub link_library : Result Codes Fault → List LibRecord → List ℕ → LibraryForm → List PlainDatum → Result Linked Fault
+unfoldable pub link_library : Result Codes Fault → List CompiledLibrary → List ℕ → LibraryForm → List PlainDatum → Result Linked Fault
 link_library prelude records path form body =
     form_names records form.imports >>= (λ names.
     trees_at form.name_span [] body >>= (λ forms.
@@ -83,16 +83,16 @@ link_library prelude records path form body =
 -- ---- the fuel
 
 -- what the expansion of the body spends
-unfoldable pub body_spent : Result Codes Fault → List LibRecord → List ℕ → LibraryForm → Body → ℕ
+unfoldable pub body_spent : Result Codes Fault → List CompiledLibrary → List ℕ → LibraryForm → LibrarySource → ℕ
 body_spent prelude records path form body =
     spent_behind (expander_of prelude form.name path records body.names) (λ e. library_spent e records form.version form.name_span (map export_tree form.exports) body.forms)
 
 -- what that of a library or a program spends, after these records
-unfoldable pub form_spent : Result Codes Fault → List LibRecord → List ℕ → LibraryForm → List PlainDatum → ℕ
+unfoldable pub form_spent : Result Codes Fault → List CompiledLibrary → List ℕ → LibraryForm → List PlainDatum → ℕ
 form_spent prelude records path form body = spent_behind (body_of records form body) (body_spent prelude records path form)
 
 -- ---- a record alone
 
-abbrev pub unlinked : Result Linked Fault → Result LibRecord Fault
+abbrev pub unlinked : Result Linked Fault → Result CompiledLibrary Fault
 unlinked (Ok l) = Ok l.library
 unlinked (Err f) = Err f

@@ -4,7 +4,7 @@ use Rattle.sx_base.specs.Datum.{PlainDatum}
 use Rattle.sx_base.specs.Gives.{◌>>=◌}
 use Rattle.sx_base.specs.declared.fault.Fault.{Fault}
 use Rattle.sx_core.specs.declared.link.Link.{Link}
-use Rattle.sx_core.specs.declared.record.LibRecord.{LibRecord}
+use Rattle.sx_core.specs.declared.record.CompiledLibrary.{CompiledLibrary}
 use Rattle.sx_core_text.specs.Whole.{core_text}
 use Rattle.sx_eval.specs.Codes.{Codes}
 use Rattle.sx_expand.specs.declared.top.Linked.{Linked}
@@ -19,17 +19,17 @@ use Rattle.sx_plan.specs.Planned.{plan_of}
 use Rattle.sx_prelude.specs.Spent.{spent_behind}
 
 -- the record of a library or program behind the derived library and those that it needs
-abbrev pub expand_found : Result Codes Fault → List LibRecord → Found → List PlainDatum → Result LibRecord Fault
+abbrev pub expand_found : Result Codes Fault → List CompiledLibrary → Found → List PlainDatum → Result CompiledLibrary Fault
 expand_found prelude records found body = expand_library prelude (needed_records records (true ∷ found.needs)) found.opened.path found.opened.form body
 
-abbrev pub expand_next : Result Codes Fault → List LibRecord → List ℕ × Found → Result (List LibRecord) Fault
+abbrev pub expand_next : Result Codes Fault → List CompiledLibrary → List ℕ × Found → Result (List CompiledLibrary) Fault
 expand_next prelude records row = expand_found prelude records row.1 (library_body row.1.opened.«data») >>= (λ r. Ok (records ++ r ∷ []))
 
 -- the record of the derived library, and those of the others behind it, in the order of loading
-abbrev pub all_records : Result Codes Fault → List (List ℕ × Found) → Result (List LibRecord) Fault
+abbrev pub all_records : Result Codes Fault → List (List ℕ × Found) → Result (List CompiledLibrary) Fault
 all_records prelude rows = derived_record prelude >>= (λ d. turns (expand_next prelude) (d ∷ []) rows)
 
-abbrev pub planned_text : List LibRecord → LibRecord → Result (List ℕ) Fault
+abbrev pub planned_text : List CompiledLibrary → CompiledLibrary → Result (List ℕ) Fault
 planned_text records program = core_text records (plan_of records program) program
 
 -- the core text of a program behind the libraries that were loaded before it, or the first fault
@@ -43,7 +43,7 @@ fault_behind prelude rows fault = all_records prelude rows >>= (λ records. Err 
 -- ---- links
 
 -- the record and the links of a library or program behind the derived library and those that it needs
-abbrev pub link_found : Result Codes Fault → List LibRecord → Found → List PlainDatum → Result Linked Fault
+abbrev pub link_found : Result Codes Fault → List CompiledLibrary → Found → List PlainDatum → Result Linked Fault
 link_found prelude records found body = link_library prelude (needed_records records (true ∷ found.needs)) found.opened.path found.opened.form body
 
 abbrev pub with_linked : Gathered → Linked → Gathered
@@ -69,11 +69,11 @@ links_behind prelude rows found =
 -- ---- the fuel
 
 -- what the expansion of a library or program spends behind the derived library and those that it needs
-abbrev pub found_spent : Result Codes Fault → List LibRecord → Found → List PlainDatum → ℕ
+abbrev pub found_spent : Result Codes Fault → List CompiledLibrary → Found → List PlainDatum → ℕ
 found_spent prelude records found body = form_spent prelude (needed_records records (true ∷ found.needs)) found.opened.path found.opened.form body
 
 -- what those of libraries spend, each behind these records and those of the libraries before it
-unfoldable pub each_spent : Result Codes Fault → List LibRecord → List Found → ℕ
+unfoldable pub each_spent : Result Codes Fault → List CompiledLibrary → List Found → ℕ
 each_spent prelude records [] = 0
 each_spent prelude records (f ∷ fs) = found_spent prelude records f (library_body f.opened.«data») + spent_behind (expand_next prelude records ([], f)) (λ rs. each_spent prelude rs fs)
 

@@ -22,14 +22,14 @@ use sx_base::name::Label;
 use sx_base::span::Span;
 use sx_base::symbol::Symbol;
 use sx_builtin::exports::exports;
-use sx_core::record::LibRecord;
+use sx_core::record::CompiledLibrary;
 use sx_derived::derived::relabelled;
 use sx_forms::set::Import;
 use sx_import::names::Names;
 use sx_import::set::ImportSet;
 use sx_import::shared::Exports;
 use sx_import::sources::{Sources, add_source, has_source, join_source};
-use sx_import::table::Table;
+use sx_import::table::NameTable;
 use sx_load::refer::{VERSION, about, check_version, is_builtin};
 use sx_core::share::share_library;
 
@@ -62,7 +62,7 @@ fn referred(alloc: Global, needed: &Needed, set: &ImportSet) -> Result<(), Stop>
     }
 }
 
-fn record_referred(alloc: Global, set: &ImportSet, one: Option<&LibRecord>) -> Result<(), Stop>
+fn record_referred(alloc: Global, set: &ImportSet, one: Option<&CompiledLibrary>) -> Result<(), Stop>
     ensures { Gives (λ u. u) result (record_referred set.now (option_map (λ r. r.now) one.entry)) }
 {
     match one {
@@ -75,7 +75,7 @@ fn record_referred(alloc: Global, set: &ImportSet, one: Option<&LibRecord>) -> R
 fn import_all(alloc: Global, needed: &Needed, imports: &[Import]) -> Result<Names, Stop>
     ensures { Gives (λ names. names) result (turns (import_into (needed_records needed.now.records.now needed.now.marks.now)) [] imports.now) }
 {
-    let mut names = Table::new(alloc);
+    let mut names = NameTable::new(alloc);
     let mut sources = new_map(alloc);
     for import in imports {
         import_into(alloc, needed, &mut sources, &mut names, import)?;
@@ -141,7 +141,7 @@ fn exported(
 // The names of the implementation, behind the record of the derived library.
 fn given_names(
     alloc: Global,
-    derived: Option<&LibRecord>,
+    derived: Option<&CompiledLibrary>,
     names: Items<(Symbol, Label)>,
 ) -> Result<Items<(Symbol, Label)>, Memory>
     ensures { IfOk result (λ es. es ≡ given_names (option_map (λ r. r.now) derived.entry) names) }
@@ -154,7 +154,7 @@ fn given_names(
 
 fn all_relabelled(
     alloc: Global,
-    derived: &LibRecord,
+    derived: &CompiledLibrary,
     names: &[(Symbol, Label)],
 ) -> Result<Items<(Symbol, Label)>, Memory>
     ensures { IfOk result (λ es. es ≡ map (λ e. relabelled_in derived.now e) names.now) }
@@ -167,7 +167,7 @@ fn all_relabelled(
     Ok(all)
 }
 
-fn record_exports(alloc: Global, one: Option<&LibRecord>) -> Result<Items<(Symbol, Label)>, Memory>
+fn record_exports(alloc: Global, one: Option<&CompiledLibrary>) -> Result<Items<(Symbol, Label)>, Memory>
     ensures { IfOk result (λ names. names ≡ record_exports (option_map (λ r. r.now) one.entry)) }
 {
     match one {

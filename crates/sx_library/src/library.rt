@@ -28,7 +28,7 @@ use sx_forms::form::LibraryForm;
 use sx_fuel::fuel::Unspent;
 use sx_import::names::rows;
 use sx_import::set::NameAt;
-use sx_import::table::Table;
+use sx_import::table::NameTable;
 use sx_prelude::prelude::Prelude;
 use sx_prims::table::PrimTable;
 use sx_stage::earlier::Earlier;
@@ -40,7 +40,7 @@ use sx_tree::marks::Marks;
 
 /// What the body of a library or a program is expanded from: the names that its form imports, and its forms.
 #[derive(Drop)]
-pub struct Body {
+pub struct LibrarySource {
     pub names: Items<(Symbol, Label)>,
     pub forms: Items<Syn>,
 }
@@ -51,7 +51,7 @@ pub struct Unexpanded {
     /// Of its file.
     pub path: Symbol,
     pub form: LibraryForm,
-    pub body: Body,
+    pub body: LibrarySource,
 }
 
 // Where a library comes from: its name, and the path of its file.
@@ -69,13 +69,13 @@ pub fn body_of(
     needed: &Needed,
     form: &LibraryForm,
     body: &[Datum],
-) -> Result<Body, Stop>
+) -> Result<LibrarySource, Stop>
     ensures { Gives (λ b. b) result (body_of (needed_records needed.now.records.now needed.now.marks.now) form.now body.now) }
 {
     let names = form_names(alloc, needed, form.imports.as_slice())?;
     let names = rows(alloc, &names)?;
     let forms = trees_at(alloc, &form.name_span, body)?;
-    Ok(Body { names, forms })
+    Ok(LibrarySource { names, forms })
 }
 
 /// The record and the links of a library or a program, from its form and its body, which goes on the way, behind the
@@ -98,7 +98,7 @@ pub fn expand_body<N: Ledger, L: Ledger>(
     let version = share_version(alloc, unexpanded.form.version.as_slice())?;
     let begun = expander_of(alloc, &implementation.prelude, needed, &unexpanded, unspent)?;
     let Unexpanded { form, body, .. } = unexpanded;
-    let Body { forms, .. } = body;
+    let LibrarySource { forms, .. } = body;
     let body = LibraryBody {
         forms,
         place: &form.name_span,
@@ -223,7 +223,7 @@ fn at_datum(place: &Span, datum: &Datum, bare: Bare) -> Stop
 }
 
 // The exported identifiers, each with its external name.
-fn export_trees(alloc: Global, exports: &Table<NameAt>) -> Result<Items<(Symbol, Syn)>, Memory>
+fn export_trees(alloc: Global, exports: &NameTable<NameAt>) -> Result<Items<(Symbol, Syn)>, Memory>
     ensures { IfOk result (λ es. es ≡ map export_tree exports.now) }
 {
     let mut trees = Items::new(alloc);

@@ -19,14 +19,14 @@ use sx_base::items::Items;
 use sx_base::memory::Memory;
 use sx_base::symbol::Symbol;
 use sx_core::link::Link;
-use sx_core::record::LibRecord;
+use sx_core::record::CompiledLibrary;
 use sx_core_text::whole::core_text;
 use sx_derived::derived::derived_record;
 use sx_derived::implementation::Implementation;
 use sx_expand::tally::Tally;
 use sx_expand::top::Linked;
 use sx_forms::form::{LibraryForm, library_body, program_body};
-use sx_import::table::Table;
+use sx_import::table::NameTable;
 use sx_load::found::{Found, Opened};
 use sx_plan::planned::planned;
 
@@ -68,7 +68,7 @@ fn expand_next<N: Ledger, L: Ledger>(
 }
 
 // The record of an expansion, without its links.
-fn without_links(linked: Linked) -> LibRecord
+fn without_links(linked: Linked) -> CompiledLibrary
     ensures { result ≡ linked.library }
 {
     let Linked { library, .. } = linked;
@@ -90,7 +90,7 @@ fn record_of_one<N: Ledger, L: Ledger>(
     records: &Records,
     found: Found,
     tally: &mut Tally<N, L>,
-) -> Result<LibRecord, Stop>
+) -> Result<CompiledLibrary, Stop>
     ensures record { Gives (λ r. r) result (expand_found (kept implementation.now.prelude) records.now found (library_body found.opened.«data»)) }
     ensures fuel { OnOk result (tally.new.fuel ≡ tally.old.fuel + found_spent (kept implementation.now.prelude) records.now found (library_body found.opened.«data»)) }
 {
@@ -151,7 +151,7 @@ fn record_of_program<N: Ledger, L: Ledger>(
     records: &Records,
     found: Found,
     tally: &mut Tally<N, L>,
-) -> Result<LibRecord, Stop>
+) -> Result<CompiledLibrary, Stop>
     ensures record { Gives (λ r. r) result (expand_found (kept implementation.now.prelude) records.now found (program_body found.opened.«data»)) }
     ensures fuel { OnOk result (tally.new.fuel ≡ tally.old.fuel + found_spent (kept implementation.now.prelude) records.now found (program_body found.opened.«data»)) }
 {
@@ -165,7 +165,7 @@ fn records_behind<N: Ledger, L: Ledger>(
     alloc: Global,
     implementation: &Implementation,
     records: Records,
-    libraries: Table<Found>,
+    libraries: NameTable<Found>,
     tally: &mut Tally<N, L>,
 ) -> Result<Records, Stop>
     ensures records { Gives (λ rs. rs) result (turns (expand_next (kept implementation.now.prelude)) records libraries) }
@@ -182,7 +182,7 @@ fn records_behind<N: Ledger, L: Ledger>(
 fn all_records<N: Ledger, L: Ledger>(
     alloc: Global,
     implementation: &Implementation,
-    libraries: Table<Found>,
+    libraries: NameTable<Found>,
     tally: &mut Tally<N, L>,
 ) -> Result<Records, Stop>
     ensures records { Gives (λ rs. rs) result (all_records (kept implementation.now.prelude) libraries) }
@@ -194,7 +194,7 @@ fn all_records<N: Ledger, L: Ledger>(
 }
 
 // A program, with the libraries that it needs when it runs before it.
-fn planned_text(alloc: Global, records: &[LibRecord], program: &LibRecord) -> Result<String, Stop>
+fn planned_text(alloc: Global, records: &[CompiledLibrary], program: &CompiledLibrary) -> Result<String, Stop>
     ensures { Gives string_bytes result (planned_text records.now program.now) }
 {
     let plan = planned(alloc, records, program)?;
@@ -208,7 +208,7 @@ pub fn program_text<N: Ledger, L: Ledger>(
     alloc: Global,
     implementation: &Implementation,
     found: Found,
-    libraries: Table<Found>,
+    libraries: NameTable<Found>,
     tally: &mut Tally<N, L>,
 ) -> Result<String, Stop>
     ensures text { Gives string_bytes result (text_behind (kept implementation.now.prelude) libraries found) }
@@ -229,7 +229,7 @@ pub fn program_text<N: Ledger, L: Ledger>(
 pub fn first_fault<N: Ledger, L: Ledger>(
     alloc: Global,
     implementation: &Implementation,
-    libraries: Table<Found>,
+    libraries: NameTable<Found>,
     fault: Fault,
     tally: &mut Tally<N, L>,
 ) -> Stop
@@ -310,7 +310,7 @@ fn linked_behind<N: Ledger, L: Ledger>(
     alloc: Global,
     implementation: &Implementation,
     all: Gathered,
-    libraries: Table<Found>,
+    libraries: NameTable<Found>,
     tally: &mut Tally<N, L>,
 ) -> Result<Gathered, Stop>
     ensures linked { Gives (λ all. all) result (turns (link_next (kept implementation.now.prelude)) all libraries) }
@@ -326,7 +326,7 @@ fn linked_behind<N: Ledger, L: Ledger>(
 fn all_linked<N: Ledger, L: Ledger>(
     alloc: Global,
     implementation: &Implementation,
-    libraries: Table<Found>,
+    libraries: NameTable<Found>,
     tally: &mut Tally<N, L>,
 ) -> Result<Gathered, Stop>
     ensures linked { Gives (λ all. all) result (all_linked (kept implementation.now.prelude) libraries) }
@@ -343,7 +343,7 @@ pub fn program_links<N: Ledger, L: Ledger>(
     alloc: Global,
     implementation: &Implementation,
     found: Found,
-    libraries: Table<Found>,
+    libraries: NameTable<Found>,
     tally: &mut Tally<N, L>,
 ) -> Result<Items<Link>, Stop>
     ensures links { Gives (λ ls. ls) result (links_behind (kept implementation.now.prelude) libraries found) }

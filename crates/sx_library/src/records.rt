@@ -12,7 +12,7 @@ use std::marker::Model;
 use sx_base::library::LibName;
 use sx_base::map::{NameMap, new_map};
 use sx_base::memory::Memory;
-use sx_core::record::LibRecord;
+use sx_core::record::CompiledLibrary;
 use sx_standing::ready::ReadyRecords;
 use sx_core::share::share_library;
 
@@ -27,11 +27,11 @@ pub struct Records {
 impl Model for Records {
     ghost use Rattle.std.specs.Prelude.{List};
     ghost use Rattle.std.specs.Coded.{coded_list};
-    ghost use Rattle.sx_core.specs.declared.record.LibRecord.{LibRecord};
-    ghost use Rattle.sx_core.specs.contracts.record.LibRecord as records;
+    ghost use Rattle.sx_core.specs.declared.record.CompiledLibrary.{CompiledLibrary};
+    ghost use Rattle.sx_core.specs.contracts.record.CompiledLibrary as records;
     ghost use Rattle.sx_library.specs.Records.{ArePlaces};
 
-    ghost Value = { List LibRecord };
+    ghost Value = { List CompiledLibrary };
 
     ghost coded = { coded_list records.the_row.coded };
 
@@ -54,7 +54,7 @@ impl Records {
 
     /// Puts a record at the end. A second record of one library is refused as want of memory is. After a refusal
     /// the records are as before, and all else is refused.
-    pub fn push(&mut self, alloc: Global, last: LibRecord) -> Result<(), Memory>
+    pub fn push(&mut self, alloc: Global, last: CompiledLibrary) -> Result<(), Memory>
         ensures ok { OnOk result (self.new ≡ self.old ++ last ∷ []) }
         ensures err { OnErr result (self.new ≡ self.old) }
     {
@@ -72,7 +72,7 @@ impl Records {
     }
 
     /// One record.
-    pub(crate) fn of_one(alloc: Global, only: LibRecord) -> Result<Records, Memory>
+    pub(crate) fn of_one(alloc: Global, only: CompiledLibrary) -> Result<Records, Memory>
         ensures { IfOk result (λ r. r ≡ only ∷ []) }
     {
         let mut records = Records::new(alloc)?;
@@ -88,13 +88,13 @@ impl Records {
     }
 
     /// The records alone. It takes no memory.
-    pub fn into_records(self) -> Vec<LibRecord>
+    pub fn into_records(self) -> Vec<CompiledLibrary>
         ensures { result.items ≡ self }
     {
         self.list.into_records()
     }
 
-    fn at(&self, place: usize) -> Option<&LibRecord>
+    fn at(&self, place: usize) -> Option<&CompiledLibrary>
         ensures { option_copied result ≡ slice_get self.now place }
     {
         let records = self.list.as_slice();
@@ -116,7 +116,7 @@ impl Records {
     }
 
     // The record at a place, where it is that of a library.
-    fn named_at(&self, place: usize, name: &LibName) -> Option<&LibRecord>
+    fn named_at(&self, place: usize, name: &LibName) -> Option<&CompiledLibrary>
         ensures { option_copied result ≡ named_at name.now (slice_get self.now place) }
     {
         let Some(record) = self.at(place) else {
@@ -130,7 +130,7 @@ impl Records {
     }
 
     // The record of a library, by asking each that is needed.
-    fn sought(&self, needs: &[bool], name: &LibName) -> Option<&LibRecord>
+    fn sought(&self, needs: &[bool], name: &LibName) -> Option<&CompiledLibrary>
         ensures { option_copied result ≡ named name.now (needed_records self.now needs.now) }
     {
         for (place, mark) in needs.iter().enumerate() {
@@ -144,7 +144,7 @@ impl Records {
     }
 
     /// The record of a library, among those that are needed.
-    pub fn named(&self, needs: &[bool], name: &LibName) -> Option<&LibRecord>
+    pub fn named(&self, needs: &[bool], name: &LibName) -> Option<&CompiledLibrary>
         ensures { option_copied result ≡ named name.now (needed_records self.now needs.now) }
     {
         let Some(place) = self.place_of(name) else {
@@ -169,7 +169,7 @@ pub struct Needed<'a> {
 
 impl Needed<'_> {
     /// The record of a library, among these.
-    pub fn named(&self, name: &LibName) -> Option<&LibRecord>
+    pub fn named(&self, name: &LibName) -> Option<&CompiledLibrary>
         ensures { option_copied result ≡ named name.now (needed_records self.now.records.now self.now.marks.now) }
     {
         self.records.named(self.marks, name)

@@ -2,7 +2,7 @@
 use Rattle.std.proofs.Common.{None}
 use Rattle.sx_tree.specs.Tree.{Tree}
 use Rattle.sx_records.specs.Names.{record_uid}
-use Rattle.sx_invariant_expansion_laws.specs.Kept.{IsBuilt, IsKept}
+use Rattle.sx_invariant_expansion_laws.specs.Kept.{IsBuilt, IsKeptByExpansion}
 use Rattle.sx_limit_laws.specs.Holds.{trees}
 use Rattle.sx_limit_laws.specs.Lawful.{IsLawful}
 use Rattle.sx_limit_laws.proofs.Steady.{trees-closed, trees-steady}
@@ -19,7 +19,7 @@ module _ (T : Tree → Type 0) (lawful : IsLawful T) where
     symbols = λ s x c h. tt;
   }
 
-  pub trees-kept : IsKept (trees T)
+  pub trees-kept : IsKeptByExpansion (trees T)
   trees-kept = record {
     built = trees-built;
     steady = trees-steady T lawful;

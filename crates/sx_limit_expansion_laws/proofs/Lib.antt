@@ -2,6 +2,6 @@ pub mod Records
 pub mod Kept
 pub mod Shapes
 pub mod Standing
-pub mod Settled
+pub mod PlannedForm
 pub mod Recorded
 pub mod Limits

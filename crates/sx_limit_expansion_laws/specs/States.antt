@@ -15,4 +15,4 @@ module _ (T : Tree → Type 0) where
   BindingsHold = states.BindingsHold (trees T)
 
   abbrev pub HoldsIn : State → Type 0
-  HoldsIn = states.HoldsIn (trees T)
+  HoldsIn = states.StateHoldsIn (trees T)

@@ -8,9 +8,9 @@ use Rattle.sx_tree.specs.Changes.{changed}
 use Rattle.sx_tree.specs.Tree.{Tree}
 use Rattle.sx_tree.specs.declared.change.Change.{Change}
 use Rattle.sx_core.specs.Core.{PlainCore}
-use Rattle.sx_core.specs.declared.record.LibRecord.{LibRecord}
+use Rattle.sx_core.specs.declared.record.CompiledLibrary.{CompiledLibrary}
 use Rattle.sx_stage.specs.Stage.{PlainStage}
-use Rattle.sx_stage.specs.Transformers.{begin_keyword, finish_keyword, is_variable_transformer}
+use Rattle.sx_stage.specs.Transformers.{begin_keyword, evaluate_transformer, is_variable_transformer}
 use Rattle.sx_stage.specs.Uses.{used}
 use Rattle.sx_invariant_laws.proofs.Steady as steady
 use Rattle.sx_limit_laws.specs.Holds.{CoreHolds, trees}
@@ -35,12 +35,12 @@ module _ (T : Tree → Type 0) (lawful : IsLawful T) where
   pub begin-holds : (l : Label) (place : Span) (g : PlainStage) → StageHolds T g → GaveStage Done (begin_keyword l place g)
   begin-holds l place g h = steady.begin-holds (trees T) (trees-steady T lawful) l place g h
 
-  pub finish-holds : (place : Span) (rs : List LibRecord) (l : Label) (c : PlainCore) (g : PlainStage) → StageHolds T g → RecordsHold T rs → CoreHolds T c → GaveStage Done (finish_keyword place rs l c g)
+  pub finish-holds : (place : Span) (rs : List CompiledLibrary) (l : Label) (c : PlainCore) (g : PlainStage) → StageHolds T g → RecordsHold T rs → CoreHolds T c → GaveStage Done (evaluate_transformer place rs l c g)
   finish-holds place rs l c g h k j = steady.finish-holds (trees T) (trees-steady T lawful) place rs l c g h k j
 
-  pub asks-holds : (place : Span) (rs : List LibRecord) (l : Label) (e : Option PlainCore) (g : PlainStage) → StageHolds T g → RecordsHold T rs → ExpressionHolds T e → GaveStage Told (is_variable_transformer place rs l e g)
+  pub asks-holds : (place : Span) (rs : List CompiledLibrary) (l : Label) (e : Option PlainCore) (g : PlainStage) → StageHolds T g → RecordsHold T rs → ExpressionHolds T e → GaveStage Told (is_variable_transformer place rs l e g)
   asks-holds place rs l e g h k j = steady.asks-holds (trees T) (trees-steady T lawful) place rs l e g h k j
 
-  pub used-holds : (place : Span) (rs : List LibRecord) (t : Tree) (l : Label) (e : Option PlainCore) (f : Option FrameNo) (g : PlainStage) → StageHolds T g → RecordsHold T rs → ExpressionHolds T e → T t
+  pub used-holds : (place : Span) (rs : List CompiledLibrary) (t : Tree) (l : Label) (e : Option PlainCore) (f : Option FrameNo) (g : PlainStage) → StageHolds T g → RecordsHold T rs → ExpressionHolds T e → T t
       → GaveStage T (used place rs t l e f g)
   used-holds place rs t l e f g h k j i = steady.used-holds (trees T) (trees-steady T lawful) place rs t l e f g h k j i

@@ -2,7 +2,7 @@
 use Rattle.std.specs.Prelude.{List, Option}
 use Rattle.sx_tree.specs.Tree.{Tree}
 use Rattle.sx_core.specs.Core.{PlainCore}
-use Rattle.sx_core.specs.declared.record.LibRecord.{LibRecord}
+use Rattle.sx_core.specs.declared.record.CompiledLibrary.{CompiledLibrary}
 use Rattle.sx_stage.specs.Stage.{PlainStage}
 use Rattle.sx_stage.specs.declared.keyword.Keyword.{Keyword}
 use Rattle.sx_invariant_laws.specs.Stages as stages
@@ -18,7 +18,7 @@ module _ (T : Tree → Type 0) where
   KeywordHolds = stages.KeywordHolds (trees T)
 
   -- the lines of libraries, which are evaluated on demand
-  abbrev pub RecordsHold : List LibRecord → Type 0
+  abbrev pub RecordsHold : List CompiledLibrary → Type 0
   RecordsHold = stages.RecordsHold (trees T)
 
   -- all cells, codes, variables and keywords of a stage

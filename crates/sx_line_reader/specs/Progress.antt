@@ -4,13 +4,13 @@ use Rattle.sx_base.specs.Datum.{PlainDatum}
 use Rattle.sx_base.specs.declared.fault.Fault.{Fault}
 use Rattle.sx_base.specs.declared.memory.Memory.{Memory}
 use Rattle.sx_line_reader.specs.declared.progress.OpenList.{OpenList}
-use Rattle.sx_line_reader.specs.declared.progress.Progress.{Progress}
+use Rattle.sx_line_reader.specs.declared.progress.LineProgress.{LineProgress}
 use Rattle.sx_lexer.specs.declared.token.Bracket.{Bracket}
 use Rattle.sx_machine.specs.declared.extent.Extent.{Extent}
-use Rattle.sx_machine.specs.declared.partial.Parts.TheVariants as parts
+use Rattle.sx_machine.specs.declared.partial.OpenParts.TheVariants as parts
 use Rattle.sx_machine.specs.declared.partial.Partial.{Partial}
-use Rattle.sx_machine.specs.declared.partial.State.{State}
-use Rattle.sx_machine.specs.declared.partial.Tail.TheVariants as tail
+use Rattle.sx_machine.specs.declared.partial.ReaderState.{ReaderState}
+use Rattle.sx_machine.specs.declared.partial.OpenTail.TheVariants as tail
 use Rattle.sx_machine.specs.Step.{state}
 
 -- the form that a list is
@@ -18,15 +18,15 @@ abbrev pub as_form : OpenList → Partial
 as_form l = record { opening = l.opening; room = l.room; parts = parts.List l.bracket l.items tail.Absent }
 
 -- a list with what is around it
-abbrev pub held : State → OpenList → State
+abbrev pub held : ReaderState → OpenList → ReaderState
 held s l = state (as_form l ∷ s.stack) s.done
 
-abbrev pub with_list : State → Option OpenList → State
+abbrev pub with_list : ReaderState → Option OpenList → ReaderState
 with_list s None = s
 with_list s (Some l) = held s l
 
 -- all of it
-abbrev pub whole : Progress → State
+abbrev pub whole : LineProgress → ReaderState
 whole p = with_list p.around p.list
 
 -- with one more element
@@ -43,7 +43,7 @@ IsForm (Ok l) f = f ≡ as_form l
 IsForm (Err g) f = f ≡ g
 
 -- a step was taken, or nothing changed, as the answer tells
-abbrev pub Tries : Result Bool Memory → Result State Fault → State → State → Type 0
+abbrev pub Tries : Result Bool Memory → Result ReaderState Fault → ReaderState → ReaderState → Type 0
 Tries (Ok true) given before after = given ≡ Ok after
 Tries (Ok false) given before after = after ≡ before
 Tries (Err lack) given before after = Unit {0}

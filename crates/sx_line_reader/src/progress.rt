@@ -22,7 +22,7 @@ use sx_base::symbol::Symbol;
 use sx_lexer::token::{Bracket, Lexeme, Token};
 use sx_machine::context::SourceContext;
 use sx_machine::extent::{Extent, span_at};
-use sx_machine::partial::{Partial, Parts, State, Tail};
+use sx_machine::partial::{Partial, OpenParts, ReaderState, OpenTail};
 use sx_machine::step::{finish, step};
 
 /// A list whose end hasn't come, its elements so far, and no dot behind them.
@@ -38,8 +38,8 @@ pub struct OpenList {
 /// What the tokens so far have come to. Where the innermost open form is a list without a dot, it stands apart from what is
 /// around it, so that an element is put into it where it is.
 #[derive(Drop)]
-pub struct Progress {
-    pub around: State,
+pub struct LineProgress {
+    pub around: ReaderState,
     pub list: Option<OpenList>,
 }
 
@@ -70,7 +70,7 @@ fn as_form(list: OpenList) -> Partial
         bracket,
         items,
     } = list;
-    let parts = Parts::List(bracket, items, Tail::Absent);
+    let parts = OpenParts::List(bracket, items, OpenTail::Absent);
     Partial {
         opening,
         room,
@@ -88,7 +88,7 @@ fn list_in(form: Partial) -> Result<OpenList, Partial>
         parts,
     } = form;
     match parts {
-        Parts::List(bracket, items, Tail::Absent) => Ok(OpenList {
+        OpenParts::List(bracket, items, OpenTail::Absent) => Ok(OpenList {
             opening,
             room,
             bracket,
@@ -178,7 +178,7 @@ fn same_bracket(one: Bracket, other: Bracket) -> bool
 // Opens a list inside the innermost one, where it may be opened there.
 fn opened(
     context: &SourceContext,
-    around: &mut State,
+    around: &mut ReaderState,
     list: &mut OpenList,
     bracket: Bracket,
     at: Extent,
@@ -198,7 +198,7 @@ fn opened(
 // Ends the innermost list, where it is an element of another list without a dot.
 fn closed(
     context: &SourceContext,
-    around: &mut State,
+    around: &mut ReaderState,
     list: &mut OpenList,
     bracket: Bracket,
     at: Extent,
@@ -227,13 +227,13 @@ fn closed(
     }
 }
 
-impl Progress {
+impl LineProgress {
     /// Before the first token. It takes no memory.
-    pub fn new(alloc: Global) -> Progress
+    pub fn new(alloc: Global) -> LineProgress
         ensures { whole result ≡ state [] [] }
     {
-        Progress {
-            around: State::new(alloc),
+        LineProgress {
+            around: ReaderState::new(alloc),
             list: None,
         }
     }
@@ -294,7 +294,7 @@ impl Progress {
         ensures { Gives (λ _. whole self.new) result (step context.now.file.now context.now.nesting (whole self.old) lexeme) }
     {
         self.join()?;
-        let before = mem::replace(&mut self.around, State::new(context.alloc));
+        let before = mem::replace(&mut self.around, ReaderState::new(context.alloc));
         self.around = step(context, before, lexeme)?;
         self.part()?;
         Ok(())

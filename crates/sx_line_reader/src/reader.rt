@@ -6,7 +6,7 @@ ghost use Rattle.sx_line_reader.specs.Words.{begins_word, begins_number};
 ghost use Rattle.sx_lexer.specs.Tokens.{next_lexeme, lexeme};
 ghost use Rattle.sx_reader.specs.Read.{data_of, most_nesting};
 
-use crate::progress::Progress;
+use crate::progress::LineProgress;
 use crate::recent::{Recent, Symbols};
 use crate::words::{begins_number, begins_word, ends_word, word_size};
 use std::alloc::Global;
@@ -16,7 +16,7 @@ use sx_base::datum::Datum;
 use sx_base::fault::Stop;
 use sx_base::memory::Memory;
 use sx_base::symbol::Symbol;
-use sx_lexer::names::Names;
+use sx_lexer::names::SymbolTable;
 use sx_lexer::start::start_of;
 use sx_lexer::token::{Bracket, Lexeme, Token};
 use sx_lexer::tokens::next_lexeme;
@@ -59,7 +59,7 @@ impl LineReader {
         let keywords = Keywords::new(alloc)?;
         let symbols = Symbols {
             recent: Recent::new(alloc)?,
-            names: Names::new(alloc),
+            names: SymbolTable::new(alloc),
         };
         Ok(LineReader {
             alloc,
@@ -88,7 +88,7 @@ impl LineReader {
     // So many bytes are read. Symbols that no line has any more don't pile up.
     fn count(&mut self, bytes: usize) {
         if self.bytes >= SHARING {
-            self.symbols.names = Names::new(self.alloc);
+            self.symbols.names = SymbolTable::new(self.alloc);
             self.bytes = 0;
         }
         self.bytes = self.bytes.saturating_add(bytes);
@@ -104,7 +104,7 @@ fn read_with(
     requires { length bytes.now < 2 ^ 32 }
     ensures { Gives (λ v. v.items) result (data_of context.now.file.now bytes.now context.now.nesting) }
 {
-    let mut progress = Progress::new(context.alloc);
+    let mut progress = LineProgress::new(context.alloc);
     let mut at = start_of(context.alloc, context.file, bytes)?;
     loop {
         let Some(lexeme) = lexeme_behind(symbols, context.file, bytes, at)? else {

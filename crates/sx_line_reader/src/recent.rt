@@ -6,7 +6,7 @@ use std::alloc::Global;
 use std::marker::Model;
 use sx_base::memory::Memory;
 use sx_base::symbol::Symbol;
-use sx_lexer::names::Names;
+use sx_lexer::names::SymbolTable;
 
 /// How many symbols are kept.
 const PLACES: usize = 512;
@@ -30,7 +30,7 @@ impl Model for Recent {
 pub struct Symbols {
     pub recent: Recent,
     /// Those that the lexer made.
-    pub names: Names,
+    pub names: SymbolTable,
 }
 
 impl Recent {
@@ -47,7 +47,7 @@ impl Recent {
     pub fn named(&mut self, text: &str) -> Result<Symbol, Memory>
         ensures { IfOk result (λ s. s ≡ text.now) }
     {
-        let place = place_of(text.as_bytes());
+        let place = slot_of(text.as_bytes());
         if place < self.symbols.len() {
             let known = &self.symbols[place];
             if known.as_str() == text {
@@ -70,7 +70,7 @@ impl Recent {
 }
 
 // The place of a text, by its last two bytes.
-fn place_of(text: &[u8]) -> usize {
+fn slot_of(text: &[u8]) -> usize {
     match text {
         [] => 0,
         [one] => *one as usize,

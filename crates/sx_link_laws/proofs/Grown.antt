@@ -14,7 +14,7 @@ use Rattle.sx_standing.specs.State.{State, Does, staged, noted}
 use Rattle.sx_hygiene_laws.specs.Marked.{Among}
 use Rattle.sx_value.specs.Cells.{Each}
 use Rattle.sx_fresh_laws.proofs.Eachs.{each_both, each_mapped}
-use Rattle.sx_reference_laws.specs.Noted.{Reference, Expression, Noted, both}
+use Rattle.sx_reference_laws.specs.Noted.{Reference, KeywordExpression, Noted, both}
 use Rattle.sx_link_laws.specs.Links.{link_to, primitive_label, IsLink, CodeLinked, IsLinked, AreLinked, ExpressionsLinked, NotedLinked}
 
 -- links of identifiers behind those that were there
@@ -103,22 +103,22 @@ code-later s u g p _ h = tt
 pub references-later : (s u : State) → Grows s u → (refs : List Reference) → AreLinked s.links refs → AreLinked u.links refs
 references-later s u g refs h = each_mapped (IsLinked s.links) (IsLinked u.links) (λ r k. λ p e. code-later s u g p r.code (k p e)) refs h
 
-pub expressions-later : (s u : State) → Grows s u → (es : List Expression) → ExpressionsLinked s.links es → ExpressionsLinked u.links es
+pub expressions-later : (s u : State) → Grows s u → (es : List KeywordExpression) → ExpressionsLinked s.links es → ExpressionsLinked u.links es
 expressions-later s u g es h =
-    each_mapped (λ (e : Expression). AreLinked s.links e.references) (λ (e : Expression). AreLinked u.links e.references) (λ e k. references-later s u g e.references k) es h
+    each_mapped (λ (e : KeywordExpression). AreLinked s.links e.references) (λ (e : KeywordExpression). AreLinked u.links e.references) (λ e k. references-later s u g e.references k) es h
 
 -- What came of forms between two states: links were added, and what is noted is linked.
 pub record Went (s u : State) (x : Noted) : Type 0 where
   pub grows : Grows s u
   pub linked : NotedLinked u.links x
 
-pub record Kept (s u : State) (es : List Expression) : Type 0 where
+pub record Kept (s u : State) (es : List KeywordExpression) : Type 0 where
   pub grows : Grows s u
   pub linked : ExpressionsLinked u.links es
 
 pub both-linked : (ls : List Link) (x y : Noted) → NotedLinked ls x → NotedLinked ls y → NotedLinked ls (both x y)
 both-linked ls x y h k =
-    (each_both (IsLinked ls) x.references y.references h.0 k.0, each_both (λ (e : Expression). AreLinked ls e.references) x.expressions y.expressions h.1 k.1)
+    (each_both (IsLinked ls) x.references y.references h.0 k.0, each_both (λ (e : KeywordExpression). AreLinked ls e.references) x.expressions y.expressions h.1 k.1)
 
 pub linked-later : (s u : State) → Grows s u → (x : Noted) → NotedLinked s.links x → NotedLinked u.links x
 linked-later s u g x h = (references-later s u g x.references h.0, expressions-later s u g x.expressions h.1)
@@ -132,9 +132,9 @@ went-from r s u x g h = record { grows = grows-then r s u g h.grows; linked = h.
 pub went-to : (s t u : State) (x : Noted) → u.links ≡ t.links → Went s t x → Went s u x
 went-to s t u x e h = record { grows = grows-to s t u e h.grows; linked = subst (λ (ls : List Link). NotedLinked ls x) (sym e) h.linked }
 
-pub kept-both : (s v u : State) (es fs : List Expression) → Kept s v es → Kept v u fs → Kept s u (es ++ fs)
+pub kept-both : (s v u : State) (es fs : List KeywordExpression) → Kept s v es → Kept v u fs → Kept s u (es ++ fs)
 kept-both s v u es fs h k =
-    record { grows = grows-then s v u h.grows k.grows; linked = each_both (λ (e : Expression). AreLinked u.links e.references) es fs (expressions-later v u k.grows es h.linked) k.linked }
+    record { grows = grows-then s v u h.grows k.grows; linked = each_both (λ (e : KeywordExpression). AreLinked u.links e.references) es fs (expressions-later v u k.grows es h.linked) k.linked }
 
-pub kept-from : (r s u : State) (es : List Expression) → Grows r s → Kept s u es → Kept r u es
+pub kept-from : (r s u : State) (es : List KeywordExpression) → Grows r s → Kept s u es → Kept r u es
 kept-from r s u es g h = record { grows = grows-then r s u g h.grows; linked = h.linked }

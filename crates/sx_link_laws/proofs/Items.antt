@@ -6,7 +6,7 @@ use Rattle.sx_base.specs.declared.fault.Fault.{Fault}
 use Rattle.sx_base.specs.declared.name.Label.{Label}
 use Rattle.sx_tree.specs.Tree.{Tree, atom, leaf, pair, vector}
 use Rattle.sx_core.specs.declared.core_form.CoreForm.{CoreForm}
-use Rattle.sx_core.specs.declared.record.LibRecord.{LibRecord}
+use Rattle.sx_core.specs.declared.record.CompiledLibrary.{CompiledLibrary}
 use Rattle.sx_shapes.specs.At.{place_of}
 use Rattle.sx_shapes.specs.Forms.{shape}
 use Rattle.sx_shapes.specs.Lists.{is_leaf}
@@ -27,10 +27,10 @@ use Rattle.sx_heads.specs.declared.item.Item.TheVariants as items
 use Rattle.sx_heads.specs.declared.taken.BodyAt.{BodyAt}
 use Rattle.sx_heads.specs.declared.taken.Taken.{Taken}
 use Rattle.sx_heads.specs.declared.taken.Waits.TheVariants as waits
-use Rattle.sx_expand.specs.Settle as settling
-use Rattle.sx_expand.specs.Settle.{next_form, too_many, at_use, set_item_step, item_step_of, item_step, settle_item_to, settle_item}
-use Rattle.sx_expand.specs.declared.settle.ItemStep.{ItemStep}
-use Rattle.sx_expand.specs.declared.settle.ItemStep.TheVariants as item_steps
+use Rattle.sx_expand.specs.ExpandUses as settling
+use Rattle.sx_expand.specs.ExpandUses.{next_form, too_many, at_use, set_item_step, item_step_of, item_step, expand_item_uses_to, expand_item_uses}
+use Rattle.sx_expand.specs.declared.expand_uses.ItemOrUse.{ItemOrUse}
+use Rattle.sx_expand.specs.declared.expand_uses.ItemOrUse.TheVariants as item_steps
 use Rattle.sx_link_laws.proofs.Grown.{grows-same, Grew, grew-after, grew-if}
 use Rattle.sx_link_laws.proofs.Settling.{next-form-grew}
 use Rattle.sx_link_laws.proofs.Standing.{variable-grew, bind-keyword-grew, asks-variable-grew}
@@ -166,7 +166,7 @@ module _ (at : BodyAt) where
     plan-grew d (pair r a e) s = list-grew d (pair r a e) a s
     plan-grew d (vector r e) s = grows-same s s refl
 
-module _ (rs : List LibRecord) where
+module _ (rs : List CompiledLibrary) where
   set-step-grew : (at : BodyAt) (depth : ℕ) (d : Taken) (t : Tree) (l : Label) (b : Bool) (s : State) → Grew s (set_item_step at depth d t l b s)
   set-step-grew at depth d t l true s = grows-same s s refl
   set-step-grew at depth d t l false s = grows-same s s refl
@@ -184,22 +184,22 @@ module _ (rs : List LibRecord) where
   unfolding item_step
   step-grew at depth d t s = grew-after s (item_plan at depth d t s) (λ p. item_step_of rs at depth t p.0 p.1) (plan-grew at depth d t s) (λ p u. step-of-grew at depth t p.0 p.1 u)
 
-  settle-item-to-grew : (left : ℕ) (at : BodyAt) (depth : ℕ) (d : Taken) (t : Tree) (s : State) → Grew s (settle_item_to rs left at depth d t s)
-  unfolding settle_item_to
-  settle-item-to-grew zero at depth d t s = grew-after s (item_step rs at depth d t s) (settling.item_by (λ done k. too_many t at.place) at t) (step-grew at depth d t s) by
+  expand_uses-item-to-grew : (left : ℕ) (at : BodyAt) (depth : ℕ) (d : Taken) (t : Tree) (s : State) → Grew s (expand_item_uses_to rs left at depth d t s)
+  unfolding expand_item_uses_to
+  expand_uses-item-to-grew zero at depth d t s = grew-after s (item_step rs at depth d t s) (settling.item_by (λ done k. too_many t at.place) at t) (step-grew at depth d t s) by
     where
-      by : (p : Taken × ItemStep) (u : State) → Grew u (settling.item_by (λ done k. too_many t at.place) at t p u)
+      by : (p : Taken × ItemOrUse) (u : State) → Grew u (settling.item_by (λ done k. too_many t at.place) at t p u)
       by (e, item_steps.Item i) u = grows-same u u refl
       by (e, item_steps.Use k) u = tt
-  settle-item-to-grew (suc left) at depth d t s =
-      grew-after s (item_step rs at depth d t s) (settling.item_by (λ taken k s'. after (next_form rs left at.place t k (Some at.frame) s') (settle_item_to rs left (at_use at t) depth taken)) at t) (step-grew at depth d t s)
-      (λ p u. by p u (λ e v w. settle-item-to-grew left (at_use at t) depth e v w))
+  expand_uses-item-to-grew (suc left) at depth d t s =
+      grew-after s (item_step rs at depth d t s) (settling.item_by (λ taken k s'. after (next_form rs left at.place t k (Some at.frame) s') (expand_item_uses_to rs left (at_use at t) depth taken)) at t) (step-grew at depth d t s)
+      (λ p u. by p u (λ e v w. expand_uses-item-to-grew left (at_use at t) depth e v w))
     where
-      by : (p : Taken × ItemStep) (u : State) → ((e : Taken) (v : Tree) (w : State) → Grew w (settle_item_to rs left (at_use at t) depth e v w))
-          → Grew u (settling.item_by (λ taken k s'. after (next_form rs left at.place t k (Some at.frame) s') (settle_item_to rs left (at_use at t) depth taken)) at t p u)
+      by : (p : Taken × ItemOrUse) (u : State) → ((e : Taken) (v : Tree) (w : State) → Grew w (expand_item_uses_to rs left (at_use at t) depth e v w))
+          → Grew u (settling.item_by (λ taken k s'. after (next_form rs left at.place t k (Some at.frame) s') (expand_item_uses_to rs left (at_use at t) depth taken)) at t p u)
       by (e, item_steps.Item i) u again = grows-same u u refl
       by (e, item_steps.Use k) u again =
-          grew-after u (next_form rs left at.place t k (Some at.frame) u) (settle_item_to rs left (at_use at t) depth e) (next-form-grew rs left at.place t k (Some at.frame) u) (λ v w. again e v w)
+          grew-after u (next_form rs left at.place t k (Some at.frame) u) (expand_item_uses_to rs left (at_use at t) depth e) (next-form-grew rs left at.place t k (Some at.frame) u) (λ v w. again e v w)
 
-  pub settle-item-grew : (at : BodyAt) (depth : ℕ) (d : Taken) (t : Tree) (s : State) → Grew s (settle_item rs at depth d t s)
-  settle-item-grew at depth d t s = settle-item-to-grew s.uses_left at depth d t s
+  pub expand_uses-item-grew : (at : BodyAt) (depth : ℕ) (d : Taken) (t : Tree) (s : State) → Grew s (expand_item_uses rs at depth d t s)
+  expand_uses-item-grew at depth d t s = expand_uses-item-to-grew s.uses_left at depth d t s

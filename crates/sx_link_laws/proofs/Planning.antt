@@ -31,7 +31,7 @@ use Rattle.sx_template.specs.Compile as templates
 use Rattle.sx_heads.specs.Plan.{variable_at, refer, reference, constant, target_variable, target_by, assign_to, assign_by, assign, call_of, application, in_sequence, keywords_plan, operand_plan, shape_plan, with_shape, by_role, keyword_plan, by_head, list_plan, plan_of}
 use Rattle.sx_heads.specs.declared.plan.Plan.{Plan}
 use Rattle.sx_heads.specs.declared.plan.Plan.TheVariants as plans
-use Rattle.sx_expand.specs.Settle.{first_span, target_span}
+use Rattle.sx_expand.specs.ExpandUses.{first_span, target_span}
 use Rattle.sx_expand_laws.proofs.Acts.{Gave, gave-after, gave-if}
 
 -- The target of an assignment is its second element.

@@ -11,7 +11,7 @@ use Rattle.sx_core.specs.Core as core
 use Rattle.sx_core.specs.Core.{PlainCore, variable, primitive, instance}
 use Rattle.sx_core.specs.declared.link.LinkKind.{LinkKind}
 use Rattle.sx_core.specs.declared.link.LinkKind.TheVariants as kinds
-use Rattle.sx_core.specs.declared.record.LibRecord.{LibRecord}
+use Rattle.sx_core.specs.declared.record.CompiledLibrary.{CompiledLibrary}
 use Rattle.sx_shapes.specs.At.{place_of}
 use Rattle.sx_shapes.specs.Lists.{is_leaf}
 use Rattle.sx_standing.specs.State.{State, noted}
@@ -22,10 +22,10 @@ use Rattle.sx_heads.specs.declared.plan.KeywordUse.{KeywordUse}
 use Rattle.sx_heads.specs.declared.plan.KeywordUse.TheVariants as keyword_use
 use Rattle.sx_heads.specs.declared.plan.Plan.{Plan}
 use Rattle.sx_heads.specs.declared.plan.Plan.TheVariants as plans
-use Rattle.sx_expand.specs.Settle.{used_form, next_form, too_many, set_step, step_of, step, target_span, linked, linked_code, settled_by, settle_to, settle}
-use Rattle.sx_expand.specs.declared.settle.Settled.{Settled}
-use Rattle.sx_expand.specs.declared.settle.Step.{Step}
-use Rattle.sx_expand.specs.declared.settle.Step.TheVariants as steps
+use Rattle.sx_expand.specs.ExpandUses.{used_form, next_form, too_many, set_step, step_of, step, target_span, linked, linked_code, planned_by, expand_uses_to, expand_uses}
+use Rattle.sx_expand.specs.declared.expand_uses.PlannedForm.{PlannedForm}
+use Rattle.sx_expand.specs.declared.expand_uses.PlanOrUse.{PlanOrUse}
+use Rattle.sx_expand.specs.declared.expand_uses.PlanOrUse.TheVariants as steps
 use Rattle.sx_hygiene_laws.specs.Marked.{Among}
 use Rattle.sx_expand_laws.specs.Named.{RefersTo}
 use Rattle.sx_expand_laws.proofs.Acts.{Gave, gave-after, told}
@@ -106,7 +106,7 @@ module _ (level : ℕ) (place : Span) (t : Tree) (v : State) where
   plan-grows s w _ e h q = grows-same s w e
 
 -- Uses.
-module _ (rs : List LibRecord) where
+module _ (rs : List CompiledLibrary) where
   used-form-grew : (place : Span) (t : Tree) (k : KeywordUse) (f : Option FrameNo) (s : State) → Grew s (used_form rs place t k f s)
   used-form-grew place t (keyword_use.Macro l) f s = use-keyword-grew rs place t l f s
   used-form-grew place t (keyword_use.Record g) f s = use-record-grew place t g f s
@@ -117,18 +117,18 @@ module _ (rs : List LibRecord) where
       let u : State = record s { uses_left = left } in
       grew-from s u (used_form rs (place_of t place) t k f u) (grows-same s u refl) (used-form-grew (place_of t place) t k f u)
 
-  -- Settled: behind what uses added, the link of the form that is no use.
+  -- PlannedForm: behind what uses added, the link of the form that is no use.
 
-  pub record Settles (s : State) (d : Settled) (v : State) : Type 0 where
+  pub record Settles (s : State) (d : PlannedForm) (v : State) : Type 0 where
     pub last : State
     pub grows : Grows s last
     pub is : v ≡ linked d.form d.plan last
     pub quiet : is_leaf d.form ≡ false → PlanQuiet d.plan
 
-  settles-from : (r s : State) (d : Settled) (v : State) → Grows r s → Settles s d v → Settles r d v
+  settles-from : (r s : State) (d : PlannedForm) (v : State) → Grows r s → Settles s d v → Settles r d v
   settles-from r s d v g h = record { last = h.last; grows = grows-then r s h.last g h.grows; is = h.is; quiet = h.quiet }
 
-  abbrev Steps : Tree → State → Step → State → Type 0
+  abbrev Steps : Tree → State → PlanOrUse → State → Type 0
   Steps t s (steps.Plan p) u = Grows s u × (is_leaf t ≡ false → PlanQuiet p)
   Steps t s (steps.Use k) u = Grows s u
 
@@ -152,40 +152,40 @@ module _ (rs : List LibRecord) where
   step-so place level t s =
       gave-after (Planned place level s t) (Steps t s) (plan_of place level t s) (step_of rs place t) (plan-planned place level s t) (λ p u h. step-of-so place t p s u (grows-same s u h.0) h.1)
 
-  settle-to-so : (left : ℕ) (place : Span) (level : ℕ) (t : Tree) (s : State) → Gave (Settles s) (settle_to rs left place level t s)
-  unfolding settle_to
-  settle-to-so zero place level t s = gave-after (Steps t s) (Settles s) (step rs place level t s) (settled_by (λ k. too_many t place) place t) (step-so place level t s) by
+  expand_uses-to-so : (left : ℕ) (place : Span) (level : ℕ) (t : Tree) (s : State) → Gave (Settles s) (expand_uses_to rs left place level t s)
+  unfolding expand_uses_to
+  expand_uses-to-so zero place level t s = gave-after (Steps t s) (Settles s) (step rs place level t s) (planned_by (λ k. too_many t place) place t) (step-so place level t s) by
     where
-      by : (x : Step) (u : State) → Steps t s x u → Gave (Settles s) (settled_by (λ k. too_many t place) place t x u)
+      by : (x : PlanOrUse) (u : State) → Steps t s x u → Gave (Settles s) (planned_by (λ k. too_many t place) place t x u)
       by (steps.Plan p) u h = record { last = u; grows = h.0; is = refl; quiet = h.1 }
       by (steps.Use k) u h = tt
-  settle-to-so (suc left) place level t s =
-      gave-after (Steps t s) (Settles s) (step rs place level t s) (settled_by (λ k s'. after (next_form rs left place t k None s') (settle_to rs left (place_of t place) level)) place t) (step-so place level t s)
-      (λ x u h. by x u h (λ v w. settle-to-so left (place_of t place) level v w))
+  expand_uses-to-so (suc left) place level t s =
+      gave-after (Steps t s) (Settles s) (step rs place level t s) (planned_by (λ k s'. after (next_form rs left place t k None s') (expand_uses_to rs left (place_of t place) level)) place t) (step-so place level t s)
+      (λ x u h. by x u h (λ v w. expand_uses-to-so left (place_of t place) level v w))
     where
-      onward : (u : State) → Grows s u → ((v : Tree) (w : State) → Gave (Settles w) (settle_to rs left (place_of t place) level v w)) → (r : Result (Tree × State) Fault) → Grew u r
-          → Gave (Settles s) (after r (settle_to rs left (place_of t place) level))
-      onward u g again (Ok p) h = by_last (settle_to rs left (place_of t place) level p.0 p.1) (again p.0 p.1)
+      onward : (u : State) → Grows s u → ((v : Tree) (w : State) → Gave (Settles w) (expand_uses_to rs left (place_of t place) level v w)) → (r : Result (Tree × State) Fault) → Grew u r
+          → Gave (Settles s) (after r (expand_uses_to rs left (place_of t place) level))
+      onward u g again (Ok p) h = by_last (expand_uses_to rs left (place_of t place) level p.0 p.1) (again p.0 p.1)
         where
-          by_last : (r : Result (Settled × State) Fault) → Gave (Settles p.1) r → Gave (Settles s) r
+          by_last : (r : Result (PlannedForm × State) Fault) → Gave (Settles p.1) r → Gave (Settles s) r
           by_last (Ok d) k = settles-from s p.1 d.0 d.1 (grows-then s u p.1 g h) k
           by_last (Err f) k = tt
       onward u g again (Err f) h = tt
 
-      by : (x : Step) (u : State) → Steps t s x u → ((v : Tree) (w : State) → Gave (Settles w) (settle_to rs left (place_of t place) level v w))
-          → Gave (Settles s) (settled_by (λ k s'. after (next_form rs left place t k None s') (settle_to rs left (place_of t place) level)) place t x u)
+      by : (x : PlanOrUse) (u : State) → Steps t s x u → ((v : Tree) (w : State) → Gave (Settles w) (expand_uses_to rs left (place_of t place) level v w))
+          → Gave (Settles s) (planned_by (λ k s'. after (next_form rs left place t k None s') (expand_uses_to rs left (place_of t place) level)) place t x u)
       by (steps.Plan p) u h again = record { last = u; grows = h.0; is = refl; quiet = h.1 }
       by (steps.Use k) u h again = onward u h again (next_form rs left place t k None u) (next-form-grew left place t k None u)
 
   -- what settling leaves
-  pub record SettledSo (s : State) (d : Settled) (v : State) : Type 0 where
+  pub record SettledSo (s : State) (d : PlannedForm) (v : State) : Type 0 where
     pub grows : Grows s v
     pub link : PlanLinked d.form d.plan v
 
-  pub settled-so : (place : Span) (level : ℕ) (t : Tree) (s v : State) (d : Settled) → settle rs place level t s ≡ Ok (d, v) → SettledSo s d v
+  pub settled-so : (place : Span) (level : ℕ) (t : Tree) (s v : State) (d : PlannedForm) → expand_uses rs place level t s ≡ Ok (d, v) → SettledSo s d v
   settled-so place level t s v d e =
-      let h = told (Settles s) (settle rs place level t s) d v (settle-to-so s.uses_left place level t s) e in
-      let k = told (settling.Settles rs level) (settle rs place level t s) d v (settling.settle-so rs level place t s) e in
+      let h = told (Settles s) (expand_uses rs place level t s) d v (expand_uses-to-so s.uses_left place level t s) e in
+      let k = told (settling.Settles rs level) (expand_uses rs place level t s) d v (settling.expand_uses-so rs level place t s) e in
       record {
         grows = grows-then s h.last v h.grows
             (subst (λ (u : State). Grows h.last u) (sym h.is)

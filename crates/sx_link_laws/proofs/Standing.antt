@@ -16,7 +16,7 @@ use Rattle.sx_core.specs.Bindings.{bound_to}
 use Rattle.sx_core.specs.Core.{PlainCore}
 use Rattle.sx_core.specs.declared.core_form.CoreForm.{CoreForm}
 use Rattle.sx_core.specs.declared.link.LinkKind.TheVariants as kinds
-use Rattle.sx_core.specs.declared.record.LibRecord.{LibRecord}
+use Rattle.sx_core.specs.declared.record.CompiledLibrary.{CompiledLibrary}
 use Rattle.sx_pattern.specs.declared.compile.PatternVariable.{PatternVariable}
 use Rattle.sx_records.specs.Forms.{record_forms}
 use Rattle.sx_records.specs.Names.{record_uid}
@@ -32,7 +32,7 @@ use Rattle.sx_standing.specs.Binders.{next_index, row_put, put_row, put_variable
 use Rattle.sx_standing.specs.Patterns.{put_pattern_variable, bind_pattern_variable, bind_next, bind_pattern}
 use Rattle.sx_standing.specs.RecordUses.{at_state, defines_type, count_record_type, record_tree, record_marked, use_record}
 use Rattle.sx_standing.specs.State.{State, note, on_stage, fresh, stage_of}
-use Rattle.sx_standing.specs.Uses.{macro_expression, use_keyword, asks_variable, put_keyword, bind_keyword_as, bind_keyword, bind_keywords, finish_keyword}
+use Rattle.sx_standing.specs.Uses.{macro_expression, use_keyword, asks_variable, put_keyword, bind_keyword_as, bind_keyword, bind_keywords, evaluate_transformer}
 use Rattle.sx_link_laws.specs.Links.{binds}
 use Rattle.sx_link_laws.proofs.Grown.{Grows, grows-same, grows-noted, Grew, grew-from, grew-after, grew-if, grew-each, grew-gather, grew-staged}
 
@@ -112,10 +112,10 @@ bind-keyword-grew f place level b s =
 pub bind-keywords-grew : (f : FrameNo) (place : Span) (level : ℕ) (bs : List BindingSpec) (s : State) → Grew s (bind_keywords f place level bs s)
 bind-keywords-grew f place level bs s = grew-each (bind_keyword f place level) (λ b t. bind-keyword-grew f place level b t) [] bs s
 
-module _ (rs : List LibRecord) where
-  pub finish-keyword-grew : (place : Span) (l : Label) (c : PlainCore) (s : State) → Grew s (finish_keyword rs place l c s)
-  unfolding finish_keyword
-  finish-keyword-grew place l c s = grew-staged s (stage.finish_keyword place rs l c (stage_of s))
+module _ (rs : List CompiledLibrary) where
+  pub finish-keyword-grew : (place : Span) (l : Label) (c : PlainCore) (s : State) → Grew s (evaluate_transformer rs place l c s)
+  unfolding evaluate_transformer
+  finish-keyword-grew place l c s = grew-staged s (stage.evaluate_transformer place rs l c (stage_of s))
 
   pub asks-variable-grew : (place : Span) (l : Label) (s : State) → Grew s (asks_variable rs place l s)
   unfolding asks_variable

@@ -9,7 +9,7 @@ use Rattle.sx_core.specs.declared.code.Clause.{Clause}
 use Rattle.sx_core.specs.declared.code.Init.{Init}
 use Rattle.sx_core.specs.declared.code.Lambda.{Lambda}
 use Rattle.sx_core.specs.declared.link.Link.{Link}
-use Rattle.sx_core.specs.declared.record.LibRecord.{LibRecord}
+use Rattle.sx_core.specs.declared.record.CompiledLibrary.{CompiledLibrary}
 use Rattle.sx_core.specs.declared.record.Line.{Line}
 use Rattle.sx_core.specs.declared.record.Line.TheVariants as line
 use Rattle.sx_core.specs.Template.{PlainTemplate}
@@ -41,13 +41,13 @@ use Rattle.sx_heads.specs.declared.taken.Waiting.{Waiting}
 use Rattle.sx_heads.specs.declared.taken.Waits.{Waits}
 use Rattle.sx_value.specs.Cells.{Each}
 use Rattle.sx_fresh_laws.proofs.Eachs.{each_both, each_mapped}
-use Rattle.sx_reference_laws.specs.Expands.{counted, Codes, quotes, has_no_insert, has_inserts, Expands, settles, Performs, refers, is_done, is_template, calls, tests, chooses, assigns, follows, makes, makes_cases, binds_all, matches_one, has_keywords, fills, Expand, Binds, binds_formals, Bind, Starts, starts_with, Start, Matches, matches_pattern, Match, Asks, Means, means, Mean, BindsKeywords, binds_keywords, Takes, takes, Acts, is_taken, takes_forms, defines_keyword, takes_among, Take, IsBody, is_body, Finish, Ends, declares, defines, defines_procedure, is_expression}
+use Rattle.sx_reference_laws.specs.Expands.{counted, QuasiCodes, quotes, has_no_insert, has_inserts, Expands, settles, Performs, refers, is_done, is_template, calls, tests, chooses, assigns, follows, makes, makes_cases, binds_all, matches_one, has_keywords, fills, Expand, CaseBinds, binds_formals, ExpandedBind, Starts, starts_with, ExpansionStart, ExpandsClause, matches_pattern, Match, Asks, KeywordMeans, means, Mean, BindsKeywords, binds_keywords, TakesForm, takes, Acts, is_taken, takes_forms, defines_keyword, takes_among, Take, IsBody, is_body, Finish, Ends, declares, defines, defines_procedure, is_expression}
 use Rattle.sx_reference_laws.specs.Expands as derivation
-use Rattle.sx_reference_laws.specs.Noted.{Reference, Expression, Noted, nothing, only, of_references, of_keywords, both, Told, if_definition, if_expression, of_definitions, of_expressions, of_lines}
-use Rattle.sx_reference_laws.specs.Templates.{IsPatternVariable, IsTemplate}
+use Rattle.sx_reference_laws.specs.Noted.{Reference, KeywordExpression, Noted, nothing, only, of_references, of_keywords, both, NotedLine, if_definition, if_expression, of_definitions, of_expressions, of_lines}
+use Rattle.sx_reference_laws.specs.Templates.{IsPatternVariable, IsTemplateOf}
 use Rattle.sx_link_laws.specs.Links.{CodeLinked, IsLinked, AreLinked, ExpressionsLinked}
 use Rattle.sx_link_laws.proofs.Grown.{Grows, grows-same, grows-then, grows-to, grows-from, Grew, grew-after, grew-each, grew-staged, grew-given, expressions-later, linked-later, Went, Kept, went-both, went-from, kept-both, kept-from}
-use Rattle.sx_link_laws.proofs.Items.{define-keyword-grew, settle-item-grew}
+use Rattle.sx_link_laws.proofs.Items.{define-keyword-grew, expand_uses-item-grew}
 use Rattle.sx_link_laws.proofs.Planning.{target-is}
 use Rattle.sx_link_laws.proofs.Settling.{PlanLinked, settled-so}
 use Rattle.sx_link_laws.proofs.Standing.{put-row-grew, bind-specs-grew, bind-formals-grew, bind-keywords-grew, finish-keyword-grew, bind-pattern-grew}
@@ -60,7 +60,7 @@ template-linked ls s place level refs h = each_mapped (IsPatternVariable s place
 went-none : (s : State) → Went s s nothing
 went-none s = record { grows = grows-same s s refl; linked = (tt, tt) }
 
-went-template : (s : State) (place : Span) (level : ℕ) (t : Tree) (x : PlainTemplate) (refs : List Reference) → IsTemplate s place level t x refs → Went s s (of_references refs)
+went-template : (s : State) (place : Span) (level : ℕ) (t : Tree) (x : PlainTemplate) (refs : List Reference) → IsTemplateOf s place level t x refs → Went s s (of_references refs)
 went-template s place level t x refs h = record { grows = grows-same s s refl; linked = (template-linked s.links s place level refs h.variables, tt) }
 
 -- Actions between forms.
@@ -107,13 +107,13 @@ went-cut : (s u : State) (n : ℕ) (x : Noted) → Went s u x → Went s (cut n 
 went-cut s u n x h = record { grows = grows-to s u (cut n u) refl h.grows; linked = h.linked }
 
 -- The lines of a body, with what is noted of them.
-pub record Finished (s u : State) (xs : List Told) : Type 0 where
+pub record Finished (s u : State) (xs : List NotedLine) : Type 0 where
   pub grows : Grows s u
-  pub lines : Each (λ (x : Told). AreLinked u.links x.noted.references) xs
+  pub lines : Each (λ (x : NotedLine). AreLinked u.links x.noted.references) xs
   pub expressions : ExpressionsLinked u.links (of_lines xs)
 
 module _ (ls : List Link) where
-  abbrev LineLinked : Told → Type 0
+  abbrev LineLinked : NotedLine → Type 0
   LineLinked x = AreLinked ls x.noted.references
 
   definition-linked : (l : Line) (refs : List Reference) → AreLinked ls refs → AreLinked ls (if_definition l refs)
@@ -124,19 +124,19 @@ module _ (ls : List Link) where
   expression-linked (line.Define l c) refs h = tt
   expression-linked (line.Expr c) refs h = h
 
-  definitions-linked : (xs : List Told) → Each LineLinked xs → AreLinked ls (of_definitions xs)
+  definitions-linked : (xs : List NotedLine) → Each LineLinked xs → AreLinked ls (of_definitions xs)
   definitions-linked [] h = tt
   definitions-linked (x ∷ xs) h = each_both (IsLinked ls) (if_definition x.line x.noted.references) (of_definitions xs) (definition-linked x.line x.noted.references h.0) (definitions-linked xs h.1)
 
-  last-linked : (xs : List Told) → Each LineLinked xs → AreLinked ls (of_expressions xs)
+  last-linked : (xs : List NotedLine) → Each LineLinked xs → AreLinked ls (of_expressions xs)
   last-linked [] h = tt
   last-linked (x ∷ xs) h = each_both (IsLinked ls) (if_expression x.line x.noted.references) (of_expressions xs) (expression-linked x.line x.noted.references h.0) (last-linked xs h.1)
 
-  told-linked : (xs : List Told) → Each LineLinked xs → AreLinked ls (of_definitions xs ++ of_expressions xs)
+  told-linked : (xs : List NotedLine) → Each LineLinked xs → AreLinked ls (of_definitions xs ++ of_expressions xs)
   told-linked xs h = each_both (IsLinked ls) (of_definitions xs) (of_expressions xs) (definitions-linked xs h) (last-linked xs h)
 
-module _ (rs : List LibRecord) where
-  codes-went : {place : Span} {level : ℕ} {t : Tree} {q : QuasiForm} {cs : List PlainCore} {s u : State} {c : PlainCore} {x : Noted} → Codes place level t q cs s c u x → Went s u x
+module _ (rs : List CompiledLibrary) where
+  codes-went : {place : Span} {level : ℕ} {t : Tree} {q : QuasiForm} {cs : List PlainCore} {s u : State} {c : PlainCore} {x : Noted} → QuasiCodes place level t q cs s c u x → Went s u x
   codes-went (quotes {s = s}) = went-none s
   codes-went (has_no_insert {place = place} {level = level} {q = q} {s = s} {x = x} {refs = refs} none e h) = went-template s place level q.template x refs h
   codes-went (has_inserts {place = place} {level = level} {q = q} {s = s} {v = v} {w = w} {vs = vs} {e = e} {x = x} {refs = refs} some f g k h) =
@@ -182,23 +182,23 @@ module _ (rs : List LibRecord) where
     expand-went (derivation.none {s = s}) = went-none s
     expand-went (derivation.more {s = s} {v = v} {u = u} {refs = refs} {others = others} h g) = went-both s v u refs others (expands-went h) (expand-went g)
 
-    binds-went : {place : Span} {level : ℕ} {t : Tree} {ids : FormalIds} {forms : List Tree} {s u : State} {c : Lambda} {x : Noted} → Binds rs place level t ids forms s c u x → Went s u x
+    binds-went : {place : Span} {level : ℕ} {t : Tree} {ids : FormalIds} {forms : List Tree} {s u : State} {c : Lambda} {x : Noted} → CaseBinds rs place level t ids forms s c u x → Went s u x
     binds-went (binds_formals {place = place} {level = level} {ids = ids} {s = s} {v = v} {u = u} {formals = formals} {refs = refs} e h) =
         let a = from-counted s v (grew-given (counted s) e (bind-formals-grew (record { 0 = s.names }) place level ids (counted s))) in
         went-cut s u (length s.scope) refs (went-from s v u refs a (body-went h))
 
-    bind-went : {place : Span} {level : ℕ} {t : Tree} {xs : List LambdaCase} {s u : State} {cs : List Lambda} {x : Noted} → Bind rs place level t xs s cs u x → Went s u x
+    bind-went : {place : Span} {level : ℕ} {t : Tree} {xs : List LambdaCase} {s u : State} {cs : List Lambda} {x : Noted} → ExpandedBind rs place level t xs s cs u x → Went s u x
     bind-went (derivation.no_case {s = s}) = went-none s
     bind-went (derivation.case {s = s} {v = v} {u = u} {refs = refs} {others = others} h g) = went-both s v u refs others (binds-went h) (bind-went g)
 
     starts-went : {place : Span} {level : ℕ} {f : FrameNo} {b : BoundSpec} {s u : State} {i : Init} {x : Noted} → Starts rs place level f b s i u x → Went s u x
     starts-went (starts_with h) = expands-went h
 
-    start-went : {place : Span} {level : ℕ} {f : FrameNo} {bs : List BoundSpec} {s u : State} {is : List Init} {x : Noted} → Start rs place level f bs s is u x → Went s u x
+    start-went : {place : Span} {level : ℕ} {f : FrameNo} {bs : List BoundSpec} {s u : State} {is : List Init} {x : Noted} → ExpansionStart rs place level f bs s is u x → Went s u x
     start-went (derivation.no_init {s = s}) = went-none s
     start-went (derivation.init {s = s} {v = v} {u = u} {refs = refs} {others = others} h g) = went-both s v u refs others (starts-went h) (start-went g)
 
-    matches-went : {place : Span} {level : ℕ} {literals : List Tree} {c : PatternCase} {s u : State} {k : Clause} {x : Noted} → Matches rs place level literals c s k u x → Went s u x
+    matches-went : {place : Span} {level : ℕ} {literals : List Tree} {c : PatternCase} {s u : State} {k : Clause} {x : Noted} → ExpandsClause rs place level literals c s k u x → Went s u x
     matches-went (matches_pattern {place = place} {level = level} {literals = literals} {x = c} {s = s} {v = v} {w = w} {y = y} {u = u} {p = p} {e = e} {refs = refs} {others = others} f g h j) =
         let a = from-counted s v (grew-given (counted s) f (pattern-grew literals place c.pattern (counted s))) in
         let b = grew-given v g (bind-pattern-grew (record { 0 = s.names }) place level p.variables v) in
@@ -212,7 +212,7 @@ module _ (rs : List LibRecord) where
     asks-went (derivation.asks_nothing {s = s}) = went-none s
     asks-went (derivation.asks_first h) = expands-went h
 
-    means-kept : {place : Span} {level : ℕ} {b : BoundSpec} {s u : State} {es : List Expression} → Means rs place level b s u es → Kept s u es
+    means-kept : {place : Span} {level : ℕ} {b : BoundSpec} {s u : State} {es : List KeywordExpression} → KeywordMeans rs place level b s u es → Kept s u es
     means-kept (means {place = place} {b = b} {s = s} {v = v} {u = u} {c = c} {x = x} {refs = refs} h e) =
         let a : Went (record s { scope = [] }) v refs = expands-went h in
         let first : Grows s v = grows-from s (record s { scope = [] }) v refl a.grows in
@@ -220,31 +220,31 @@ module _ (rs : List LibRecord) where
         let k : Grows back u = grew-given back e (finish-keyword-grew rs (place_of b.init place) b.label c back) in
         let last : Grows v u = grows-from v back u refl k in
         let kept = linked-later v u last refs a.linked in
-        record { grows = grows-then s v u first last; linked = each_both (λ (y : Expression). AreLinked u.links y.references) refs.expressions (record { keyword = b.label; code = c; references = refs.references; state = v } ∷ []) kept.1 (kept.0, tt) }
+        record { grows = grows-then s v u first last; linked = each_both (λ (y : KeywordExpression). AreLinked u.links y.references) refs.expressions (record { keyword = b.label; code = c; references = refs.references; state = v } ∷ []) kept.1 (kept.0, tt) }
 
-    mean-kept : {place : Span} {level : ℕ} {recursive : Bool} {f : FrameNo} {bs : List BoundSpec} {s u : State} {es : List Expression} → Mean rs place level recursive f bs s u es → Kept s u es
+    mean-kept : {place : Span} {level : ℕ} {recursive : Bool} {f : FrameNo} {bs : List BoundSpec} {s u : State} {es : List KeywordExpression} → Mean rs place level recursive f bs s u es → Kept s u es
     mean-kept (derivation.no_keyword {s = s}) = record { grows = grows-same s s refl; linked = tt }
     mean-kept (derivation.keyword {s = s} {v = v} {u = u} {es = es} {others = others} h g) = kept-both s v u es others (means-kept h) (mean-kept g)
 
-    keywords-kept : {place : Span} {level : ℕ} {recursive : Bool} {bs : List BindingSpec} {forms stamped : List Tree} {s u : State} {es : List Expression}
+    keywords-kept : {place : Span} {level : ℕ} {recursive : Bool} {bs : List BindingSpec} {forms stamped : List Tree} {s u : State} {es : List KeywordExpression}
         → BindsKeywords rs place level recursive bs forms s stamped u es → Kept s u es
     keywords-kept (binds_keywords {place = place} {level = level} {bs = bs} {s = s} {v = v} {u = u} {xs = xs} {es = es} e h) =
         let a = from-counted s v (grew-given (counted s) e (bind-keywords-grew (record { 0 = s.names }) place level bs (counted s))) in
         kept-from s v u es a (mean-kept h)
 
-    takes-kept : {at : BodyAt} {depth : ℕ} {done end : Taken} {t : Tree} {s u : State} {es : List Expression} → Takes rs at depth done t s end u es → Kept s u es
+    takes-kept : {at : BodyAt} {depth : ℕ} {done end : Taken} {t : Tree} {s u : State} {es : List KeywordExpression} → TakesForm rs at depth done t s end u es → Kept s u es
     takes-kept (takes {at = at} {depth = depth} {done = done} {t = t} {s = s} {v = v} {u = u} {es = es} e h) =
-        let a = grew-given s e (settle-item-grew rs at depth done t s) in
+        let a = grew-given s e (expand_uses-item-grew rs at depth done t s) in
         kept-from s v u es a (acts-kept h)
 
-    acts-kept : {at : BodyAt} {depth : ℕ} {done end : Taken} {t : Tree} {i : Item} {s u : State} {es : List Expression} → Acts rs at depth done t i s end u es → Kept s u es
+    acts-kept : {at : BodyAt} {depth : ℕ} {done end : Taken} {t : Tree} {i : Item} {s u : State} {es : List KeywordExpression} → Acts rs at depth done t i s end u es → Kept s u es
     acts-kept (is_taken {s = s}) = record { grows = grows-same s s refl; linked = tt }
     acts-kept (takes_forms h) = take-kept h
     acts-kept (defines_keyword {at = at} {done = done} {t = t} {b = b} {x = x} {s = s} {v = v} {u = u} {es = es} e h) =
         kept-from s v u es (grew-given s e (define-keyword-grew at done t b s)) (means-kept h)
     acts-kept (takes_among {s = s} {v = v} {u = u} {es = es} {others = others} h g) = kept-both s v u es others (keywords-kept h) (take-kept g)
 
-    pub take-kept : {at : BodyAt} {depth : ℕ} {done end : Taken} {ts : List Tree} {s u : State} {es : List Expression} → Take rs at depth done ts s end u es → Kept s u es
+    pub take-kept : {at : BodyAt} {depth : ℕ} {done end : Taken} {ts : List Tree} {s u : State} {es : List KeywordExpression} → Take rs at depth done ts s end u es → Kept s u es
     take-kept (derivation.none_taken {s = s}) = record { grows = grows-same s s refl; linked = tt }
     take-kept (derivation.more_taken {s = s} {v = v} {u = u} {es = es} {others = others} h g) = kept-both s v u es others (takes-kept h) (take-kept g)
 
@@ -254,10 +254,10 @@ module _ (rs : List LibRecord) where
         let b = finish-went g in
         record {
           grows = grows-to s u (cut (length s.scope) u) refl (from-counted s u (grows-then (counted s) v u a.grows b.grows));
-          linked = (told-linked u.links xs b.lines, each_both (λ (e : Expression). AreLinked u.links e.references) es (of_lines xs) (expressions-later v u b.grows es a.linked) b.expressions);
+          linked = (told-linked u.links xs b.lines, each_both (λ (e : KeywordExpression). AreLinked u.links e.references) es (of_lines xs) (expressions-later v u b.grows es a.linked) b.expressions);
         }
 
-    pub finish-went : {level : ℕ} {ws : List Waiting} {s u : State} {xs : List Told} → Finish rs level ws s xs u → Finished s u xs
+    pub finish-went : {level : ℕ} {ws : List Waiting} {s u : State} {xs : List NotedLine} → Finish rs level ws s xs u → Finished s u xs
     finish-went (derivation.no_line {s = s}) = record { grows = grows-same s s refl; lines = tt; expressions = tt }
     finish-went (derivation.next_line {s = s} {v = v} {u = u} {x = x} {xs = xs} h g) =
         let a = ends-went h in
@@ -266,10 +266,10 @@ module _ (rs : List LibRecord) where
         record {
           grows = grows-then s v u a.grows b.grows;
           lines = (k.0, b.lines);
-          expressions = each_both (λ (e : Expression). AreLinked u.links e.references) x.noted.expressions (of_lines xs) k.1 b.expressions;
+          expressions = each_both (λ (e : KeywordExpression). AreLinked u.links e.references) x.noted.expressions (of_lines xs) k.1 b.expressions;
         }
 
-    ends-went : {level : ℕ} {place : Span} {w : Waits} {s u : State} {x : Told} → Ends rs level place w s x u → Went s u x.noted
+    ends-went : {level : ℕ} {place : Span} {w : Waits} {s u : State} {x : NotedLine} → Ends rs level place w s x u → Went s u x.noted
     ends-went (declares {s = s}) = went-none s
     ends-went (defines h) = expands-went h
     ends-went (defines_procedure {s = s} {u = u} {refs = refs} h) = went-counted s u refs (binds-went h)

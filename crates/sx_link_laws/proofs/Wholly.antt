@@ -18,7 +18,7 @@ use Rattle.sx_scope.specs.Stands.{row_for, stands}
 use Rattle.sx_core.specs.declared.binding.Binding.TheVariants as binding
 use Rattle.sx_core.specs.declared.link.Link.{Link}
 use Rattle.sx_core.specs.declared.link.LinkKind.TheVariants as kinds
-use Rattle.sx_core.specs.declared.record.LibRecord.{LibRecord}
+use Rattle.sx_core.specs.declared.record.CompiledLibrary.{CompiledLibrary}
 use Rattle.sx_eval.specs.Codes.{Codes}
 use Rattle.sx_shapes.specs.Lists.{is_leaf}
 use Rattle.sx_standing.specs.InScope.{with_local}
@@ -34,7 +34,7 @@ use Rattle.sx_expand.specs.Body.{splice, finish_all}
 use Rattle.sx_expand.specs.Expanding.{ready, body_of}
 use Rattle.sx_expand.specs.Expression.{inside, full_room}
 use Rattle.sx_expand.specs.Inside.{Inside}
-use Rattle.sx_expand.specs.Top.{stands_for, export, all_exports, give_record, linked_in, body_at, exports, first_pass, finished, top}
+use Rattle.sx_expand.specs.Top.{stands_for, export, all_exports, give_record, linked_in, body_at, exports, first_pass, second_pass, top}
 use Rattle.sx_expand.specs.declared.top.Linked.{Linked}
 use Rattle.sx_expand.specs.declared.top.TopAt.{TopAt}
 use Rattle.sx_expand_laws.proofs.Acts.{Gave, gave-both, gave-after, told}
@@ -46,14 +46,14 @@ use Rattle.sx_fresh_expansion_laws.specs.Forms.{TakenHolds}
 use Rattle.sx_fresh_expansion_laws.specs.Known.{IsKnown, IsKnownFrame, libraries_of, IsNewAmong}
 use Rattle.sx_fresh_expansion_laws.specs.Living.{Lives}
 use Rattle.sx_fresh_expansion_laws.specs.RecordMarks.{WasRead}
-use Rattle.sx_fresh_expansion_laws.specs.States.{RecordsHold, StateHolds}
+use Rattle.sx_fresh_expansion_laws.specs.States.{RecordsHold, FreshStateHolds}
 use Rattle.sx_fresh_expansion_laws.proofs.Changing.{stamps-hold}
 use Rattle.sx_fresh_expansion_laws.proofs.Forms as forms
 use Rattle.sx_fresh_expansion_laws.proofs.Items as items
 use Rattle.sx_fresh_expansion_laws.proofs.Recorded.{exports-hold, events-stay}
 use Rattle.sx_fresh_expansion_laws.proofs.Standing as standing
 use Rattle.sx_hygiene_laws.specs.Marked.{Among}
-use Rattle.sx_reference_laws.specs.Noted.{Expression, of_lines}
+use Rattle.sx_reference_laws.specs.Noted.{KeywordExpression, of_lines}
 use Rattle.sx_reference_laws.proofs.Performing.{all-traced}
 use Rattle.sx_reference_laws.proofs.Staying as staying
 use Rattle.sx_reference_laws.proofs.Walking as walking
@@ -135,23 +135,23 @@ module _ (libs : List LibName) (own : LibName) (core : Among libs library.Core) 
   abbrev lives : Lives own K J P
   lives = staying.lives libs own core new
 
-  module _ (records : List LibRecord) (first : ℕ) (held : RecordsHold (P first) records) (at : TopAt) (es : List (List ℕ × Tree)) (fs : List Tree) (s : State) (empty : s.links ≡ []) where
+  module _ (records : List CompiledLibrary) (first : ℕ) (held : RecordsHold (P first) records) (at : TopAt) (es : List (List ℕ × Tree)) (fs : List Tree) (s : State) (empty : s.links ≡ []) where
     abbrev go : Inside
     go = inside records full_room
 
     abbrev here : BodyAt
     here = body_at at s.library
 
-    abbrev Right : LibRecord → State → Type 0
+    abbrev Right : CompiledLibrary → State → Type 0
     Right r u = RunIsLinked records s at es fs (record { library = r; links = u.links })
 
     abbrev Took : Taken → State → Type 0
     Took d v = walking.TakeMade libs own core new records here 0 begun (map (stamp at.frame) fs) s d v
 
-    finished-so : (d : Taken) (v : State) → StateHolds own K P first v → TakenHolds (P v.names.number) d → Took d v → Gave Right (finished go at es d v)
-    unfolding finished
+    finished-so : (d : Taken) (v : State) → FreshStateHolds own K P first v → TakenHolds (P v.names.number) d → Took d v → Gave Right (second_pass go at es d v)
+    unfolding second_pass
     finished-so d v h k took =
-        gave-after (λ ls w. (StateHolds own K P v.names.number w × Unit {0}) × (exports at es v ≡ Ok (ls, w))) Right (exports at es v) _
+        gave-after (λ ls w. (FreshStateHolds own K P v.names.number w × Unit {0}) × (exports at es v ≡ Ok (ls, w))) Right (exports at es v) _
         (staying.gave-from libs own core new first (λ n ls. Unit {0}) v (exports at es v) (exports-hold own K J P lives first at es v h))
         (λ ls w y.
         let hw = standing.state-then own K J P lives first v w h y.0.0 in
@@ -177,31 +177,31 @@ module _ (libs : List LibName) (own : LibName) (core : Among libs library.Core) 
           run = z.1.lines;
           are = subst (λ (ls : List Link). Each IsLink ls) (sym (all.are ∙ ap (λ (ls : List Link). ls ++ all.new) empty)) all.all;
           lines_linked = c.lines;
-          expressions_linked = each_both (λ (e : Expression). AreLinked u.links e.references) took.expressions (of_lines z.1.told) (expressions-later v u from took.expressions a.linked) c.expressions;
+          expressions_linked = each_both (λ (e : KeywordExpression). AreLinked u.links e.references) took.expressions (of_lines z.1.told) (expressions-later v u from took.expressions a.linked) c.expressions;
         }))
 
-    pub top-so : StateHolds own K P first s → Each (TreeHolds (P s.names.number)) fs → J s.names.number at.frame → Gave Right (top go at es fs s)
+    pub top-so : FreshStateHolds own K P first s → Each (TreeHolds (P s.names.number)) fs → J s.names.number at.frame → Gave Right (top go at es fs s)
     unfolding top first_pass
     top-so h k q =
         let stamped = map (stamp at.frame) fs in
         let all = stamps-hold own K J P lives s.names.number at.frame fs q k in
         let pass = splice go here 0 begun stamped s in
-        gave-after (λ d v. ((StateHolds own K P s.names.number v × TakenHolds (P v.names.number) d) × (pass ≡ Ok (d, v))) × Took d v) Right pass (finished go at es)
-        (gave-both (λ d v. (StateHolds own K P s.names.number v × TakenHolds (P v.names.number) d) × (pass ≡ Ok (d, v))) Took pass
+        gave-after (λ d v. ((FreshStateHolds own K P s.names.number v × TakenHolds (P v.names.number) d) × (pass ≡ Ok (d, v))) × Took d v) Right pass (second_pass go at es)
+        (gave-both (λ d v. (FreshStateHolds own K P s.names.number v × TakenHolds (P v.names.number) d) × (pass ≡ Ok (d, v))) Took pass
         (staying.gave-from libs own core new first (λ n d. TakenHolds (P n) d) s pass (forms.splice-holds own K J P lives first go (walking.keeps libs own core new records first held full_room) here 0 begun stamped s h tt all q))
         (walking.take-made libs own core new records first held full_room (all-traced libs own core new records first held full_room) here 0 begun stamped s h tt all q))
         (λ d v z. finished-so d v (standing.state-then own K J P lives first s v h z.0.0.0) z.0.0.1 z.1)
 
 -- what is given of a record and its links
-given : (P : Linked → Type 0) (q : Result (LibRecord × State) Fault) (l : Linked) → Gave (λ r u. P (record { library = r; links = u.links })) q → linked_in q ≡ Ok l → P l
+given : (P : Linked → Type 0) (q : Result (CompiledLibrary × State) Fault) (l : Linked) → Gave (λ r u. P (record { library = r; links = u.links })) q → linked_in q ≡ Ok l → P l
 given P (Ok p) l h e = let same : ◌≡◌ {A = Linked} (record { library = p.0; links = p.1.links }) l = cc in subst P same h
 given P (Err f) l h e = absurd (cc)
 
-first-made : (own : LibName) (records : List LibRecord) (imports : List (List ℕ × Label)) (codes : Codes) → IsKnownFrame (libraries_of records) own (started own records imports codes).names.number (first_frame own)
+first-made : (own : LibName) (records : List CompiledLibrary) (imports : List (List ℕ × Label)) (codes : Codes) → IsKnownFrame (libraries_of records) own (started own records imports codes).names.number (first_frame own)
 unfolding started
 first-made own records imports codes = inr (refl, omega arith)
 
-first-links : (own : LibName) (records : List LibRecord) (imports : List (List ℕ × Label)) (codes : Codes) → (started own records imports codes).links ≡ []
+first-links : (own : LibName) (records : List CompiledLibrary) (imports : List (List ℕ × Label)) (codes : Codes) → (started own records imports codes).links ≡ []
 unfolding started
 first-links own records imports codes = refl
 

@@ -19,7 +19,7 @@ use Rattle.sx_standing.specs.State.{State}
 use Rattle.sx_standing.specs.declared.standing.Standing.TheVariants as standing
 use Rattle.sx_hygiene_laws.specs.Marked.{Among}
 use Rattle.sx_value.specs.Cells.{Each}
-use Rattle.sx_reference_laws.specs.Noted.{Reference, Expression, Noted}
+use Rattle.sx_reference_laws.specs.Noted.{Reference, KeywordExpression, Noted}
 
 abbrev pub link_to : Span → Label → LinkKind → Link
 link_to p l k = record { span = p; label = l; kind = k }
@@ -49,8 +49,8 @@ IsLinked ls r = (p : Span) → span_of r.leaf ≡ Some p → CodeLinked ls p r.c
 abbrev pub AreLinked : List Link → List Reference → Type 0
 AreLinked ls refs = Each (IsLinked ls) refs
 
-abbrev pub ExpressionsLinked : List Link → List Expression → Type 0
-ExpressionsLinked ls es = Each (λ (e : Expression). AreLinked ls e.references) es
+abbrev pub ExpressionsLinked : List Link → List KeywordExpression → Type 0
+ExpressionsLinked ls es = Each (λ (e : KeywordExpression). AreLinked ls e.references) es
 
 abbrev pub NotedLinked : List Link → Noted → Type 0
 NotedLinked ls x = AreLinked ls x.references × ExpressionsLinked ls x.expressions

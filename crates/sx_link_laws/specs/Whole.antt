@@ -6,7 +6,7 @@ use Rattle.sx_base.specs.declared.name.Label.{Label}
 use Rattle.sx_base.specs.declared.span.Span.{Span}
 use Rattle.sx_tree.specs.Changes.{stamp}
 use Rattle.sx_tree.specs.Tree.{Tree, span_of}
-use Rattle.sx_core.specs.declared.record.LibRecord.{LibRecord}
+use Rattle.sx_core.specs.declared.record.CompiledLibrary.{CompiledLibrary}
 use Rattle.sx_core.specs.declared.link.LinkKind.TheVariants as kinds
 use Rattle.sx_eval.specs.Codes.{Codes}
 use Rattle.sx_standing.specs.Binders.{bind_variable}
@@ -24,7 +24,7 @@ use Rattle.sx_fresh_expansion_laws.specs.Events.{HasEvents}
 use Rattle.sx_fresh_expansion_laws.specs.Known.{libraries_of, IsNewAmong}
 use Rattle.sx_fresh_expansion_laws.specs.RecordMarks.{HasOnly, RecordHasOnly, WasRead}
 use Rattle.sx_reference_laws.specs.Expands.{Take, Finish}
-use Rattle.sx_reference_laws.specs.Noted.{Expression, Told, lines, of_lines}
+use Rattle.sx_reference_laws.specs.Noted.{KeywordExpression, NotedLine, lines, of_lines}
 use Rattle.sx_link_laws.specs.Links.{link_to, IsLink, AreLinked, ExpressionsLinked}
 
 -- A binder with a span is linked to its label, and nothing else is.
@@ -34,25 +34,25 @@ BindersAreLinked = (f : FrameNo) (place : Span) (level : ℕ) (top : Bool) (id :
 
 -- The links of a library are those of identifiers, and those of the references in its lines and in the expressions of its keywords are among them. The lines
 -- are those of the record.
-pub record RunIsLinked (records : List LibRecord) (start : State) (at : TopAt) (exports : List (List ℕ × Tree)) (forms : List Tree) (l : Linked) : Type 0 where
+pub record RunIsLinked (records : List CompiledLibrary) (start : State) (at : TopAt) (exports : List (List ℕ × Tree)) (forms : List Tree) (l : Linked) : Type 0 where
   pub taken : Taken
   pub first : State
-  pub bound : List Expression
+  pub bound : List KeywordExpression
   pub exported : List (List ℕ × Label)
   pub between : State
-  pub told : List Told
+  pub told : List NotedLine
   pub last : State
   pub taking : Take records (top.body_at at start.library) 0 begun (map (stamp at.frame) forms) start taken first bound
   pub looks : top.exports at exports first ≡ Ok (exported, between)
   pub ends : Finish records 0 taken.waiting between told last
   pub run : lines told ≡ l.library.run
   pub are : Each IsLink l.links
-  pub lines_linked : Each (λ (x : Told). AreLinked l.links x.noted.references) told
+  pub lines_linked : Each (λ (x : NotedLine). AreLinked l.links x.noted.references) told
   pub expressions_linked : ExpressionsLinked l.links (bound ++ of_lines told)
 
 -- So it is of each library with a new name, behind records and codes of texts whose leaves have histories.
 abbrev pub LinksAreOfIdentifiers : Type 0
-LinksAreOfIdentifiers = (own : LibName) (path : List ℕ) (records : List LibRecord) (imports : List (List ℕ × Label)) (version : List ℕ) (place : Span) (exports : List (List ℕ × Tree)) (forms : List Tree) (codes : Codes) (l : Linked)
+LinksAreOfIdentifiers = (own : LibName) (path : List ℕ) (records : List CompiledLibrary) (imports : List (List ℕ × Label)) (version : List ℕ) (place : Span) (exports : List (List ℕ × Tree)) (forms : List Tree) (codes : Codes) (l : Linked)
     → IsNewAmong (libraries_of records) own → Each (RecordHasOnly HasEvents (libraries_of records)) records → CodesHold (HasOnly HasEvents (libraries_of records)) codes → Each WasRead forms → Each (λ (e : List ℕ × Tree). WasRead e.1) exports
     → library_linked (ready own path records imports codes) records version place exports forms ≡ Ok l
     → RunIsLinked records (started own records imports codes) (body_of (ready own path records imports codes) version place) exports forms l

@@ -27,7 +27,7 @@ use Rattle.sx_value.specs.declared.cell.Cell.{Cell}
 use Rattle.sx_value.specs.declared.cell.Cell.TheVariants as cell
 use Rattle.sx_value.specs.declared.value.Value.{Value}
 use Rattle.sx_value.specs.declared.value.Value.TheVariants as value
-use Rattle.sx_prims.specs.declared.made.Made.TheVariants as made
+use Rattle.sx_prims.specs.declared.made.PrimResult.TheVariants as made
 use Rattle.sx_prims.specs.Answers.{refused}
 use Rattle.sx_prims.specs.Chains.{pair_of, chain_on, chain_to, chain}
 use Rattle.sx_prims.specs.Each.{all_are}
@@ -38,7 +38,7 @@ use Rattle.sx_prims.specs.Identity.{same}
 use Rattle.sx_prims.specs.Parts.{parts_in, parts_of, is_datum}
 use Rattle.sx_prims.specs.Perform.{performed}
 use Rattle.sx_prims.specs.Syntax.{identifier}
-use Rattle.sx_list_laws.specs.Data.{IsDatum, of_atom, of_string, of_symbol, of_pair, of_vector, AreData, no_data, one_datum}
+use Rattle.sx_list_laws.specs.Data.{IsDatumValue, of_atom, of_string, of_symbol, of_pair, of_vector, AreData, no_data, one_datum}
 use Rattle.sx_list_laws.proofs.RunLemmas.{Stay, stay_added}
 use Rattle.sx_list_laws.proofs.SameLemmas.{atom_itself}
 
@@ -58,7 +58,7 @@ read_still {A} read e old new s n x h = by (slice_get old n) refl h
 
 module _ (old new : List Cell) (s : Stay old new) where
   mutual
-    pub datum_still : {d : PlainDatum} {x : Value} → IsDatum old d x → IsDatum new d x
+    pub datum_still : {d : PlainDatum} {x : Value} → IsDatumValue old d x → IsDatumValue new d x
     datum_still (of_atom e) = of_atom e
     datum_still (of_string {text = text} {p = p} e) = of_string (read_still string_in refl old new s p.0 text e)
     datum_still of_symbol = of_symbol
@@ -69,7 +69,7 @@ module _ (old new : List Cell) (s : Stay old new) where
     data_still no_data = no_data
     data_still (one_datum h k) = one_datum (datum_still h) (data_still k)
 
-atom_is : (s : Option Span) (b : Atom) (cells : List Cell) → IsDatum (atom_stored b cells).1 (datum.atom s b) (atom_stored b cells).0
+atom_is : (s : Option Span) (b : Atom) (cells : List Cell) → IsDatumValue (atom_stored b cells).1 (datum.atom s b) (atom_stored b cells).0
 atom_is s a.Nil cells = of_atom refl
 atom_is s (a.Bool b) cells = of_atom refl
 atom_is s (a.Int z) cells = of_atom refl
@@ -80,7 +80,7 @@ atom_is s (a.Bytes bytes) cells = of_atom refl
 
 -- what is stored of a datum for which something stands, without its spans, is that datum
 mutual
-  pub stored_is : {old : List Cell} {d : PlainDatum} {x : Value} (cells : List Cell) → IsDatum old d x → IsDatum (stored (datum.unspanned d) cells).1 d (stored (datum.unspanned d) cells).0
+  pub stored_is : {old : List Cell} {d : PlainDatum} {x : Value} (cells : List Cell) → IsDatumValue old d x → IsDatumValue (stored (datum.unspanned d) cells).1 d (stored (datum.unspanned d) cells).0
   stored_is cells (of_atom {s = s} {b = b} e) = atom_is s b cells
   stored_is cells (of_string {s = s} {text = text} e) = atom_is s (a.Str text) cells
   stored_is cells of_symbol = of_symbol
@@ -115,7 +115,7 @@ module _ (cells : List Cell) where
   lengths_same : (o u : Option (List Value)) (xs ys : List Value) → o ≡ Some xs → u ≡ Some ys → length xs ≡ length ys → same_lengths o u ≡ true
   lengths_same o u xs ys e f l = (λ i. same_lengths (e i) (f i)) ∙ (unsigned_Decides (length xs) (length ys)).1 l
 
-  shape_same : {d : PlainDatum} {x y : Value} → IsDatum cells d x → IsDatum cells d y → same_shape cells x y ≡ true
+  shape_same : {d : PlainDatum} {x y : Value} → IsDatumValue cells d x → IsDatumValue cells d y → same_shape cells x y ≡ true
   unfolding same_shape same
   shape_same (of_atom {b = b} e) (of_atom f) = atom_itself b
   shape_same (of_atom e) (of_string f) = absurd (cc)
@@ -128,7 +128,7 @@ module _ (cells : List Cell) where
   -- the parts stand for one datum each
   pub data PartsAlike : List Value → List Value → Type 0 where
     no_part : PartsAlike [] []
-    one_part : {d : PlainDatum} {x y : Value} {xs ys : List Value} → IsDatum cells d x → IsDatum cells d y → PartsAlike xs ys → PartsAlike (x ∷ xs) (y ∷ ys)
+    one_part : {d : PlainDatum} {x y : Value} {xs ys : List Value} → IsDatumValue cells d x → IsDatumValue cells d y → PartsAlike xs ys → PartsAlike (x ∷ xs) (y ∷ ys)
 
   elements_alike : {d : PlainDatum} {xs ys : List Value} → AreData cells d xs → AreData cells d ys → PartsAlike xs ys
   elements_alike no_data no_data = no_part
@@ -137,7 +137,7 @@ module _ (cells : List Cell) where
   alike_at : (xs ys : List Value) (us vs : List Value) → xs ≡ us → ys ≡ vs → PartsAlike us vs → PartsAlike xs ys
   alike_at xs ys us vs e f h = subst (λ (zs : List Value). PartsAlike zs ys) (sym e) (subst (λ (zs : List Value). PartsAlike us zs) (sym f) h)
 
-  parts_alike : {d : PlainDatum} {x y : Value} → IsDatum cells d x → IsDatum cells d y → PartsAlike (parts_of cells x) (parts_of cells y)
+  parts_alike : {d : PlainDatum} {x y : Value} → IsDatumValue cells d x → IsDatumValue cells d y → PartsAlike (parts_of cells x) (parts_of cells y)
   parts_alike (of_atom e) (of_atom f) = no_part
   parts_alike (of_atom e) (of_string f) = no_part
   parts_alike (of_string e) (of_atom f) = no_part
@@ -149,17 +149,17 @@ module _ (cells : List Cell) where
   parts_alike (of_vector {p = p} {xs = xs} e h) (of_vector {p = q} {xs = ys} f k) =
       alike_at (parts_of cells (value.Vector p)) (parts_of cells (value.Vector q)) xs ys (ap (parts_in None) e) (ap (parts_in None) f) (elements_alike h k)
 
-  all_alike : (n : ℕ) → ((d : PlainDatum) (x y : Value) → IsDatum cells d x → IsDatum cells d y → equal_to n cells x y ≡ true) → {xs ys : List Value} → PartsAlike xs ys → all_equal (equal_to n cells) xs ys ≡ true
+  all_alike : (n : ℕ) → ((d : PlainDatum) (x y : Value) → IsDatumValue cells d x → IsDatumValue cells d y → equal_to n cells x y ≡ true) → {xs ys : List Value} → PartsAlike xs ys → all_equal (equal_to n cells) xs ys ≡ true
   all_alike n again no_part = refl
   all_alike n again (one_part {d = d} {x = x} {y = y} {xs = xs} {ys = ys} h k rest) = ap (λ t. t && all_equal (equal_to n cells) xs ys) (again d x y h k) ∙ all_alike n again rest
 
-  alike_equal : (n : ℕ) (d : PlainDatum) (x y : Value) → IsDatum cells d x → IsDatum cells d y → equal_to n cells x y ≡ true
+  alike_equal : (n : ℕ) (d : PlainDatum) (x y : Value) → IsDatumValue cells d x → IsDatumValue cells d y → equal_to n cells x y ≡ true
   unfolding equal_to
   alike_equal zero d x y h k = shape_same h k
   alike_equal (suc n) d x y h k =
       ap (λ t. t && all_equal (equal_to n cells) (parts_of cells x) (parts_of cells y)) (shape_same h k) ∙ all_alike n (alike_equal n) (parts_alike h k)
 
-  pub one_datum_equal : (d : PlainDatum) (x y : Value) → IsDatum cells d x → IsDatum cells d y → equal cells x y ≡ true
+  pub one_datum_equal : (d : PlainDatum) (x y : Value) → IsDatumValue cells d x → IsDatumValue cells d y → equal cells x y ≡ true
   unfolding equal
   one_datum_equal d x y h k = alike_equal (length cells) d x y h k
 
@@ -210,7 +210,7 @@ grew_to grow done (x ∷ xs) ts h = by (λ t k. grew_to grow (done ++ t ∷ []) 
 
 module _ (cells : List Cell) (id : Tree) where
   abbrev GrowsWell : (Value → Result Tree Bare) → Type 0
-  GrowsWell grow = (d : PlainDatum) (x : Value) (t : Tree) → IsDatum cells d x → grow x ≡ Ok t → t ≡ datum_like id d
+  GrowsWell grow = (d : PlainDatum) (x : Value) (t : Tree) → IsDatumValue cells d x → grow x ≡ Ok t → t ≡ datum_like id d
 
   -- elements of a vector
   elements_grow : (grow : Value → Result Tree Bare) → GrowsWell grow → {e : PlainDatum} {xs : List Value} {ts : List Tree} → AreData cells e xs → Grew grow xs ts → tree.chain ts tree.nil ≡ datum_like id e
@@ -230,21 +230,21 @@ module _ (cells : List Cell) (id : Tree) where
     pub first : PlainDatum
     pub rest : PlainDatum
     pub is : d ≡ datum.pair span first rest
-    pub car : IsDatum cells first y
-    pub cdr : IsDatum cells rest z
+    pub car : IsDatumValue cells first y
+    pub cdr : IsDatumValue cells rest z
 
-  pair_datum : {d : PlainDatum} {x : Value} (y z : Value) → IsDatum cells d x → pair_of cells x ≡ Some (y, z) → PairDatum d y z
+  pair_datum : {d : PlainDatum} {x : Value} (y z : Value) → IsDatumValue cells d x → pair_of cells x ≡ Some (y, z) → PairDatum d y z
   pair_datum y z (of_pair {s = s} {d = first} {e = rest} {p = p} {x = a} {y = b} f h k) e =
       let both : ◌≡◌ {A = Option (Value × Value)} (Some (a, b)) (Some (y, z)) = sym f ∙ e in
       let same : (a, b) ≡ (y, z) = cc in
-      record { span = s; first = first; rest = rest; is = refl; car = subst (λ (q : Value × Value). IsDatum cells first q.0) same h; cdr = subst (λ (q : Value × Value). IsDatum cells rest q.1) same k }
+      record { span = s; first = first; rest = rest; is = refl; car = subst (λ (q : Value × Value). IsDatumValue cells first q.0) same h; cdr = subst (λ (q : Value × Value). IsDatumValue cells rest q.1) same k }
   pair_datum y z (of_atom f) e = absurd (cc)
   pair_datum y z (of_string f) e = absurd (cc)
   pair_datum y z of_symbol e = absurd (cc)
   pair_datum y z (of_vector f h) e = absurd (cc)
 
   -- an element before the others
-  one_more : (grow : Value → Result Tree Bare) → GrowsWell grow → (t : Tree) (d first rest : PlainDatum) (s : Option Span) (y : Value) (ys : List Value) → d ≡ datum.pair s first rest → IsDatum cells first y
+  one_more : (grow : Value → Result Tree Bare) → GrowsWell grow → (t : Tree) (d first rest : PlainDatum) (s : Option Span) (y : Value) (ys : List Value) → d ≡ datum.pair s first rest → IsDatumValue cells first y
       → ((vs : List Tree) → Grew grow ys vs → list_of vs (Some t) ≡ datum_like id rest) → {us : List Tree} → Grew grow (y ∷ ys) us → list_of us (Some t) ≡ datum_like id d
   one_more grow well t d first rest s y ys is h again (one_grew {t = u} {ts = vs} n ns) =
       let tail = again vs ns in
@@ -254,20 +254,20 @@ module _ (cells : List Cell) (id : Tree) where
       (λ i. pair None (well first y u h n i) ((list_more vs t plain ∙ tail) i)) ∙ ap (datum_like id) (sym is)
 
   -- the elements of a list and what ends it
-  lists_grow : (grow : Value → Result Tree Bare) → GrowsWell grow → (m : ℕ) (d : PlainDatum) (x : Value) (t : Tree) → IsDatum cells d x → grow (chain_to m cells x).end ≡ Ok t
+  lists_grow : (grow : Value → Result Tree Bare) → GrowsWell grow → (m : ℕ) (d : PlainDatum) (x : Value) (t : Tree) → IsDatumValue cells d x → grow (chain_to m cells x).end ≡ Ok t
       → (us : List Tree) → Grew grow (chain_to m cells x).elements us → list_of us (Some t) ≡ datum_like id d
   unfolding chain_to
   lists_grow grow well zero d x t h e us g = ap (λ (ts : List Tree). list_of ts (Some t)) (nothing_grew grow g) ∙ well d x t h e
   lists_grow grow well (suc m) d x t h e us g = by (λ f y k l. lists_grow grow well m f y t k l) (pair_of cells x) refl e g
     where
-      by : ((f : PlainDatum) (y : Value) → IsDatum cells f y → grow (chain_to m cells y).end ≡ Ok t → (vs : List Tree) → Grew grow (chain_to m cells y).elements vs → list_of vs (Some t) ≡ datum_like id f)
+      by : ((f : PlainDatum) (y : Value) → IsDatumValue cells f y → grow (chain_to m cells y).end ≡ Ok t → (vs : List Tree) → Grew grow (chain_to m cells y).elements vs → list_of vs (Some t) ≡ datum_like id f)
           → (o : Option (Value × Value)) → pair_of cells x ≡ o → grow (chain_on (chain_to m cells) x o).end ≡ Ok t → Grew grow (chain_on (chain_to m cells) x o).elements us → list_of us (Some t) ≡ datum_like id d
       by again None f l n = ap (λ (ts : List Tree). list_of ts (Some t)) (nothing_grew grow n) ∙ well d x t h l
       by again (Some (y, z)) f l n =
           let p = pair_datum y z h f in
           one_more grow well t d p.first p.rest p.span y (chain_to m cells z).elements p.is p.car (λ vs k. again p.rest z p.cdr l vs k) n
 
-  list_grows : (grow : Value → Result Tree Bare) → GrowsWell grow → (m : ℕ) (d : PlainDatum) (x : Value) (t : Tree) → IsDatum cells d x → list_grown grow (chain_to m cells x).elements (chain_to m cells x).end ≡ Ok t → t ≡ datum_like id d
+  list_grows : (grow : Value → Result Tree Bare) → GrowsWell grow → (m : ℕ) (d : PlainDatum) (x : Value) (t : Tree) → IsDatumValue cells d x → list_grown grow (chain_to m cells x).elements (chain_to m cells x).end ≡ Ok t → t ≡ datum_like id d
   list_grows grow well m d x t h e = by_elements (all_grown grow [] (chain_to m cells x).elements) refl e
     where
       by_end : (us : List Tree) → Grew grow (chain_to m cells x).elements us → (r : Result Tree Bare) → grow (chain_to m cells x).end ≡ r → (r >>= λ u. within (list_of us (Some u))) ≡ Ok t → t ≡ datum_like id d
@@ -281,7 +281,7 @@ module _ (cells : List Cell) (id : Tree) where
           by_end us (subst (λ (ts : List Tree). Grew grow (chain_to m cells x).elements ts) (sym g.are) g.grew) (grow (chain_to m cells x).end) refl k
       by_elements (Err b) f k = absurd (cc)
 
-  chain_grows : (grow : Value → Result Tree Bare) → GrowsWell grow → (d : PlainDatum) (x : Value) (t : Tree) → IsDatum cells d x → list_grown grow (chain cells x).elements (chain cells x).end ≡ Ok t → t ≡ datum_like id d
+  chain_grows : (grow : Value → Result Tree Bare) → GrowsWell grow → (d : PlainDatum) (x : Value) (t : Tree) → IsDatumValue cells d x → list_grown grow (chain cells x).elements (chain cells x).end ≡ Ok t → t ≡ datum_like id d
   unfolding chain
   chain_grows grow well d x t h e = list_grows grow well (length cells) d x t h e
 
@@ -294,7 +294,7 @@ module _ (cells : List Cell) (id : Tree) where
           sym (within_is (vector_of us) t k) ∙ ap (vector None) (elements_grow grow well h (subst (λ (ts : List Tree). Grew grow xs ts) (sym g.are) g.grew))
       by (Err b) f k = absurd (cc)
 
-  grows_at : (n : ℕ) {d : PlainDatum} {x : Value} (t : Tree) → IsDatum cells d x → grown_to n id cells x ≡ Ok t → t ≡ datum_like id d
+  grows_at : (n : ℕ) {d : PlainDatum} {x : Value} (t : Tree) → IsDatumValue cells d x → grown_to n id cells x ≡ Ok t → t ≡ datum_like id d
   unfolding grown_to level_grown
   grows_at zero t h e = absurd (cc)
   grows_at (suc n) t (of_atom {s = s} {b = b} f) e =
@@ -321,7 +321,7 @@ made_is : (r : Result Tree Bare) (t : Tree) → tree_made r ≡ Ok (made.Value (
 made_is (Ok u) t h = cc
 made_is (Err f) t h = absurd (cc)
 
-module _ (op : ℕ) (cells : List Cell) (k x : Value) (id : Tree) (d : PlainDatum) (is : IsDatum cells d x) (leaf_is : identifier k ≡ Some id) where
+module _ (op : ℕ) (cells : List Cell) (k x : Value) (id : Tree) (d : PlainDatum) (is : IsDatumValue cells d x) (leaf_is : identifier k ≡ Some id) where
   pub syntax_is : (t : Tree) → syntax_answer op (k ∷ x ∷ []) cells ≡ Ok (made.Value (value.Syn t)) → t ≡ datum_like id d
   unfolding syntax_answer
   syntax_is t h = by (is_datum cells x) (ap (λ o. tree_by op cells x o) (sym leaf_is) ∙ h)
@@ -349,19 +349,19 @@ pub syntax_performed : (cells : List Cell) (t : Tree) (name : Named) → perform
 unfolding datum_in
 syntax_performed cells t name = ap (λ d. stored d cells) (datum_of_syntax (length cells) cells t)
 
-pub performed_is : (cells : List Cell) (name : Named) (id t : Tree) (d : PlainDatum) (x : Value) → IsDatum cells d x → t ≡ datum_like id d
-    → IsDatum (performed (made.Datum (value.Syn t)) name cells).1 d (performed (made.Datum (value.Syn t)) name cells).0
+pub performed_is : (cells : List Cell) (name : Named) (id t : Tree) (d : PlainDatum) (x : Value) → IsDatumValue cells d x → t ≡ datum_like id d
+    → IsDatumValue (performed (made.Datum (value.Syn t)) name cells).1 d (performed (made.Datum (value.Syn t)) name cells).0
 performed_is cells name id t d x h e =
     let same : stored (datum.unspanned d) cells ≡ performed (made.Datum (value.Syn t)) name cells = ap (λ u. stored u cells) (sym (strip-tree_of (context_of id) (datum.unspanned d)) ∙ ap strip (sym e)) ∙ sym (syntax_performed cells t name) in
-    subst (λ (p : Value × List Cell). IsDatum p.1 d p.0) same (stored_is cells h)
+    subst (λ (p : Value × List Cell). IsDatumValue p.1 d p.0) same (stored_is cells h)
 
 pub performed_stays : (cells : List Cell) (name : Named) (t : Tree) → Stay cells (performed (made.Datum (value.Syn t)) name cells).1
 performed_stays cells name t = subst (λ (p : Value × List Cell). Stay cells p.1) (sym (syntax_performed cells t name)) (stays cells (stored (strip t) cells).1 (stored_keeps (strip t) cells))
 
 -- there and back
-module _ (op : ℕ) (name : Named) (cells : List Cell) (k x : Value) (id t : Tree) (d : PlainDatum) (is : IsDatum cells d x) (leaf_is : identifier k ≡ Some id)
+module _ (op : ℕ) (name : Named) (cells : List Cell) (k x : Value) (id t : Tree) (d : PlainDatum) (is : IsDatumValue cells d x) (leaf_is : identifier k ≡ Some id)
     (h : syntax_answer op (k ∷ x ∷ []) cells ≡ Ok (made.Value (value.Syn t))) where
-  pub back_again : IsDatum (performed (made.Datum (value.Syn t)) name cells).1 d (performed (made.Datum (value.Syn t)) name cells).0
+  pub back_again : IsDatumValue (performed (made.Datum (value.Syn t)) name cells).1 d (performed (made.Datum (value.Syn t)) name cells).0
   back_again = performed_is cells name id t d x is (syntax_is op cells k x id d is leaf_is t h)
 
   pub back_equal : equal (performed (made.Datum (value.Syn t)) name cells).1 x (performed (made.Datum (value.Syn t)) name cells).0 ≡ true

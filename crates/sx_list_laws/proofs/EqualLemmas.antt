@@ -4,7 +4,7 @@ use Rattle.std.specs.Prelude.{◌⊎◌, nat_eq, IsTrue}
 use Rattle.std.specs.Cmp.Lexicographic.{pointwise}
 use Rattle.std.proofs.Math.Dec.{eqb-zero-suc, eqb-suc-zero, eqb-suc-suc}
 use Rattle.sx_region.specs.declared.region.Place.{Place}
-use Rattle.sx_value.specs.Cells.{pair_at, vector_at, string_at, is_found, FitsIn, IsBelow, Lies, Each, Whole}
+use Rattle.sx_value.specs.Cells.{pair_at, vector_at, string_at, is_found, FitsIn, IsBelow, Lies, Each, WholeCells}
 use Rattle.sx_value.specs.declared.cell.Cell.{Cell}
 use Rattle.sx_value.specs.declared.value.Value.{Value}
 use Rattle.sx_value.specs.declared.value.Value.TheVariants as value
@@ -63,7 +63,7 @@ parts_or_same cells (value.Pair p) _ h = inr refl
 parts_or_same cells (value.Vector p) (value.Vector q) h = absurd (cc)
 parts_or_same cells (value.Vector p) _ h = inr refl
 
-module _ (cells : List Cell) (w : Whole cells) where
+module _ (cells : List Cell) (w : WholeCells cells) where
   -- one level more says no more of what lies below
   stable : (n : ℕ) (x : Value) → IsBelow n x → Agrees (equal_to n cells) (equal_to (suc n) cells) x
   unfolding equal_to

@@ -2,7 +2,7 @@
 use Rattle.std.proofs.Common.{◌≡◌, ℕ, suc, ◌<◌, ◌≤◌, Bool, false, List, [], ◌∷◌, length, Option, None, Some, refl, subst, ap, arith, slice_get}
 use Rattle.std.specs.Prelude.{IsTrue}
 use Rattle.std.proofs.lemmas.Option.{slice_get_within}
-use Rattle.sx_value.specs.Cells.{pair_in, pair_at, vector_in, vector_at, string_in, transformer_in, has_variables, is_found, FitsIn, IsBelow, Lies, Each, Whole}
+use Rattle.sx_value.specs.Cells.{pair_in, pair_at, vector_in, vector_at, string_in, transformer_in, has_variables, is_found, FitsIn, IsBelow, Lies, Each, WholeCells}
 use Rattle.sx_value.specs.declared.cell.Cell.{Cell}
 use Rattle.sx_value.specs.declared.cell.Cell.TheVariants as cell
 use Rattle.sx_value.specs.declared.value.Value.{Value}
@@ -68,7 +68,7 @@ pub each_so : (P Q : Value → Type 0) → ((x : Value) → P x → Q x) → (xs
 each_so P Q k [] h = tt
 each_so P Q k (x ∷ xs) h = (k x h.0, each_so P Q k xs h.1)
 
-module _ (cells : List Cell) (w : Whole cells) where
+module _ (cells : List Cell) (w : WholeCells cells) where
   pub pair_lies : (n : ℕ) (x d : Value) → pair_at cells n ≡ Some (x, d) → Lies cells n x × Lies cells n d
   pair_lies n x d e = go (slice_get cells n) refl e
     where

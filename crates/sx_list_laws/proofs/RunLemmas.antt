@@ -8,13 +8,13 @@ use Rattle.sx_base.specs.declared.atom.Atom.{Atom}
 use Rattle.sx_base.specs.declared.atom.Atom.TheVariants as a
 use Rattle.sx_base.specs.declared.op.names.TheConstants as names
 use Rattle.sx_region.proofs.Laws.{slice_get-added}
-use Rattle.sx_value.specs.Cells.{pair_in, pair_at, IsBelow, Whole}
+use Rattle.sx_value.specs.Cells.{pair_in, pair_at, IsBelow, WholeCells}
 use Rattle.sx_value.specs.FromDatum.{pairs_stored}
 use Rattle.sx_value.specs.declared.cell.Cell.{Cell}
 use Rattle.sx_value.specs.declared.cell.Cell.TheVariants as cell
 use Rattle.sx_value.specs.declared.value.Value.{Value}
 use Rattle.sx_value.specs.declared.value.Value.TheVariants as value
-use Rattle.sx_prims.specs.declared.made.Made.TheVariants as made
+use Rattle.sx_prims.specs.declared.made.PrimResult.TheVariants as made
 use Rattle.sx_prims.specs.Answers.{said, given}
 use Rattle.sx_prims.specs.Chains.{Chain, pair_of, is_nil, linked, chain_on, chain_to, chain, list_elements, then_tail, tail_after}
 use Rattle.sx_prims.specs.Each.{if_some, before_last, last_of}
@@ -78,7 +78,7 @@ module _ (cells : List Cell) where
   chain_is zero (next f r) e l = absurd (omega (arith, l))
   chain_is (suc n) {x = x} (next {y = y} {d = d} f r) e l = ap (chain_on (chain_to n cells) x) f ∙ ap (linked y) (chain_is n r e (omega (arith, l)))
 
-  module _ (w : Whole cells) where
+  module _ (w : WholeCells cells) where
     rest_below : (n : ℕ) (x y d : Value) → pair_of cells x ≡ Some (y, d) → IsBelow (suc n) x → IsBelow n d
     rest_below n (value.Pair p) y d e b = below_more p.0 n d (omega (arith, b)) (pair_lies cells w p.0 y d e).1.below
     rest_below n value.Unspecified y d e b = absurd (cc)

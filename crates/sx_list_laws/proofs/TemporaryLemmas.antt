@@ -11,13 +11,13 @@ use Rattle.sx_tree.specs.Leaves.{marks_of}
 use Rattle.sx_tree.specs.SameMarks.{same_marks, same_marks_decides}
 use Rattle.sx_scope.specs.Stands.{symbol_of}
 use Rattle.sx_scope.specs.Same.{same_binder}
-use Rattle.sx_value.specs.Cells.{Each, Whole}
+use Rattle.sx_value.specs.Cells.{Each, WholeCells}
 use Rattle.sx_value.specs.declared.cell.Cell.{Cell}
 use Rattle.sx_value.specs.declared.value.Value.{Value}
 use Rattle.sx_value.specs.declared.value.Value.TheVariants as value
 use Rattle.sx_prims.specs.Perform.{name_after, temporary, temporaries}
 use Rattle.sx_prims.proofs.Temporaries.{name_after_add, name_after_zero}
-use Rattle.sx_prims.specs.declared.made.Made.TheVariants as made
+use Rattle.sx_prims.specs.declared.made.PrimResult.TheVariants as made
 use Rattle.sx_prims.specs.Chains.{Chain, chain_to, chain}
 use Rattle.sx_prims.specs.Each.{if_some}
 use Rattle.sx_prims.specs.Syntax.{elements_from, elements_with, temporaries_made}
@@ -98,7 +98,7 @@ older_than_later n name i t h =
 
 -- ---- how many
 
-pub counted : (cells : List Cell) → Whole cells → {xs : List Value} {x : Value} → IsList cells xs x → temporaries_made (x ∷ []) cells ≡ Some (made.Temporaries (length xs))
+pub counted : (cells : List Cell) → WholeCells cells → {xs : List Value} {x : Value} → IsList cells xs x → temporaries_made (x ∷ []) cells ≡ Some (made.Temporaries (length xs))
 unfolding temporaries_made
 counted cells w r = ap (λ (c : Chain). if_some (elements_with (length c.elements) c.end) (λ n. Some (made.Temporaries n))) (run_chain cells w r refl)
 

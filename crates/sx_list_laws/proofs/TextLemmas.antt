@@ -15,7 +15,7 @@ use Rattle.sx_value.specs.declared.cell.Cell.{Cell}
 use Rattle.sx_value.specs.declared.cell.Cell.TheVariants as cell
 use Rattle.sx_value.specs.declared.value.Value.{Value}
 use Rattle.sx_value.specs.declared.value.Value.TheVariants as value
-use Rattle.sx_prims.specs.declared.made.Made.TheVariants as made
+use Rattle.sx_prims.specs.declared.made.PrimResult.TheVariants as made
 use Rattle.sx_prims.specs.Each.{if_some, all_of}
 use Rattle.sx_prims.specs.Strings.{string_of, natural, char_value, char_given, index_below, char_at, part_made, listed, unpacked_made, text_made, joined, between, cut, string_made}
 use Rattle.sx_prims.specs.Perform.{performed}

@@ -12,7 +12,7 @@ ghost use Rattle.sx_scope.specs.Same.{same_binder};
 ghost use Rattle.sx_tree.specs.Leaves.{datum_like};
 ghost use Rattle.sx_tree.specs.Tree.{Tree, spanned};
 ghost use Rattle.sx_tree.specs.Tree as tree;
-ghost use Rattle.sx_value.specs.Cells.{FitsIn, Whole};
+ghost use Rattle.sx_value.specs.Cells.{FitsIn, WholeCells};
 ghost use Rattle.sx_value.specs.declared.cell.Cell.{Cell};
 ghost use Rattle.sx_value.specs.declared.value.Value.{Value};
 ghost use Rattle.sx_value.specs.declared.value.Value.TheVariants as value;
@@ -25,8 +25,8 @@ ghost use Rattle.sx_prims.specs.Lists.{nil, list_made, appended_made, indexed_ma
 ghost use Rattle.sx_prims.specs.Perform.{performed, temporaries, name_after};
 ghost use Rattle.sx_prims.specs.Strings.{natural, char_value, part_made, string_made, unpacked_made};
 ghost use Rattle.sx_prims.specs.Syntax.{identifier, temporaries_made};
-ghost use Rattle.sx_prims.specs.declared.made.Made.TheVariants as made;
-ghost use Rattle.sx_list_laws.specs.Data.{IsDatum};
+ghost use Rattle.sx_prims.specs.declared.made.PrimResult.TheVariants as made;
+ghost use Rattle.sx_list_laws.specs.Data.{IsDatumValue};
 ghost use Rattle.sx_list_laws.specs.Equals.{IsEquality, is_syntax_object};
 ghost use Rattle.sx_list_laws.specs.Older.{IsOlder};
 ghost use Rattle.sx_list_laws.specs.Runs.{Runs, IsList, AreLists, joined};
@@ -44,8 +44,8 @@ pub fn numbers_are_by_name()
 /// their parts, vectors by what it says of their elements, strings by their characters, and all else as `eqv?`
 /// does. And it is the only one: whatever does so says the same of all values.
 pub fn equal_looks_into_parts()
-    ensures is { (cells : List Cell) → Whole cells → IsEquality cells (equal cells) }
-    ensures only { (cells : List Cell) (other : Value → Value → Bool) (x y : Value) → Whole cells → IsEquality cells other → FitsIn cells x → FitsIn cells y →
+    ensures is { (cells : List Cell) → WholeCells cells → IsEquality cells (equal cells) }
+    ensures only { (cells : List Cell) (other : Value → Value → Bool) (x y : Value) → WholeCells cells → IsEquality cells other → FitsIn cells x → FitsIn cells y →
         other x y ≡ equal cells x y }
 {}
 
@@ -60,12 +60,12 @@ pub fn eqv_tells_values_apart()
 /// A list is the empty list, or a pair whose cdr is a list (R6RS 11.9): `list?` is true of these and of nothing
 /// else, `length` counts the elements, and `reverse` makes a list of them from the last to the first.
 pub fn lists_are_by_their_elements()
-    ensures elements { (cells : List Cell) (xs : List Value) (x : Value) → Whole cells → IsList cells xs x → list_elements cells x ≡ Some xs }
+    ensures elements { (cells : List Cell) (xs : List Value) (x : Value) → WholeCells cells → IsList cells xs x → list_elements cells x ≡ Some xs }
     ensures only { (cells : List Cell) (xs : List Value) (x : Value) → list_elements cells x ≡ Some xs → IsList cells xs x }
-    ensures is_list { (cells : List Cell) (xs : List Value) (x : Value) → Whole cells → IsList cells xs x → list_made names.IS_LIST (x ∷ []) cells ≡ said true }
+    ensures is_list { (cells : List Cell) (xs : List Value) (x : Value) → WholeCells cells → IsList cells xs x → list_made names.IS_LIST (x ∷ []) cells ≡ said true }
     ensures no_other { (cells : List Cell) (x : Value) → list_made names.IS_LIST (x ∷ []) cells ≡ said true → (xs : List Value) × IsList cells xs x }
-    ensures length { (cells : List Cell) (xs : List Value) (x : Value) → Whole cells → IsList cells xs x → list_made names.LENGTH (x ∷ []) cells ≡ natural (length xs) }
-    ensures reverse { (cells : List Cell) (xs : List Value) (x : Value) → Whole cells → IsList cells xs x → list_made names.REVERSE (x ∷ []) cells ≡ Some (made.List (reverse xs) nil) }
+    ensures length { (cells : List Cell) (xs : List Value) (x : Value) → WholeCells cells → IsList cells xs x → list_made names.LENGTH (x ∷ []) cells ≡ natural (length xs) }
+    ensures reverse { (cells : List Cell) (xs : List Value) (x : Value) → WholeCells cells → IsList cells xs x → list_made names.REVERSE (x ∷ []) cells ≡ Some (made.List (reverse xs) nil) }
 {}
 
 /// To make a list of elements before a rest makes new pairs with these cars, one behind another, and then this
@@ -78,16 +78,16 @@ pub fn what_is_made_is_a_list()
 /// `append` makes new pairs of the elements of all its arguments but the last, one list after another, and the
 /// last argument, which may be anything, is what comes behind them (R6RS 11.9). Of nothing it makes `()`.
 pub fn append_joins_lists()
-    ensures lists { (cells : List Cell) (xss : List (List Value)) (args : List Value) (last : Value) → Whole cells → AreLists cells xss args →
+    ensures lists { (cells : List Cell) (xss : List (List Value)) (args : List Value) (last : Value) → WholeCells cells → AreLists cells xss args →
         appended_made (args ++ last ∷ []) cells ≡ Some (made.List (joined xss) last) }
     ensures nothing { (cells : List Cell) → appended_made [] cells ≡ Some (made.List [] nil) }
 {}
 
 /// `list-tail` of `k` is what comes behind `k` pairs, and `list-ref` of `k` the car of that (R6RS 11.9).
 pub fn list_tail_leaves_the_rest()
-    ensures tail { (cells : List Cell) (xs : List Value) (rest x : Value) → Whole cells → Runs cells xs rest x →
+    ensures tail { (cells : List Cell) (xs : List Value) (rest x : Value) → WholeCells cells → Runs cells xs rest x →
         indexed_made names.LIST_TAIL (x ∷ value.Atom (a.Int (pos (length xs))) ∷ []) cells ≡ Some (made.Value rest) }
-    ensures element { (cells : List Cell) (xs : List Value) (rest x y d : Value) → Whole cells → Runs cells xs rest x → pair_of cells rest ≡ Some (y, d) →
+    ensures element { (cells : List Cell) (xs : List Value) (rest x y d : Value) → WholeCells cells → Runs cells xs rest x → pair_of cells rest ≡ Some (y, d) →
         indexed_made names.LIST_REF (x ∷ value.Atom (a.Int (pos (length xs))) ∷ []) cells ≡ Some (made.Value y) }
 {}
 
@@ -111,7 +111,7 @@ pub fn strings_are_by_their_characters()
 /// syntax object that is one. No two have one binder, nor has one the binder of an older leaf: a leaf whose
 /// marks were all taken before. Each is older than those that are made later (R6RS libraries 12.7).
 pub fn temporaries_are_new()
-    ensures list { (cells : List Cell) (xs : List Value) (x : Value) → Whole cells → IsList cells xs x → temporaries_made (x ∷ []) cells ≡ Some (made.Temporaries (length xs)) }
+    ensures list { (cells : List Cell) (xs : List Value) (x : Value) → WholeCells cells → IsList cells xs x → temporaries_made (x ∷ []) cells ≡ Some (made.Temporaries (length xs)) }
     ensures syntax { (cells : List Cell) (s : Option Span) (ts : List Tree) → temporaries_made (value.Syn (spanned s (tree.chain ts tree.nil)) ∷ []) cells ≡ Some (made.Temporaries (length ts)) }
     ensures made { (n : ℕ) (name : Named) (cells : List Cell) → IsList (performed (made.Temporaries n) name cells).1 (temporaries n name) (performed (made.Temporaries n) name cells).0 }
     ensures count { (n : ℕ) (name : Named) → length (temporaries n name) ≡ n }
@@ -125,13 +125,13 @@ pub fn temporaries_are_new()
 /// identifier; and what `syntax->datum` gives back is the datum, `equal?` to the one that it was made of (R6RS
 /// libraries 12.6).
 pub fn a_datum_comes_back_from_syntax()
-    ensures tree { (op : ℕ) (cells : List Cell) (k x : Value) (id t : Tree) (d : PlainDatum) → IsDatum cells d x → identifier k ≡ Some id →
+    ensures tree { (op : ℕ) (cells : List Cell) (k x : Value) (id t : Tree) (d : PlainDatum) → IsDatumValue cells d x → identifier k ≡ Some id →
         syntax_answer op (k ∷ x ∷ []) cells ≡ Ok (made.Value (value.Syn t)) → t ≡ datum_like id d }
     ensures taken { (op : ℕ) (cells : List Cell) (t : Tree) → datum_answer op (value.Syn t ∷ []) cells ≡ Ok (made.Datum (value.Syn t)) }
-    ensures back { (op : ℕ) (name : Named) (cells : List Cell) (k x : Value) (id t : Tree) (d : PlainDatum) → IsDatum cells d x → identifier k ≡ Some id →
+    ensures back { (op : ℕ) (name : Named) (cells : List Cell) (k x : Value) (id t : Tree) (d : PlainDatum) → IsDatumValue cells d x → identifier k ≡ Some id →
         syntax_answer op (k ∷ x ∷ []) cells ≡ Ok (made.Value (value.Syn t)) →
-        IsDatum (performed (made.Datum (value.Syn t)) name cells).1 d (performed (made.Datum (value.Syn t)) name cells).0 }
-    ensures equal { (op : ℕ) (name : Named) (cells : List Cell) (k x : Value) (id t : Tree) (d : PlainDatum) → IsDatum cells d x → identifier k ≡ Some id →
+        IsDatumValue (performed (made.Datum (value.Syn t)) name cells).1 d (performed (made.Datum (value.Syn t)) name cells).0 }
+    ensures equal { (op : ℕ) (name : Named) (cells : List Cell) (k x : Value) (id t : Tree) (d : PlainDatum) → IsDatumValue cells d x → identifier k ≡ Some id →
         syntax_answer op (k ∷ x ∷ []) cells ≡ Ok (made.Value (value.Syn t)) →
         equal (performed (made.Datum (value.Syn t)) name cells).1 x (performed (made.Datum (value.Syn t)) name cells).0 ≡ true }
 {}

@@ -6,23 +6,23 @@ use Rattle.sx_load.specs.Stack.{meaning}
 use Rattle.sx_load.specs.declared.found.Found.{Found}
 use Rattle.sx_load.specs.declared.found.Loading.{Loading}
 use Rattle.sx_load.specs.declared.found.Open.{Open}
-use Rattle.sx_load.specs.declared.halt.Halt.{Halt}
-use Rattle.sx_load.specs.declared.halt.Halt.TheVariants as halt
+use Rattle.sx_load.specs.declared.halt.LoadHalt.{LoadHalt}
+use Rattle.sx_load.specs.declared.halt.LoadHalt.TheVariants as halt
 use Rattle.sx_load.specs.declared.walk.Turn.{Turn}
 use Rattle.sx_load.specs.declared.walk.Turn.TheVariants as turn
 
-abbrev pub Halts : {A : Type 0} → Halt → Loading → Loads A → Type 0
+abbrev pub Halts : {A : Type 0} → LoadHalt → Loading → Loads A → Type 0
 Halts (halt.Fault f) new given = given ≡ Err (new, f)
 Halts halt.Read new given = Unit {0}
 Halts halt.Memory new given = Unit {0}
 
 -- what a call answers and leaves is the definition's
-abbrev pub LoadsAfter : {A : Type 0} → Result A Halt → Loading → Loads (A × Loading) → Type 0
+abbrev pub LoadsAfter : {A : Type 0} → Result A LoadHalt → Loading → Loads (A × Loading) → Type 0
 LoadsAfter (Ok x) new given = given ≡ Ok (x, new)
 LoadsAfter (Err h) new given = Halts h new given
 
 -- a turn leaves the meaning as it is
-abbrev pub Turns : Paths → List (List ℕ) → Result Turn Halt → List Open → Loading → Loads (Found × Loading) → Type 0
+abbrev pub Turns : Paths → List (List ℕ) → Result Turn LoadHalt → List Open → Loading → Loads (Found × Loading) → Type 0
 Turns files roots (Ok (turn.On o)) stack new given = given ≡ meaning files roots o (reverse stack) new
 Turns files roots (Ok (turn.Done found)) stack new given = given ≡ Ok (found, new)
 Turns files roots (Err h) stack new given = Halts h new given

@@ -3,13 +3,13 @@ use Rattle.sx_base.specs.declared.fault.Stop.{Stop}
 use Rattle.sx_base.specs.declared.fault.Stop.TheVariants as stop
 use Rattle.sx_outside.specs.declared.causes.OutsideError.{OutsideError}
 use Rattle.sx_outside.specs.declared.causes.OutsideError.TheVariants as outside
-use Rattle.sx_load.specs.declared.halt.Halt.{Halt}
-use Rattle.sx_load.specs.declared.halt.Halt.TheVariants as halt
+use Rattle.sx_load.specs.declared.halt.LoadHalt.{LoadHalt}
+use Rattle.sx_load.specs.declared.halt.LoadHalt.TheVariants as halt
 
-abbrev pub halt_of_stop : Stop → Halt
+abbrev pub halt_of_stop : Stop → LoadHalt
 halt_of_stop (stop.Fault f) = halt.Fault f
 halt_of_stop stop.Memory = halt.Memory
 
-abbrev pub halt_of_outside : OutsideError → Halt
+abbrev pub halt_of_outside : OutsideError → LoadHalt
 halt_of_outside outside.Failed = halt.Read
 halt_of_outside outside.Memory = halt.Memory

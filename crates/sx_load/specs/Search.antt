@@ -1,12 +1,12 @@
 -- What reading a path gives, on its own word.
 use Rattle.std.specs.Prelude.{ℕ, ◌≤◌, nat_lt, length, if◌then◌else◌}
 use Rattle.sx_outside.specs.Contents.{Reading, bytes, longer, absent}
-use Rattle.sx_load.specs.declared.search.Answer.{Answer}
-use Rattle.sx_load.specs.declared.search.Answer.TheVariants as a
+use Rattle.sx_load.specs.declared.search.PathContents.{PathContents}
+use Rattle.sx_load.specs.declared.search.PathContents.TheVariants as a
 use Rattle.sx_load.specs.declared.search.Sought.{Sought}
 use Rattle.sx_load.specs.declared.search.Sought.TheVariants as sought
 
-abbrev pub answer_reading : Answer → Reading
+abbrev pub answer_reading : PathContents → Reading
 answer_reading (a.Bytes held) = bytes held
 answer_reading a.Longer = longer
 answer_reading a.Absent = absent
@@ -17,7 +17,7 @@ capped max (bytes held) = if nat_lt max (length held) then longer else bytes hel
 capped max longer = longer
 capped max absent = absent
 
-abbrev pub IsWithin : ℕ → Answer → Type 0
+abbrev pub IsWithin : ℕ → PathContents → Type 0
 IsWithin max (a.Bytes held) = length held ≤ max
 IsWithin max a.Longer = Unit {0}
 IsWithin max a.Absent = Unit {0}

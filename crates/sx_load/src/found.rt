@@ -9,7 +9,7 @@ use sx_base::items::Items;
 use sx_base::symbol::Symbol;
 use sx_forms::form::LibraryForm;
 use sx_forms::set::Import;
-use sx_import::table::Table;
+use sx_import::table::NameTable;
 
 /// A path that was read, and the bytes there, if it was there.
 #[derive(Drop)]
@@ -40,9 +40,9 @@ pub struct Found {
 #[derive(Drop)]
 pub struct Loading {
     /// The libraries that were begun, by their files.
-    pub begun: Table<()>,
+    pub begun: NameTable<()>,
     /// Those that are loaded, in order.
-    pub done: Table<Found>,
+    pub done: NameTable<Found>,
     /// The paths that were read, in order.
     pub sources: Items<Source>,
     /// How many bytes were read.
@@ -55,8 +55,8 @@ impl Loading {
         ensures { result ≡ nothing_loaded }
     {
         Loading {
-            begun: Table::new(alloc),
-            done: Table::new(alloc),
+            begun: NameTable::new(alloc),
+            done: NameTable::new(alloc),
             sources: Items::new(alloc),
             bytes: 0,
         }

@@ -2,7 +2,7 @@
 
 ghost use Rattle.std.specs.Prelude.{◌≡◌};
 ghost use Rattle.sx_load.specs.Halting.{halt_of_stop, halt_of_outside};
-ghost use Rattle.sx_load.specs.declared.halt.Halt.TheVariants as halt;
+ghost use Rattle.sx_load.specs.declared.halt.LoadHalt.TheVariants as halt;
 
 use std::alloc::AllocFailed;
 use sx_base::fault::{Fault, Stop};
@@ -11,7 +11,7 @@ use sx_outside::OutsideError;
 
 /// Why loading stops.
 #[derive(Drop)]
-pub enum Halt {
+pub enum LoadHalt {
     /// The first fault.
     Fault(Fault),
     /// A file couldn't be read.
@@ -19,40 +19,40 @@ pub enum Halt {
     Memory,
 }
 
-impl From<Stop> for Halt {
+impl From<Stop> for LoadHalt {
     ghost from_gives = { λ stop h. h ≡ halt_of_stop stop };
 
-    fn from(stop: Stop) -> Halt {
+    fn from(stop: Stop) -> LoadHalt {
         match stop {
-            Stop::Fault(fault) => Halt::Fault(fault),
-            Stop::Memory => Halt::Memory,
+            Stop::Fault(fault) => LoadHalt::Fault(fault),
+            Stop::Memory => LoadHalt::Memory,
         }
     }
 }
 
-impl From<OutsideError> for Halt {
+impl From<OutsideError> for LoadHalt {
     ghost from_gives = { λ error h. h ≡ halt_of_outside error };
 
-    fn from(error: OutsideError) -> Halt {
+    fn from(error: OutsideError) -> LoadHalt {
         match error {
-            OutsideError::Failed => Halt::Read,
-            OutsideError::Memory => Halt::Memory,
+            OutsideError::Failed => LoadHalt::Read,
+            OutsideError::Memory => LoadHalt::Memory,
         }
     }
 }
 
-impl From<Memory> for Halt {
+impl From<Memory> for LoadHalt {
     ghost from_gives = { λ _ h. h ≡ halt.Memory };
 
-    fn from(_error: Memory) -> Halt {
-        Halt::Memory
+    fn from(_error: Memory) -> LoadHalt {
+        LoadHalt::Memory
     }
 }
 
-impl<T: Drop> From<AllocFailed<T>> for Halt {
+impl<T: Drop> From<AllocFailed<T>> for LoadHalt {
     ghost from_gives = { λ _ h. h ≡ halt.Memory };
 
-    fn from(_error: AllocFailed<T>) -> Halt {
-        Halt::Memory
+    fn from(_error: AllocFailed<T>) -> LoadHalt {
+        LoadHalt::Memory
     }
 }

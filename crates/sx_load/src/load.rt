@@ -10,9 +10,9 @@ ghost use Rattle.sx_base.specs.declared.fault.FaultKind.TheVariants as kind;
 ghost use Rattle.sx_load.specs.Gives.{LoadsAfter};
 
 use crate::found::{Found, Loading};
-use crate::halt::Halt;
+use crate::halt::LoadHalt;
 use crate::open::{FILE_LIMIT, add_source, at_start, program_in};
-use crate::search::{Answer, Search, read_at};
+use crate::search::{PathContents, Search, read_at};
 use crate::walk::load_all;
 use std::alloc::Global;
 use sx_base::fault::{FaultKind, Stop};
@@ -28,19 +28,19 @@ fn load_source<F: Files>(
     path: &Symbol,
     held: Items<u8>,
     loading: &mut Loading,
-) -> Result<Found, Halt>
+) -> Result<Found, LoadHalt>
     requires start { loading.old ≡ nothing_loaded }
     requires within { length held ≤ file_limit }
     ensures same { F.told files.new ≡ F.told files.old }
     ensures given { (fs : Paths) → F.told files.old ≡ Some fs → LoadsAfter result loading.new (program_from fs search.now.roots.now path.now (bytes held)) }
     ensures later { F.faults files.old ≤ F.faults files.new }
-    ensures failed { result ≡ Err Halt.Read → Rose (F.faults files.old) (F.faults files.new) }
+    ensures failed { result ≡ Err LoadHalt.Read → Rose (F.faults files.old) (F.faults files.new) }
 {
     let read = program_in(search.alloc, path, held.as_slice());
     add_source(loading, path, held)?;
     match read {
         Ok(opened) => load_all(search, files, opened, loading),
-        Err(stop) => Err(Halt::from(stop)),
+        Err(stop) => Err(LoadHalt::from(stop)),
     }
 }
 
@@ -71,23 +71,23 @@ pub fn load<F: Files>(
     roots: &[Symbol],
     path: &Symbol,
     loading: &mut Loading,
-) -> Result<Found, Halt>
+) -> Result<Found, LoadHalt>
     requires { loading.old ≡ nothing_loaded }
     ensures same { F.told files.new ≡ F.told files.old }
     ensures given { (fs : Paths) → F.told files.old ≡ Some fs → LoadsAfter result loading.new (load fs roots.now path.now) }
     ensures later { F.faults files.old ≤ F.faults files.new }
-    ensures failed { result ≡ Err Halt.Read → Rose (F.faults files.old) (F.faults files.new) }
+    ensures failed { result ≡ Err LoadHalt.Read → Rose (F.faults files.old) (F.faults files.new) }
 {
     match read_at(files, path, FILE_LIMIT) {
-        Ok(Answer::Bytes(held)) => {
+        Ok(PathContents::Bytes(held)) => {
             let search = Search { alloc, roots };
             load_source(&search, files, path, held, loading)
         }
-        Ok(Answer::Longer) => {
+        Ok(PathContents::Longer) => {
             let words = Items::new(alloc);
-            Err(Halt::from(at_start(FaultKind::TooLong, path, words)))
+            Err(LoadHalt::from(at_start(FaultKind::TooLong, path, words)))
         }
-        Ok(Answer::Absent) => Err(Halt::from(not_there(alloc, path))),
-        Err(error) => Err(Halt::from(error)),
+        Ok(PathContents::Absent) => Err(LoadHalt::from(not_there(alloc, path))),
+        Err(error) => Err(LoadHalt::from(error)),
     }
 }

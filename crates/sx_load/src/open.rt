@@ -10,7 +10,7 @@ ghost use Rattle.sx_load.specs.Search.{IsSoughtWithin};
 ghost use Rattle.sx_load.specs.Gives.{LoadsAfter};
 
 use crate::found::{Loading, Opened, Source};
-use crate::halt::Halt;
+use crate::halt::LoadHalt;
 use crate::refer::{about, library_word};
 use crate::search::{Search, Sought, look_for};
 use std::alloc::Global;
@@ -154,16 +154,16 @@ fn opened_at(
     set: &ImportSet,
     path: Symbol,
     held: Items<u8>,
-) -> Result<Opened, Halt>
+) -> Result<Opened, LoadHalt>
     requires { length held < 2 ^ 32 }
     ensures given { LoadsAfter result loading.new (opened_from loading.old set.now (Sought.Bytes path held)) }
-    ensures unread { result ≢ Err Halt.Read }
+    ensures unread { result ≢ Err LoadHalt.Read }
 {
     let read = library_in(alloc, &set.library, &path, held.as_slice());
     add_source(loading, &path, held)?;
     let opened = match read {
         Ok(opened) => opened,
-        Err(stop) => return Err(Halt::from(stop)),
+        Err(stop) => return Err(LoadHalt::from(stop)),
     };
     let file = file_of(alloc, &set.library)?;
     loading.begun.put_first(file, ())?;
@@ -175,16 +175,16 @@ fn opened_from(
     loading: &mut Loading,
     set: &ImportSet,
     sought: Sought,
-) -> Result<Opened, Halt>
+) -> Result<Opened, LoadHalt>
     requires { IsSoughtWithin file_limit sought }
     ensures given { LoadsAfter result loading.new (opened_from loading.old set.now sought) }
-    ensures unread { result ≢ Err Halt.Read }
+    ensures unread { result ≢ Err LoadHalt.Read }
 {
     match sought {
-        Sought::Nowhere => Err(Halt::from(about(alloc, FaultKind::LibraryNotFound, set))),
+        Sought::Nowhere => Err(LoadHalt::from(about(alloc, FaultKind::LibraryNotFound, set))),
         Sought::Longer(path) => {
             let words = Items::new(alloc);
-            Err(Halt::from(at_start(FaultKind::TooLong, &path, words)))
+            Err(LoadHalt::from(at_start(FaultKind::TooLong, &path, words)))
         }
         Sought::Bytes(path, held) => opened_at(alloc, loading, set, path, held),
     }
@@ -197,15 +197,15 @@ pub(crate) fn open_file<F: Files>(
     files: &mut F,
     set: &ImportSet,
     loading: &mut Loading,
-) -> Result<Opened, Halt>
+) -> Result<Opened, LoadHalt>
     ensures same { F.told files.new ≡ F.told files.old }
     ensures given { (fs : Paths) → F.told files.old ≡ Some fs → LoadsAfter result loading.new (open_file fs search.now.roots.now set.now loading.old) }
     ensures later { F.faults files.old ≤ F.faults files.new }
-    ensures failed { result ≡ Err Halt.Read → Rose (F.faults files.old) (F.faults files.new) }
+    ensures failed { result ≡ Err LoadHalt.Read → Rose (F.faults files.old) (F.faults files.new) }
 {
     let alloc = search.alloc;
     if MOST_LIBRARIES <= loading.begun.size() {
-        return Err(Halt::from(too_many(alloc, set)));
+        return Err(LoadHalt::from(too_many(alloc, set)));
     }
     let file = file_of(alloc, &set.library)?;
     let max = most(loading.bytes);

@@ -36,27 +36,27 @@ pub enum Sought {
 
 /// What there is at a path.
 #[derive(Drop)]
-pub enum Answer {
+pub enum PathContents {
     Bytes(Items<u8>),
     Longer,
     Absent,
 }
 
 // Files that tell nothing of content may give more than was asked for: that is too long as well.
-fn capped(answer: FileAnswer, max: usize) -> Answer
+fn capped(answer: FileAnswer, max: usize) -> PathContents
     ensures reading { answer_reading result ≡ capped max (file_reading answer) }
     ensures within { IsWithin max result }
 {
     match answer {
         FileAnswer::Bytes(held) => {
             if held.len() <= max {
-                Answer::Bytes(Items::from_vec(held))
+                PathContents::Bytes(Items::from_vec(held))
             } else {
-                Answer::Longer
+                PathContents::Longer
             }
         }
-        FileAnswer::Longer => Answer::Longer,
-        FileAnswer::Absent => Answer::Absent,
+        FileAnswer::Longer => PathContents::Longer,
+        FileAnswer::Absent => PathContents::Absent,
     }
 }
 
@@ -65,7 +65,7 @@ pub(crate) fn read_at<F: Files>(
     files: &mut F,
     path: &Symbol,
     max: usize,
-) -> Result<Answer, OutsideError>
+) -> Result<PathContents, OutsideError>
     ensures same { F.told files.new ≡ F.told files.old }
     ensures answer { (fs : Paths) → F.told files.old ≡ Some fs → IfOk result (λ answer. answer_reading answer ≡ read_of (at_path fs path.now) max) }
     ensures within { IfOk result (IsWithin max) }
@@ -101,9 +101,9 @@ pub(crate) fn look_for<F: Files>(
     for root in search.roots {
         let path = path_below(search.alloc, root, file)?;
         match read_at(files, &path, max)? {
-            Answer::Bytes(held) => return Ok(Sought::Bytes(path, held)),
-            Answer::Longer => return Ok(Sought::Longer(path)),
-            Answer::Absent => sources.push(absent_at(path))?,
+            PathContents::Bytes(held) => return Ok(Sought::Bytes(path, held)),
+            PathContents::Longer => return Ok(Sought::Longer(path)),
+            PathContents::Absent => sources.push(absent_at(path))?,
         }
     }
     Ok(Sought::Nowhere)

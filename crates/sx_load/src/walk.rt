@@ -10,7 +10,7 @@ ghost use Rattle.sx_load.specs.Stack.{first_of, next_of, known_next, returned, d
 ghost use Rattle.sx_load.specs.Gives.{LoadsAfter, Turns};
 
 use crate::found::{Found, Loading, Open, Opened, next_import};
-use crate::halt::Halt;
+use crate::halt::LoadHalt;
 use crate::open::{MOST_LIBRARIES, open_file, too_many};
 use crate::refer::{Known, about, known_of, with_needs};
 use crate::search::Search;
@@ -74,9 +74,9 @@ fn settled(
     needs: &[bool],
     found: Found,
     loading: &mut Loading,
-) -> Result<Items<bool>, Halt>
+) -> Result<Items<bool>, LoadHalt>
     ensures given { LoadsAfter result loading.new (settled set.now needs.now found loading.old) }
-    ensures unread { result ≢ Err Halt.Read }
+    ensures unread { result ≢ Err LoadHalt.Read }
 {
     let fits = version_fits(found.opened.form.version.as_slice(), &set.version);
     let more = with_needs(alloc, needs, &found)?;
@@ -85,7 +85,7 @@ fn settled(
     if fits {
         Ok(more)
     } else {
-        Err(Halt::from(about(alloc, FaultKind::VersionRefused, set)))
+        Err(LoadHalt::from(about(alloc, FaultKind::VersionRefused, set)))
     }
 }
 
@@ -115,16 +115,16 @@ fn known_next(alloc: Global, at: &Open, loading: &Loading) -> Result<Option<Know
 }
 
 // A file that was opened in another is loaded: the other goes on.
-fn back_in(alloc: Global, outer: Open, found: Found, loading: &mut Loading) -> Result<Open, Halt>
+fn back_in(alloc: Global, outer: Open, found: Found, loading: &mut Loading) -> Result<Open, LoadHalt>
     ensures given { LoadsAfter result loading.new (returned outer found loading.old) }
-    ensures unread { result ≢ Err Halt.Read }
+    ensures unread { result ≢ Err LoadHalt.Read }
 {
     let needs = match next_import(&outer) {
         Some(import) => {
             let needs = outer.needs.as_slice();
             settled(alloc, &import.set, needs, found, loading)?
         }
-        None => return Err(Halt::Memory),
+        None => return Err(LoadHalt::Memory),
     };
     Ok(next_of(outer, needs)?)
 }
@@ -135,10 +135,10 @@ fn close(
     at: Open,
     stack: &mut Vec<Open>,
     loading: &mut Loading,
-) -> Result<Turn, Halt>
+) -> Result<Turn, LoadHalt>
     ensures given { (fs : Paths) (roots : List (List ℕ)) → Turns fs roots result stack.new.items loading.new
         (unwind fs roots (reverse stack.old.items) (found_of at.opened at.needs loading.old, loading.old)) }
-    ensures unread { result ≢ Err Halt.Read }
+    ensures unread { result ≢ Err LoadHalt.Read }
 {
     let found = found_of(at, loading);
     let Some(outer) = stack.pop() else {
@@ -156,18 +156,18 @@ fn descend<F: Files>(
     files: &mut F,
     at: &Open,
     loading: &mut Loading,
-) -> Result<Open, Halt>
+) -> Result<Open, LoadHalt>
     ensures same { F.told files.new ≡ F.told files.old }
     ensures given { (fs : Paths) → F.told files.old ≡ Some fs → LoadsAfter result loading.new (descended fs search.now.roots.now at.now loading.old) }
     ensures later { F.faults files.old ≤ F.faults files.new }
-    ensures failed { result ≡ Err Halt.Read → Rose (F.faults files.old) (F.faults files.new) }
+    ensures failed { result ≡ Err LoadHalt.Read → Rose (F.faults files.old) (F.faults files.new) }
 {
     let alloc = search.alloc;
     let Some(import) = next_import(at) else {
-        return Err(Halt::Memory);
+        return Err(LoadHalt::Memory);
     };
     if at.room == 0 {
-        return Err(Halt::from(too_many(alloc, &import.set)));
+        return Err(LoadHalt::from(too_many(alloc, &import.set)));
     }
     let opened = open_file(search, files, &import.set, loading)?;
     Ok(first_of(alloc, at.room - 1, opened)?)
@@ -180,26 +180,26 @@ fn enter<F: Files>(
     at: Open,
     stack: &mut Vec<Open>,
     loading: &mut Loading,
-) -> Result<Turn, Halt>
+) -> Result<Turn, LoadHalt>
     requires { known_next at loading.old ≡ Ok (Some Known.New) }
     ensures same { F.told files.new ≡ F.told files.old }
     ensures given { (fs : Paths) → F.told files.old ≡ Some fs → Turns fs search.now.roots.now result stack.new.items loading.new (meaning fs search.now.roots.now at (reverse stack.old.items) loading.old) }
     ensures later { F.faults files.old ≤ F.faults files.new }
-    ensures failed { result ≡ Err Halt.Read → Rose (F.faults files.old) (F.faults files.new) }
+    ensures failed { result ≡ Err LoadHalt.Read → Rose (F.faults files.old) (F.faults files.new) }
 {
     match descend(search, files, &at, loading) {
         Ok(inner) => match stack.push(at) {
             Ok(()) => Ok(Turn::On(inner)),
-            Err(_) => Err(Halt::Memory),
+            Err(_) => Err(LoadHalt::Memory),
         },
         Err(halt) => Err(halt),
     }
 }
 
 // The next import of a file needs nothing more.
-fn passed(at: Open) -> Result<Turn, Halt>
+fn passed(at: Open) -> Result<Turn, LoadHalt>
     ensures given { IfOk result (λ t. t ≡ Turn.On (next_of at at.needs (at.next + 1))) }
-    ensures err { OnErr result (result ≡ Err Halt.Memory) }
+    ensures err { OnErr result (result ≡ Err LoadHalt.Memory) }
 {
     let Open {
         opened,
@@ -208,7 +208,7 @@ fn passed(at: Open) -> Result<Turn, Halt>
         needs,
     } = at;
     let Some(next) = next.checked_add(1) else {
-        return Err(Halt::Memory);
+        return Err(LoadHalt::Memory);
     };
     Ok(Turn::On(Open {
         opened,
@@ -219,13 +219,13 @@ fn passed(at: Open) -> Result<Turn, Halt>
 }
 
 // The next import of a file is loaded, and more is needed.
-fn passed_with(at: Open, needs: Items<bool>) -> Result<Turn, Halt>
+fn passed_with(at: Open, needs: Items<bool>) -> Result<Turn, LoadHalt>
     ensures given { IfOk result (λ t. t ≡ Turn.On (next_of at needs (at.next + 1))) }
-    ensures err { OnErr result (result ≡ Err Halt.Memory) }
+    ensures err { OnErr result (result ≡ Err LoadHalt.Memory) }
 {
     match next_of(at, needs) {
         Ok(next) => Ok(Turn::On(next)),
-        Err(_) => Err(Halt::Memory),
+        Err(_) => Err(LoadHalt::Memory),
     }
 }
 
@@ -236,15 +236,15 @@ fn step<F: Files>(
     at: Open,
     stack: &mut Vec<Open>,
     loading: &mut Loading,
-) -> Result<Turn, Halt>
+) -> Result<Turn, LoadHalt>
     ensures same { F.told files.new ≡ F.told files.old }
     ensures given { (fs : Paths) → F.told files.old ≡ Some fs → Turns fs search.now.roots.now result stack.new.items loading.new (meaning fs search.now.roots.now at (reverse stack.old.items) loading.old) }
     ensures later { F.faults files.old ≤ F.faults files.new }
-    ensures failed { result ≡ Err Halt.Read → Rose (F.faults files.old) (F.faults files.new) }
+    ensures failed { result ≡ Err LoadHalt.Read → Rose (F.faults files.old) (F.faults files.new) }
 {
     let alloc = search.alloc;
     match known_next(alloc, &at, loading) {
-        Err(stop) => Err(Halt::from(stop)),
+        Err(stop) => Err(LoadHalt::from(stop)),
         Ok(None) => close(alloc, at, stack, loading),
         Ok(Some(Known::New)) => enter(search, files, at, stack, loading),
         Ok(Some(Known::Builtin)) => passed(at),
@@ -259,11 +259,11 @@ fn walk<F: Files>(
     files: &mut F,
     first: Open,
     loading: &mut Loading,
-) -> Result<Found, Halt>
+) -> Result<Found, LoadHalt>
     ensures same { F.told files.new ≡ F.told files.old }
     ensures given { (fs : Paths) → F.told files.old ≡ Some fs → LoadsAfter result loading.new (meaning fs search.now.roots.now first [] loading.old) }
     ensures later { F.faults files.old ≤ F.faults files.new }
-    ensures failed { result ≡ Err Halt.Read → Rose (F.faults files.old) (F.faults files.new) }
+    ensures failed { result ≡ Err LoadHalt.Read → Rose (F.faults files.old) (F.faults files.new) }
 {
     let mut stack = Vec::new(search.alloc);
     let mut at = first;
@@ -273,7 +273,7 @@ fn walk<F: Files>(
             Turn::Done(found) => return Ok(found),
         }
     }
-    Err(Halt::Memory)
+    Err(LoadHalt::Memory)
 }
 
 /// A file and all that it imports, directly or not, each library after those that it imports itself.
@@ -282,11 +282,11 @@ pub(crate) fn load_all<F: Files>(
     files: &mut F,
     opened: Opened,
     loading: &mut Loading,
-) -> Result<Found, Halt>
+) -> Result<Found, LoadHalt>
     ensures same { F.told files.new ≡ F.told files.old }
     ensures given { (fs : Paths) → F.told files.old ≡ Some fs → LoadsAfter result loading.new (load_file fs search.now.roots.now most_libraries opened loading.old) }
     ensures later { F.faults files.old ≤ F.faults files.new }
-    ensures failed { result ≡ Err Halt.Read → Rose (F.faults files.old) (F.faults files.new) }
+    ensures failed { result ≡ Err LoadHalt.Read → Rose (F.faults files.old) (F.faults files.new) }
 {
     let first = first_of(search.alloc, MOST_LIBRARIES, opened)?;
     walk(search, files, first, loading)

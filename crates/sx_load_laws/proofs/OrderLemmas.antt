@@ -19,7 +19,7 @@ use Rattle.sx_load.specs.declared.found.Loading.{Loading}
 use Rattle.sx_load.specs.declared.refer.Known.{Known}
 use Rattle.sx_load.specs.declared.refer.Known.TheVariants as known
 use Rattle.sx_load_laws.specs.Laws.{Libraries, IsAt, AreLoadedOnce}
-use Rattle.sx_load_laws.specs.Orders.{files_of, IsAmong, IsNotAmong, Follow, no_more, given, again, anew, AreInOrder, IsTheOrder}
+use Rattle.sx_load_laws.specs.Orders.{files_of, IsAmong, IsNotAmong, LoadsFollow, no_more, given, again, anew, AreInOrder, IsTheOrder}
 use Rattle.sx_load_laws.proofs.RowLemmas.{at_first, IsNotIn, row_of, no_row}
 use Rattle.sx_load_laws.proofs.MarkLemmas.{length-no_needs, no_mark}
 use Rattle.sx_load_laws.proofs.Invariant.{Stay, nothing_sound}
@@ -56,7 +56,7 @@ not_among rows file h n at = let r = row_at rows n file at in no_row file rows n
 
 -- ---- where more is loaded
 
-follow_still : (old new : Libraries) → Stay old new → {before after : List (List ℕ)} {is : List Import} → Follow old before is after → Follow new before is after
+follow_still : (old new : Libraries) → Stay old new → {before after : List (List ℕ)} {is : List Import} → LoadsFollow old before is after → LoadsFollow new before is after
 follow_still old new stay no_more = no_more
 follow_still old new stay (given e rest) = given e (follow_still old new stay rest)
 follow_still old new stay (again e a rest) = again e a (follow_still old new stay rest)
@@ -72,7 +72,7 @@ module _ (loaded : Libraries) (once : AreLoadedOnce loaded) where
       let rows : ◌≡◌ {A = List ℕ × Found} (file, b) (file, a) = cc in
       ap (λ (row : List ℕ × Found). row.1) rows
 
-  one_order : {before a b : List (List ℕ)} {is : List Import} → Follow loaded before is a → Follow loaded before is b → a ≡ b
+  one_order : {before a b : List (List ℕ)} {is : List Import} → LoadsFollow loaded before is a → LoadsFollow loaded before is b → a ≡ b
   one_order no_more no_more = refl
   one_order (given e r) (given f s) = one_order r s
   one_order (given e r) (again f m s) = absurd (true≢false (sym e ∙ f))
@@ -84,8 +84,8 @@ module _ (loaded : Libraries) (once : AreLoadedOnce loaded) where
   one_order (anew place library e m at below r) (again f n s) = absurd (m n.0 n.1)
   one_order {before = before} {b = b} (anew {below = first} {i = i} {is = is} place library e m at below r) (anew {below = other} too twin f n there under s) =
       let same : twin ≡ library = one_library place too (file_of i.set.library) library twin at there in
-      let level : first ≡ other = one_order below (subst (λ (x : Found). Follow loaded before x.opened.form.imports other) same under) in
-      one_order r (subst (λ (d : List (List ℕ)). Follow loaded (d ++ file_of i.set.library ∷ []) is b) (sym level) s)
+      let level : first ≡ other = one_order below (subst (λ (x : Found). LoadsFollow loaded before x.opened.form.imports other) same under) in
+      one_order r (subst (λ (d : List (List ℕ)). LoadsFollow loaded (d ++ file_of i.set.library ∷ []) is b) (sym level) s)
 
 -- ---- loading
 
@@ -99,11 +99,11 @@ ends_both P Q E F (Err e) h k = k
 
 -- what is loaded from one state to another is what these imports load
 abbrev Followed : Loading → List Import → Loading → Type 0
-Followed s is t = Follow t.done (files_of s.done) is (files_of t.done)
+Followed s is t = LoadsFollow t.done (files_of s.done) is (files_of t.done)
 
 -- an import was followed: the next ones go on from there
 abbrev Leads : Loading → Import → Loading → Type 0
-Leads s i t = (new : Libraries) (is : List Import) (after : List (List ℕ)) → Stay t.done new → Follow new (files_of t.done) is after → Follow new (files_of s.done) (i ∷ is) after
+Leads s i t = (new : Libraries) (is : List Import) (after : List (List ℕ)) → Stay t.done new → LoadsFollow new (files_of t.done) is after → LoadsFollow new (files_of s.done) (i ∷ is) after
 
 abbrev OrderWell : Loader → Type 0
 OrderWell load = (o : Opened) (s : Loading) → IsSound s → Ends (λ (l : Found × Loading). Followed s o.form.imports l.1) Stops (load o s)
@@ -124,11 +124,11 @@ module _ (s : Loading) (i : Import) (sound : IsSound s) (new : New s i.set) (o :
   leads_anew : Leads s i (with_done u (file_of i.set.library) found)
   leads_anew later is after stay rest =
       let at = stay (length u.done) (file_of i.set.library) found (end_there s i.set sound new o t opening found u loaded) in
-      let own : Follow later (files_of t.done) o.form.imports (files_of u.done) = follow_still u.done later (λ n name a k. stay n name a (stays n name a k)) followed in
-      let from : Follow later (files_of s.done) o.form.imports (files_of u.done) = subst (λ (d : Libraries). Follow later (files_of d) o.form.imports (files_of u.done)) opening.done own in
-      let below : Follow later (files_of s.done) found.opened.form.imports (files_of u.done) = subst (λ (x : Opened). Follow later (files_of s.done) x.form.imports (files_of u.done)) (sym loaded.opened) from in
+      let own : LoadsFollow later (files_of t.done) o.form.imports (files_of u.done) = follow_still u.done later (λ n name a k. stay n name a (stays n name a k)) followed in
+      let from : LoadsFollow later (files_of s.done) o.form.imports (files_of u.done) = subst (λ (d : Libraries). LoadsFollow later (files_of d) o.form.imports (files_of u.done)) opening.done own in
+      let below : LoadsFollow later (files_of s.done) found.opened.form.imports (files_of u.done) = subst (λ (x : Opened). LoadsFollow later (files_of s.done) x.form.imports (files_of u.done)) (sym loaded.opened) from in
       let names : files_of (with_done u (file_of i.set.library) found).done ≡ files_of u.done ++ file_of i.set.library ∷ [] = ap files_of with_it ∙ files_with u.done (file_of i.set.library) found in
-      anew (length u.done) found new.not_given (not_among s.done (file_of i.set.library) new.not_done) at below (subst (λ (d : List (List ℕ)). Follow later d is after) names rest)
+      anew (length u.done) found new.not_given (not_among s.done (file_of i.set.library) new.not_done) at below (subst (λ (d : List (List ℕ)). LoadsFollow later d is after) names rest)
 
   pub settles_order : (needs : List Bool) → Ends (λ (n : List Bool × Loading). Leads s i n.1) Stops (settled i.set needs found u)
   unfolding settled
@@ -210,7 +210,7 @@ module _ (files : Paths) (roots : List (List ℕ)) (path : List ℕ) where
       by (Ok o) =
           ends_ok (λ (l : Found × Loading). IsLoaded o (with_source nothing_loaded path held) l × Followed (with_source nothing_loaded path held) o.form.imports l.1) InOrder Stops
           (load_file files roots most_libraries o (with_source nothing_loaded path held))
-          (λ l h. subst (λ (x : Opened). Follow l.1.done [] x.form.imports (files_of l.1.done)) (sym h.0.opened) h.1)
+          (λ l h. subst (λ (x : Opened). LoadsFollow l.1.done [] x.form.imports (files_of l.1.done)) (sym h.0.opened) h.1)
           (ends_both (IsLoaded o (with_source nothing_loaded path held)) (λ (l : Found × Loading). Followed (with_source nothing_loaded path held) o.form.imports l.1) IsSound Stops
           (load_file files roots most_libraries o (with_source nothing_loaded path held))
           (loads_file files roots most_libraries o (with_source nothing_loaded path held) nothing_sound)

@@ -9,7 +9,7 @@ use Rattle.sx_base.specs.declared.fault.Fault.{Fault}
 use Rattle.sx_base.specs.declared.library.LibName.{LibName}
 use Rattle.sx_forms.specs.All.{given}
 use Rattle.sx_forms.specs.Form.{behind_word, form_of, not_library, or_fault, library_in, program_of, read_library, read_program}
-use Rattle.sx_forms.specs.Set.{place_of}
+use Rattle.sx_forms.specs.Set.{datum_place}
 use Rattle.sx_forms.specs.Words.{is_text, is_word}
 use Rattle.sx_forms.specs.declared.form.LibraryForm.{LibraryForm}
 use Rattle.sx_reader.specs.Read.{data_of, file_nesting}
@@ -62,7 +62,7 @@ not_both path [] f g h k = cc
 not_both path (d ∷ []) f g h k =
     both_forms d
     (or_fault_some (not_library path (d ∷ [])) (form_of (codes "library") d) (library_in path (not_library path (d ∷ []))) f h)
-    (or_fault_some (not_library path (d ∷ [])) (form_of (codes "import") d) (program_of path (place_of path d)) g k)
+    (or_fault_some (not_library path (d ∷ [])) (form_of (codes "import") d) (program_of path (datum_place path d)) g k)
 not_both path (d ∷ e ∷ ds) f g h k = cc
 
 -- ---- the form in a file

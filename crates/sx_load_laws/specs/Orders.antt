@@ -19,18 +19,18 @@ IsNotAmong files file = (n : ℕ) → slice_get files n ≡ Some file → ⊥
 -- The files that are loaded where these are already and these imports are followed, the first one first. A library that the
 -- implementation gives has no file, and one that is loaded isn't loaded again. A new one comes behind all that its own imports load,
 -- and before all that the imports behind it load.
-pub data Follow (loaded : Libraries) : List (List ℕ) → List Import → List (List ℕ) → Type 0 where
-  no_more : {before : List (List ℕ)} → Follow loaded before [] before
-  given : {before after : List (List ℕ)} {i : Import} {is : List Import} → is_some (exports i.set.library) ≡ true → Follow loaded before is after → Follow loaded before (i ∷ is) after
+pub data LoadsFollow (loaded : Libraries) : List (List ℕ) → List Import → List (List ℕ) → Type 0 where
+  no_more : {before : List (List ℕ)} → LoadsFollow loaded before [] before
+  given : {before after : List (List ℕ)} {i : Import} {is : List Import} → is_some (exports i.set.library) ≡ true → LoadsFollow loaded before is after → LoadsFollow loaded before (i ∷ is) after
   again : {before after : List (List ℕ)} {i : Import} {is : List Import} → is_some (exports i.set.library) ≡ false → IsAmong before (file_of i.set.library)
-      → Follow loaded before is after → Follow loaded before (i ∷ is) after
+      → LoadsFollow loaded before is after → LoadsFollow loaded before (i ∷ is) after
   anew : {before below after : List (List ℕ)} {i : Import} {is : List Import} (place : ℕ) (library : Found) → is_some (exports i.set.library) ≡ false
-      → IsNotAmong before (file_of i.set.library) → IsAt loaded place (file_of i.set.library) library → Follow loaded before library.opened.form.imports below
-      → Follow loaded (below ++ file_of i.set.library ∷ []) is after → Follow loaded before (i ∷ is) after
+      → IsNotAmong before (file_of i.set.library) → IsAt loaded place (file_of i.set.library) library → LoadsFollow loaded before library.opened.form.imports below
+      → LoadsFollow loaded (below ++ file_of i.set.library ∷ []) is after → LoadsFollow loaded before (i ∷ is) after
 
 -- all is loaded in this order, and there is no other
 abbrev pub AreInOrder : Libraries → Found → Type 0
-AreInOrder loaded program = Follow loaded [] program.opened.form.imports (files_of loaded)
+AreInOrder loaded program = LoadsFollow loaded [] program.opened.form.imports (files_of loaded)
 
 abbrev pub IsTheOrder : Libraries → Found → Type 0
-IsTheOrder loaded program = (files : List (List ℕ)) → Follow loaded [] program.opened.form.imports files → files ≡ files_of loaded
+IsTheOrder loaded program = (files : List (List ℕ)) → LoadsFollow loaded [] program.opened.form.imports files → files ≡ files_of loaded

@@ -3,7 +3,7 @@ use Rattle.std.proofs.Common.{◌≡◌, ℕ, zero, suc, Bool, true, false, List
 use Rattle.sx_base.specs.Datum.{PlainDatum}
 use Rattle.sx_base.specs.Gives.{◌>>=◌}
 use Rattle.sx_base.specs.declared.fault.Fault.{Fault}
-use Rattle.sx_core.specs.declared.record.LibRecord.{LibRecord}
+use Rattle.sx_core.specs.declared.record.CompiledLibrary.{CompiledLibrary}
 use Rattle.sx_forms.specs.Form.{library_body}
 use Rattle.sx_import.specs.Turns.{turns}
 use Rattle.sx_library.specs.Library.{expand_library}
@@ -14,40 +14,40 @@ use Rattle.sx_load.specs.declared.found.Found.{Found}
 use Rattle.sx_load_laws.specs.Laws.{Libraries}
 use Rattle.sx_standing.specs.Start.{or_skip, records_at}
 use Rattle.std.specs.Prelude.{slice_get}
-use Rattle.sx_local_laws.specs.Behind.{Base, expand_behind, behind_next, records_behind, AreThoseOfRuns}
+use Rattle.sx_local_laws.specs.Behind.{RunBase, expand_behind, behind_next, records_behind, AreThoseOfRuns}
 
 -- places one further on, with one record more before
-one_on : (d : LibRecord) (rs : List LibRecord) (k : ℕ) (ms : List Bool) → records_at (d ∷ rs) (places_from (suc k) ms) ≡ records_at rs (places_from k ms)
+one_on : (d : CompiledLibrary) (rs : List CompiledLibrary) (k : ℕ) (ms : List Bool) → records_at (d ∷ rs) (places_from (suc k) ms) ≡ records_at rs (places_from k ms)
 unfolding places_from
 one_on d rs k [] = refl
 one_on d rs k (true ∷ ms) = ap (or_skip (slice_get rs k)) (one_on d rs (suc k) ms)
 one_on d rs k (false ∷ ms) = one_on d rs (suc k) ms
 
-pub with_first : (d : LibRecord) (rs : List LibRecord) (ms : List Bool) → needed_records (d ∷ rs) (true ∷ ms) ≡ d ∷ records_at rs (places_from zero ms)
+pub with_first : (d : CompiledLibrary) (rs : List CompiledLibrary) (ms : List Bool) → needed_records (d ∷ rs) (true ∷ ms) ≡ d ∷ records_at rs (places_from zero ms)
 unfolding places_from
-with_first d rs ms = ap (λ (ys : List LibRecord). d ∷ ys) (one_on d rs zero ms)
+with_first d rs ms = ap (λ (ys : List CompiledLibrary). d ∷ ys) (one_on d rs zero ms)
 
-module _ (base : Base) where
-  each_same : (others : List LibRecord) (f : Found) (body : List PlainDatum) → expand_found base.prelude (base.derived ∷ others) f body ≡ expand_behind base others f body
-  each_same others f body = ap (λ (rs : List LibRecord). expand_library base.prelude rs f.opened.path f.opened.form body) (with_first base.derived others f.needs)
+module _ (base : RunBase) where
+  each_same : (others : List CompiledLibrary) (f : Found) (body : List PlainDatum) → expand_found base.prelude (base.derived ∷ others) f body ≡ expand_behind base others f body
+  each_same others f body = ap (λ (rs : List CompiledLibrary). expand_library base.prelude rs f.opened.path f.opened.form body) (with_first base.derived others f.needs)
 
-  step_same : (others : List LibRecord) (row : List ℕ × Found) → expand_next base.prelude (base.derived ∷ others) row ≡ (behind_next base others row >>= (λ rs. Ok (base.derived ∷ rs)))
+  step_same : (others : List CompiledLibrary) (row : List ℕ × Found) → expand_next base.prelude (base.derived ∷ others) row ≡ (behind_next base others row >>= (λ rs. Ok (base.derived ∷ rs)))
   step_same others row =
       ap (λ x. x >>= (λ r. Ok (base.derived ∷ (others ++ r ∷ [])))) (each_same others row.1 (library_body row.1.opened.«data»))
       ∙ by (expand_behind base others row.1 (library_body row.1.opened.«data»))
     where
-      by : (x : Result LibRecord Fault) → (x >>= (λ r. Ok (base.derived ∷ (others ++ r ∷ [])))) ≡ ((x >>= (λ r. Ok (others ++ r ∷ []))) >>= (λ rs. Ok (base.derived ∷ rs)))
+      by : (x : Result CompiledLibrary Fault) → (x >>= (λ r. Ok (base.derived ∷ (others ++ r ∷ [])))) ≡ ((x >>= (λ r. Ok (others ++ r ∷ []))) >>= (λ rs. Ok (base.derived ∷ rs)))
       by (Ok r) = refl
       by (Err f) = refl
 
-  turns_same : (rows : Libraries) (others : List LibRecord) → turns (expand_next base.prelude) (base.derived ∷ others) rows ≡ (turns (behind_next base) others rows >>= (λ rs. Ok (base.derived ∷ rs)))
+  turns_same : (rows : Libraries) (others : List CompiledLibrary) → turns (expand_next base.prelude) (base.derived ∷ others) rows ≡ (turns (behind_next base) others rows >>= (λ rs. Ok (base.derived ∷ rs)))
   turns_same [] others = refl
   turns_same (row ∷ rows) others =
       ap (λ x. x >>= (λ more. turns (expand_next base.prelude) more rows)) (step_same others row)
       ∙ by (behind_next base others row) (λ more. turns_same rows more)
     where
-      by : (x : Result (List LibRecord) Fault)
-          → ((more : List LibRecord) → turns (expand_next base.prelude) (base.derived ∷ more) rows ≡ (turns (behind_next base) more rows >>= (λ rs. Ok (base.derived ∷ rs))))
+      by : (x : Result (List CompiledLibrary) Fault)
+          → ((more : List CompiledLibrary) → turns (expand_next base.prelude) (base.derived ∷ more) rows ≡ (turns (behind_next base) more rows >>= (λ rs. Ok (base.derived ∷ rs))))
           → ((x >>= (λ rs. Ok (base.derived ∷ rs))) >>= (λ more. turns (expand_next base.prelude) more rows)) ≡ ((x >>= (λ more. turns (behind_next base) more rows)) >>= (λ rs. Ok (base.derived ∷ rs)))
       by (Ok more) rest = rest more
       by (Err f) rest = refl

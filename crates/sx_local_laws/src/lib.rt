@@ -20,30 +20,30 @@ ghost use Rattle.sx_outside.specs.Contents.{Paths};
 ghost use Rattle.sx_load.specs.Load.{load};
 ghost use Rattle.sx_load.specs.declared.found.Found.{Found};
 ghost use Rattle.sx_load.specs.declared.found.Loading.{Loading};
-ghost use Rattle.sx_local_laws.specs.Behind.{Base, AreThoseOfRuns};
+ghost use Rattle.sx_local_laws.specs.Behind.{RunBase, AreThoseOfRuns};
 ghost use Rattle.sx_local_laws.specs.Local.{group_of, ReuseIsRight};
-ghost use Rattle.sx_local_laws.specs.Reuse.{Cache, ReadsBack, ReuseChangesNothing};
+ghost use Rattle.sx_local_laws.specs.Reuse.{CacheModel, ReadsBack, ReuseChangesNothing};
 
 /// The records of libraries behind the derived one are those that a run makes.
 pub fn records_are_those_of_runs()
-    ensures { (base : Base) → AreThoseOfRuns base }
+    ensures { (base : RunBase) → AreThoseOfRuns base }
 {}
 
 /// A library's sources and those of all that it needs give its record, whatever else is loaded.
 pub fn reuse_is_right()
-    ensures loaded { (base : Base) (files : Paths) (roots : List (List ℕ)) (path : List ℕ) (program : Found) (s : Loading)
+    ensures loaded { (base : RunBase) (files : Paths) (roots : List (List ℕ)) (path : List ℕ) (program : Found) (s : Loading)
         → load files roots path ≡ Ok (program, s) → ReuseIsRight base (group_of files roots) roots s.done }
-    ensures stopped { (base : Base) (files : Paths) (roots : List (List ℕ)) (path : List ℕ) (s : Loading) (f : Fault)
+    ensures stopped { (base : RunBase) (files : Paths) (roots : List (List ℕ)) (path : List ℕ) (s : Loading) (f : Fault)
         → load files roots path ≡ Err (s, f) → ReuseIsRight base (group_of files roots) roots s.done }
 {}
 
 /// Over an honest store the records of a run, or its first fault, are those of expansion, whatever is reused, and the
 /// store that is left is honest.
 pub fn reuse_changes_nothing()
-    ensures loaded { (base : Base) (cache : Cache) (files : Paths) (roots : List (List ℕ)) (path : List ℕ) (program : Found) (s : Loading)
+    ensures loaded { (base : RunBase) (cache : CacheModel) (files : Paths) (roots : List (List ℕ)) (path : List ℕ) (program : Found) (s : Loading)
         → load files roots path ≡ Ok (program, s) → ReadsBack base cache roots (group_of files roots) s.done
         → ReuseChangesNothing base cache roots (group_of files roots) s.done }
-    ensures stopped { (base : Base) (cache : Cache) (files : Paths) (roots : List (List ℕ)) (path : List ℕ) (s : Loading) (f : Fault)
+    ensures stopped { (base : RunBase) (cache : CacheModel) (files : Paths) (roots : List (List ℕ)) (path : List ℕ) (s : Loading) (f : Fault)
         → load files roots path ≡ Err (s, f) → ReadsBack base cache roots (group_of files roots) s.done
         → ReuseChangesNothing base cache roots (group_of files roots) s.done }
 {}

@@ -7,14 +7,14 @@ use Rattle.sx_lexer.specs.declared.token.Bracket.{Bracket}
 use Rattle.sx_lexer.specs.declared.token.Abbreviation.{Abbreviation}
 use Rattle.sx_machine.specs.declared.extent.Extent.{Extent}
 use Rattle.sx_machine.specs.declared.extent.Misplaced.{Misplaced}
-use Rattle.sx_machine.specs.declared.partial.Tail.{Tail}
-use Rattle.sx_machine.specs.declared.partial.Tail.TheVariants as tail
-use Rattle.sx_machine.specs.declared.partial.Parts.{Parts}
-use Rattle.sx_machine.specs.declared.partial.Parts.TheVariants as parts
+use Rattle.sx_machine.specs.declared.partial.OpenTail.{OpenTail}
+use Rattle.sx_machine.specs.declared.partial.OpenTail.TheVariants as tail
+use Rattle.sx_machine.specs.declared.partial.OpenParts.{OpenParts}
+use Rattle.sx_machine.specs.declared.partial.OpenParts.TheVariants as parts
 use Rattle.sx_machine.specs.declared.partial.Partial.{Partial}
 
 -- by what is open
-abbrev pub on_parts : {A : Type 0} → Parts → (Bracket → List PlainDatum → Tail → A) → (List PlainDatum → A) → (List ℕ → A) → (Abbreviation → A) → A → A
+abbrev pub on_parts : {A : Type 0} → OpenParts → (Bracket → List PlainDatum → OpenTail → A) → (List PlainDatum → A) → (List ℕ → A) → (Abbreviation → A) → A → A
 on_parts (parts.List b ds t) list vector bytes abbreviation skipped = list b ds t
 on_parts (parts.Vector ds) list vector bytes abbreviation skipped = vector ds
 on_parts (parts.Bytes ns) list vector bytes abbreviation skipped = bytes ns
@@ -29,12 +29,12 @@ room_in nesting (f ∷ fs) = f.room
 abbrev pub wrong : FaultKind → Extent → Option Misplaced
 wrong kind at = Some (record { kind = kind; at = at })
 
-abbrev pub misplaced_by : Tail → Option Misplaced
+abbrev pub misplaced_by : OpenTail → Option Misplaced
 misplaced_by tail.Absent = None
 misplaced_by (tail.Dotted dot) = None
 misplaced_by (tail.Given dot e) = wrong fault.BadDot dot
 
-abbrev pub misplaced_in : Parts → Extent → Option Misplaced
+abbrev pub misplaced_in : OpenParts → Extent → Option Misplaced
 misplaced_in p at = on_parts p (λ b ds tail. misplaced_by tail) (λ ds. None) (λ ns. wrong fault.BadNumber at) (λ k. None) None
 
 -- what is wrong where a form other than a comment begins here: in a bytevector stands no form, and behind a dot stands one

@@ -14,7 +14,7 @@ use sx_lexer::token::{Abbreviation, Bracket};
 
 /// What stands behind the elements of an open list: nothing, a dot, or a dot and the tail.
 #[derive(Drop)]
-pub enum Tail {
+pub enum OpenTail {
     Absent,
     Dotted(Extent),
     Given(Extent, Datum),
@@ -22,8 +22,8 @@ pub enum Tail {
 
 /// An open form's kind, and its parts so far.
 #[derive(Drop)]
-pub enum Parts {
-    List(Bracket, Items<Datum>, Tail),
+pub enum OpenParts {
+    List(Bracket, Items<Datum>, OpenTail),
     Vector(Items<Datum>),
     /// The elements of a bytevector.
     Bytes(Items<u8>),
@@ -37,16 +37,16 @@ pub enum Parts {
 pub struct Partial {
     pub opening: Extent,
     pub room: u32,
-    pub parts: Parts,
+    pub parts: OpenParts,
 }
 
 /// What is open, seen as a list with the innermost first.
 #[derive(Drop)]
-pub struct Stack {
+pub struct OpenForms {
     forms: Vec<Partial>,
 }
 
-impl Model for Stack {
+impl Model for OpenForms {
     ghost use Rattle.std.specs.Prelude.{List, reverse};
     ghost use Rattle.std.specs.Coded.{coded_list};
     ghost use Rattle.sx_machine.specs.declared.partial.Partial.{Partial};
@@ -59,13 +59,13 @@ impl Model for Stack {
     ghost view = { λ s. reverse s.forms.items };
 }
 
-impl Stack {
+impl OpenForms {
     /// Nothing open. It takes no memory.
-    pub fn new(alloc: Global) -> Stack
+    pub fn new(alloc: Global) -> OpenForms
         ensures { result ≡ [] }
     {
         let forms = Vec::new(alloc);
-        Stack { forms }
+        OpenForms { forms }
     }
 
     pub fn push(&mut self, form: Partial) -> Result<(), Memory>
@@ -82,7 +82,7 @@ impl Stack {
     }
 }
 
-impl Stack {
+impl OpenForms {
     ghost use Rattle.sx_machine.specs.Partial.{IsFirst, room_in, misplaced};
 
     fn innermost(&self) -> Option<&Partial>
@@ -113,15 +113,15 @@ impl Stack {
     }
 }
 
-fn misplaced_in(parts: &Parts, at: Extent) -> Option<Misplaced>
+fn misplaced_in(parts: &OpenParts, at: Extent) -> Option<Misplaced>
     ensures { result ≡ misplaced_in parts.now at }
 {
     match parts {
-        Parts::List(_, _, Tail::Given(dot, _)) => Some(Misplaced {
+        OpenParts::List(_, _, OpenTail::Given(dot, _)) => Some(Misplaced {
             kind: FaultKind::BadDot,
             at: *dot,
         }),
-        Parts::Bytes(_) => Some(Misplaced {
+        OpenParts::Bytes(_) => Some(Misplaced {
             kind: FaultKind::BadNumber,
             at,
         }),
@@ -131,18 +131,18 @@ fn misplaced_in(parts: &Parts, at: Extent) -> Option<Misplaced>
 
 /// What the tokens so far have come to: what is open, and the data that stand in no other.
 #[derive(Drop)]
-pub struct State {
-    pub stack: Stack,
+pub struct ReaderState {
+    pub stack: OpenForms,
     pub done: Items<Datum>,
 }
 
-impl State {
+impl ReaderState {
     /// Before the first token. It takes no memory.
-    pub fn new(alloc: Global) -> State
+    pub fn new(alloc: Global) -> ReaderState
         ensures { result ≡ record { stack = []; done = [] } }
     {
-        let stack = Stack::new(alloc);
+        let stack = OpenForms::new(alloc);
         let done = Items::new(alloc);
-        State { stack, done }
+        ReaderState { stack, done }
     }
 }

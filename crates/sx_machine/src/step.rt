@@ -9,7 +9,7 @@ ghost use Rattle.sx_machine.specs.Step.{list_with, bytes_with, deliver, tail_of,
 use crate::context::SourceContext;
 use crate::extent::{Extent, fault_at, span_at};
 use crate::form::{abbreviated, byte_of, bytevector, constant, exact, joined, named, nil, vector};
-use crate::partial::{Partial, Parts, State, Tail};
+use crate::partial::{Partial, OpenParts, ReaderState, OpenTail};
 use sx_base::datum::Datum;
 use sx_base::fault::{FaultKind, Stop};
 use sx_base::items::Items;
@@ -18,7 +18,7 @@ use sx_lexer::token::{Bracket, Lexeme, Token};
 
 /// The state after one more token. A fault is at the token, but
 /// where a dot isn't before the last datum of its list it is at that dot.
-pub fn step(context: &SourceContext, mut state: State, lexeme: Lexeme) -> Result<State, Stop>
+pub fn step(context: &SourceContext, mut state: ReaderState, lexeme: Lexeme) -> Result<ReaderState, Stop>
     ensures { Gives (λ s. s) result (step context.now.file.now context.now.nesting state lexeme) }
 {
     match stepped(context, &mut state, lexeme) {
@@ -28,24 +28,24 @@ pub fn step(context: &SourceContext, mut state: State, lexeme: Lexeme) -> Result
 }
 
 // The same in place. What owned the state would drop it wherever it stops.
-fn stepped(context: &SourceContext, state: &mut State, lexeme: Lexeme) -> Result<(), Stop>
+fn stepped(context: &SourceContext, state: &mut ReaderState, lexeme: Lexeme) -> Result<(), Stop>
     ensures { Gives (λ _. state.new) result (step context.now.file.now context.now.nesting state.old lexeme) }
 {
     let Lexeme { token, from, to } = lexeme;
     let at = Extent { from, to };
     match token {
         Token::Open(bracket) => {
-            let parts = Parts::List(bracket, Items::new(context.alloc), Tail::Absent);
+            let parts = OpenParts::List(bracket, Items::new(context.alloc), OpenTail::Absent);
             opened(context, state, parts, at)
         }
         Token::Close(bracket) => closed(context, state, bracket, at),
         Token::OpenVector => {
-            let parts = Parts::Vector(Items::new(context.alloc));
+            let parts = OpenParts::Vector(Items::new(context.alloc));
             opened(context, state, parts, at)
         }
         Token::OpenBytes => opened_bytes(context, state, at),
-        Token::Abbreviation(kind) => { opened(context, state, Parts::Abbreviation(kind), at) }
-        Token::SkipDatum => nested(context, state, Parts::Skipped, at),
+        Token::Abbreviation(kind) => { opened(context, state, OpenParts::Abbreviation(kind), at) }
+        Token::SkipDatum => nested(context, state, OpenParts::Skipped, at),
         Token::Dot => dotted(context, state, at),
         Token::Atom(value) => {
             let datum = constant(context.file, value, at)?;
@@ -59,7 +59,7 @@ fn stepped(context: &SourceContext, state: &mut State, lexeme: Lexeme) -> Result
 }
 
 /// The data, where the source ends. Where a form is open it is a fault at the innermost opening.
-pub fn finish(context: &SourceContext, mut state: State) -> Result<Vec<Datum>, Stop>
+pub fn finish(context: &SourceContext, mut state: ReaderState) -> Result<Vec<Datum>, Stop>
     ensures { Gives (λ v. v.items) result (finish context.now.file.now state.stack state.done) }
 {
     match state.stack.pop() {
@@ -69,7 +69,7 @@ pub fn finish(context: &SourceContext, mut state: State) -> Result<Vec<Datum>, S
 }
 
 /// A form other than a comment is opened that counts.
-fn opened(context: &SourceContext, state: &mut State, parts: Parts, at: Extent) -> Result<(), Stop>
+fn opened(context: &SourceContext, state: &mut ReaderState, parts: OpenParts, at: Extent) -> Result<(), Stop>
     ensures { Gives (λ _. state.new) result (opened context.now.file.now context.now.nesting state.old parts at) }
 {
     if let Some(wrong) = state.stack.misplaced(at) {
@@ -79,7 +79,7 @@ fn opened(context: &SourceContext, state: &mut State, parts: Parts, at: Extent) 
 }
 
 /// A form is opened that counts one of nesting.
-fn nested(context: &SourceContext, state: &mut State, parts: Parts, at: Extent) -> Result<(), Stop>
+fn nested(context: &SourceContext, state: &mut ReaderState, parts: OpenParts, at: Extent) -> Result<(), Stop>
     ensures { Gives (λ _. state.new) result (nested context.now.file.now context.now.nesting state.old parts at) }
 {
     let room = state.stack.room(context.nesting);
@@ -97,7 +97,7 @@ fn nested(context: &SourceContext, state: &mut State, parts: Parts, at: Extent) 
 }
 
 /// A bytevector is opened. It doesn't count as nesting, since no form stands in it.
-fn opened_bytes(context: &SourceContext, state: &mut State, at: Extent) -> Result<(), Stop>
+fn opened_bytes(context: &SourceContext, state: &mut ReaderState, at: Extent) -> Result<(), Stop>
     ensures { Gives (λ _. state.new) result (opened_bytes context.now.file.now context.now.nesting state.old at) }
 {
     if let Some(wrong) = state.stack.misplaced(at) {
@@ -105,7 +105,7 @@ fn opened_bytes(context: &SourceContext, state: &mut State, at: Extent) -> Resul
     }
     let room = state.stack.room(context.nesting);
     let opening = at;
-    let parts = Parts::Bytes(Items::new(context.alloc));
+    let parts = OpenParts::Bytes(Items::new(context.alloc));
     state.stack.push(Partial {
         opening,
         room,
@@ -117,7 +117,7 @@ fn opened_bytes(context: &SourceContext, state: &mut State, at: Extent) -> Resul
 /// A datum is complete: it goes into what is open, and may complete abbreviations there.
 fn deliver(
     context: &SourceContext,
-    state: &mut State,
+    state: &mut ReaderState,
     mut datum: Datum,
     mut at: Extent,
 ) -> Result<(), Stop>
@@ -134,7 +134,7 @@ fn deliver(
             parts,
         } = form;
         match parts {
-            Parts::List(bracket, items, tail) => {
+            OpenParts::List(bracket, items, tail) => {
                 let parts = list_with(context, bracket, items, tail, datum)?;
                 state.stack.push(Partial {
                     opening,
@@ -143,9 +143,9 @@ fn deliver(
                 })?;
                 return Ok(());
             }
-            Parts::Vector(mut items) => {
+            OpenParts::Vector(mut items) => {
                 items.push(datum)?;
-                let parts = Parts::Vector(items);
+                let parts = OpenParts::Vector(items);
                 state.stack.push(Partial {
                     opening,
                     room,
@@ -153,7 +153,7 @@ fn deliver(
                 })?;
                 return Ok(());
             }
-            Parts::Bytes(bytes) => {
+            OpenParts::Bytes(bytes) => {
                 let byte = byte_of(&datum);
                 drop(datum);
                 let parts = bytes_with(context, bytes, byte, at)?;
@@ -164,12 +164,12 @@ fn deliver(
                 })?;
                 return Ok(());
             }
-            Parts::Abbreviation(kind) => {
+            OpenParts::Abbreviation(kind) => {
                 let all = through(opening, at);
                 datum = abbreviated(context, kind, opening, datum, all)?;
                 at = all;
             }
-            Parts::Skipped => return Ok(()),
+            OpenParts::Skipped => return Ok(()),
         }
     }
 }
@@ -198,18 +198,18 @@ fn list_with(
     context: &SourceContext,
     bracket: Bracket,
     mut items: Items<Datum>,
-    tail: Tail,
+    tail: OpenTail,
     datum: Datum,
-) -> Result<Parts, Stop>
+) -> Result<OpenParts, Stop>
     ensures { Gives (λ p. p) result (list_with context.now.file.now bracket items tail datum) }
 {
     match tail {
-        Tail::Absent => {
+        OpenTail::Absent => {
             items.push(datum)?;
-            Ok(Parts::List(bracket, items, Tail::Absent))
+            Ok(OpenParts::List(bracket, items, OpenTail::Absent))
         }
-        Tail::Dotted(dot) => Ok(Parts::List(bracket, items, Tail::Given(dot, datum))),
-        Tail::Given(dot, _) => Err(stop_at(context, FaultKind::BadDot, dot)),
+        OpenTail::Dotted(dot) => Ok(OpenParts::List(bracket, items, OpenTail::Given(dot, datum))),
+        OpenTail::Given(dot, _) => Err(stop_at(context, FaultKind::BadDot, dot)),
     }
 }
 
@@ -219,13 +219,13 @@ fn bytes_with(
     mut bytes: Items<u8>,
     byte: Option<u8>,
     at: Extent,
-) -> Result<Parts, Stop>
+) -> Result<OpenParts, Stop>
     ensures { Gives (λ p. p) result (bytes_with context.now.file.now bytes byte at) }
 {
     match byte {
         Some(byte) => {
             bytes.push(byte)?;
-            Ok(Parts::Bytes(bytes))
+            Ok(OpenParts::Bytes(bytes))
         }
         None => Err(stop_at(context, FaultKind::BadNumber, at)),
     }
@@ -233,7 +233,7 @@ fn bytes_with(
 
 fn closed(
     context: &SourceContext,
-    state: &mut State,
+    state: &mut ReaderState,
     bracket: Bracket,
     at: Extent,
 ) -> Result<(), Stop>
@@ -250,7 +250,7 @@ fn closed(
 /// The datum that a close ends. The close stands at `at`, the datum at `all`.
 fn ended(
     context: &SourceContext,
-    parts: Parts,
+    parts: OpenParts,
     bracket: Bracket,
     at: Extent,
     all: Extent,
@@ -258,7 +258,7 @@ fn ended(
     ensures { Gives (λ d. d) result (ended context.now.file.now parts bracket at all) }
 {
     match parts {
-        Parts::List(opened_by, items, tail) => {
+        OpenParts::List(opened_by, items, tail) => {
             let tail = tail_of(context, tail)?;
             if bracket == opened_by {
                 Ok(list_ended(context, items, tail, all)?)
@@ -266,22 +266,22 @@ fn ended(
                 Err(stop_at(context, FaultKind::StrayClose, at))
             }
         }
-        Parts::Vector(items) => {
+        OpenParts::Vector(items) => {
             if bracket == Bracket::Round {
                 Ok(vector(context.file, items, all)?)
             } else {
                 Err(stop_at(context, FaultKind::StrayClose, at))
             }
         }
-        Parts::Bytes(bytes) => {
+        OpenParts::Bytes(bytes) => {
             if bracket == Bracket::Round {
                 Ok(bytevector(context.file, bytes, all)?)
             } else {
                 Err(stop_at(context, FaultKind::StrayClose, at))
             }
         }
-        Parts::Abbreviation(_) => Err(stop_at(context, FaultKind::StrayClose, at)),
-        Parts::Skipped => Err(stop_at(context, FaultKind::StrayClose, at)),
+        OpenParts::Abbreviation(_) => Err(stop_at(context, FaultKind::StrayClose, at)),
+        OpenParts::Skipped => Err(stop_at(context, FaultKind::StrayClose, at)),
     }
 }
 
@@ -299,17 +299,17 @@ fn list_ended(
 }
 
 /// The tail of a list that ends here.
-fn tail_of(context: &SourceContext, tail: Tail) -> Result<Datum, Stop>
+fn tail_of(context: &SourceContext, tail: OpenTail) -> Result<Datum, Stop>
     ensures { Gives (λ d. d) result (tail_of context.now.file.now tail) }
 {
     match tail {
-        Tail::Absent => Ok(nil()),
-        Tail::Dotted(dot) => Err(stop_at(context, FaultKind::BadDot, dot)),
-        Tail::Given(_, datum) => Ok(datum),
+        OpenTail::Absent => Ok(nil()),
+        OpenTail::Dotted(dot) => Err(stop_at(context, FaultKind::BadDot, dot)),
+        OpenTail::Given(_, datum) => Ok(datum),
     }
 }
 
-fn dotted(context: &SourceContext, state: &mut State, at: Extent) -> Result<(), Stop>
+fn dotted(context: &SourceContext, state: &mut ReaderState, at: Extent) -> Result<(), Stop>
     ensures { Gives (λ _. state.new) result (dotted context.now.file.now state.old.stack state.old.done at) }
 {
     let Some(form) = state.stack.pop() else {
@@ -321,9 +321,9 @@ fn dotted(context: &SourceContext, state: &mut State, at: Extent) -> Result<(), 
         parts,
     } = form;
     match parts {
-        Parts::List(bracket, items, tail) => {
+        OpenParts::List(bracket, items, tail) => {
             let tail = dot_in(context, &items, tail, at)?;
-            let parts = Parts::List(bracket, items, tail);
+            let parts = OpenParts::List(bracket, items, tail);
             state.stack.push(Partial {
                 opening,
                 room,
@@ -339,19 +339,19 @@ fn dotted(context: &SourceContext, state: &mut State, at: Extent) -> Result<(), 
 fn dot_in(
     context: &SourceContext,
     items: &Items<Datum>,
-    tail: Tail,
+    tail: OpenTail,
     at: Extent,
-) -> Result<Tail, Stop>
+) -> Result<OpenTail, Stop>
     ensures { Gives (λ t. t) result (dot_in context.now.file.now items.now tail at) }
 {
     match tail {
-        Tail::Absent => {
+        OpenTail::Absent => {
             if items.as_slice().is_empty() {
                 return Err(stop_at(context, FaultKind::BadDot, at));
             }
-            Ok(Tail::Dotted(at))
+            Ok(OpenTail::Dotted(at))
         }
-        Tail::Dotted(dot) => Err(stop_at(context, FaultKind::BadDot, dot)),
-        Tail::Given(dot, _) => Err(stop_at(context, FaultKind::BadDot, dot)),
+        OpenTail::Dotted(dot) => Err(stop_at(context, FaultKind::BadDot, dot)),
+        OpenTail::Given(dot, _) => Err(stop_at(context, FaultKind::BadDot, dot)),
     }
 }

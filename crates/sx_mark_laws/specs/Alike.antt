@@ -17,7 +17,7 @@ use Rattle.sx_core.specs.Template.{PlainTemplate}
 use Rattle.sx_value.specs.declared.cell.Cell.{Cell}
 use Rattle.sx_value.specs.declared.value.Value.{Value}
 use Rattle.sx_pattern.specs.Matched.{matched}
-use Rattle.sx_pattern.specs.declared.columns.Found.{Found}
+use Rattle.sx_pattern.specs.declared.columns.PatternBinds.{PatternBinds}
 use Rattle.sx_template.specs.Binds.{Binds, Absent}
 use Rattle.sx_template.specs.Instance.{instance}
 use Rattle.sx_match_laws.specs.Renaming.{renamed_value, renamed_cell, renamed_pattern, renamed_found}
@@ -48,7 +48,7 @@ pub record LeavesAlike (r : Mark → Mark) : Type 0 where
 
 -- What a pattern takes of a value.
 abbrev pub MatchesAlike : (Mark → Mark) → Type 0
-MatchesAlike r = (fs : Scope) (cells : List Cell) (p : PlainPattern) (v : Value) (s : Found) →
+MatchesAlike r = (fs : Scope) (cells : List Cell) (p : PlainPattern) (v : Value) (s : PatternBinds) →
     matched (renamed_scope r fs) (map (renamed_cell r) cells) (renamed_pattern r p) (renamed_value r v) (renamed_found r s)
     ≡ option_map (renamed_found r) (matched fs cells p v s)
 

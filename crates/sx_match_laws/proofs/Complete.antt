@@ -6,32 +6,32 @@ use Rattle.sx_base.specs.declared.atom.Atom.{Atom}
 use Rattle.sx_frames.specs.Scope.{Scope}
 use Rattle.sx_core.specs.Pattern.{PlainPattern, PlainPatterns}
 use Rattle.sx_value.specs.Bind.{one}
-use Rattle.sx_value.specs.Cells.{FitsIn, Whole}
+use Rattle.sx_value.specs.Cells.{FitsIn, WholeCells}
 use Rattle.sx_value.specs.declared.cell.Cell.{Cell}
 use Rattle.sx_value.specs.declared.value.Value.{Value}
 use Rattle.sx_pattern.specs.Values.{atom_of, is_atom, is_alike}
 use Rattle.sx_pattern.specs.Columns.{empty_columns, grown, closed}
 use Rattle.sx_pattern.specs.Matched.{matched, all_matched, repeated, nothing, kept, count, limit, one_more as more_limit}
 use Rattle.sx_pattern.specs.declared.columns.Column.{Column}
-use Rattle.sx_pattern.specs.declared.columns.Found.{Found}
+use Rattle.sx_pattern.specs.declared.columns.PatternBinds.{PatternBinds}
 use Rattle.sx_match_laws.specs.Matches.{Bindings, stacked, Matches, takes_any, takes_variable, takes_literal, takes_atom, takes_list, takes_vector, Fills, no_more, one_more, all_but, Repeats, no_rows as no_row, one_row}
 use Rattle.sx_match_laws.proofs.Fronts.{Fit, IsLong, taken_by, begun_fit, elements_fit, fit_then}
 use Rattle.sx_match_laws.proofs.Atoms.{same_atom_cases}
 
-abbrev pub with : Found → Bindings → ℕ → Found
+abbrev pub with : PatternBinds → Bindings → ℕ → PatternBinds
 with s bs n = record { binds = s.binds ++ bs; taken = s.taken + n }
 
 append_none : {A : Type 0} (xs : List A) → xs ++ [] ≡ xs
 append_none [] = refl
 append_none (x ∷ xs) = ap (λ ys. x ∷ ys) (append_none xs)
 
-pub with_none : (s : Found) → with s [] 0 ≡ s
+pub with_none : (s : PatternBinds) → with s [] 0 ≡ s
 with_none s = λ i. record { binds = append_none s.binds i; taken = (let e : s.taken + 0 ≡ s.taken = omega arith in e) i }
 
-pub with_with : (s : Found) (bs cs : Bindings) (m n : ℕ) → with (with s bs m) cs n ≡ with s (bs ++ cs) (m + n)
+pub with_with : (s : PatternBinds) (bs cs : Bindings) (m n : ℕ) → with (with s bs m) cs n ≡ with s (bs ++ cs) (m + n)
 with_with s bs cs m n = λ i. record { binds = append_assoc s.binds bs cs i; taken = add_assoc s.taken m n i }
 
-kept_true : (b : Bool) (s : Found) → b ≡ true → kept b s ≡ Some s
+kept_true : (b : Bool) (s : PatternBinds) → b ≡ true → kept b s ≡ Some s
 kept_true true s e = refl
 kept_true false s e = absurd (cc)
 
@@ -48,9 +48,9 @@ filled_long (one_more {ps = ps} {x = x} {xs = xs} m f) = go (limit ps) (filled_l
     go (Some n) h = ap suc h
 filled_long (all_but r h f) = tt
 
-module _ (fs : Scope) (cells : List Cell) (w : Whole cells) where
+module _ (fs : Scope) (cells : List Cell) (w : WholeCells cells) where
   mutual
-    pub matched_is : {p : PlainPattern} {v : Value} {bs : Bindings} {n : ℕ} (s : Found) → FitsIn cells v → Matches fs cells p v bs n → matched fs cells p v s ≡ Some (with s bs n)
+    pub matched_is : {p : PlainPattern} {v : Value} {bs : Bindings} {n : ℕ} (s : PatternBinds) → FitsIn cells v → Matches fs cells p v bs n → matched fs cells p v s ≡ Some (with s bs n)
     matched_is s h takes_any = ap Some (sym (with_none s))
     matched_is s h (takes_variable {l = l} {v = v}) = ap (λ k. Some (record { binds = s.binds ++ (l, one v) ∷ []; taken = k })) (let e : s.taken ≡ s.taken + 0 = omega arith in e)
     matched_is s h (takes_literal {t = t} {v = v} e) = kept_true (is_alike fs t v) s e ∙ ap Some (sym (with_none s))
@@ -61,7 +61,7 @@ module _ (fs : Scope) (cells : List Cell) (w : Whole cells) where
         rw (taken, filled_is s fit.0 f, matched_is (with s bs m) fit.1 last, with_with s bs cs m n) refl
     matched_is s h (takes_vector {v = v} {xs = xs} e f) = rw e (filled_is s (elements_fit cells w v xs e) f)
 
-    pub filled_is : {ps : PlainPatterns} {xs : List Value} {bs : Bindings} {n : ℕ} (s : Found) → Fit cells xs → Fills fs cells ps xs bs n → all_matched fs cells ps xs s ≡ Some (with s bs n)
+    pub filled_is : {ps : PlainPatterns} {xs : List Value} {bs : Bindings} {n : ℕ} (s : PatternBinds) → Fit cells xs → Fills fs cells ps xs bs n → all_matched fs cells ps xs s ≡ Some (with s bs n)
     filled_is s h no_more = ap Some (sym (with_none s))
     filled_is s h (one_more {bs = bs} {cs = cs} {m = m} {n = n} r f) = rw (matched_is s h.0 r, filled_is (with s bs m) h.1 f, with_with s bs cs m n) refl
     filled_is s h (all_but {p = p} {ps = ps} {xs = xs} {ys = ys} {rows = rows} {cs = cs} {m = m} {n = n} r long f) =
@@ -90,4 +90,4 @@ module _ (fs : Scope) (cells : List Cell) (w : Whole cells) where
   single {bs = bs} {cs = cs} {m = m} {n = n} h x y =
       let e = sym (matched_is (nothing 0) h x) ∙ matched_is (nothing 0) h y in
       let f : with (nothing 0) bs m ≡ with (nothing 0) cs n = cc in
-      (ap (λ (t : Found). t.binds) f, (let g : 0 + m ≡ 0 + n = ap (λ (t : Found). t.taken) f in omega arith))
+      (ap (λ (t : PatternBinds). t.binds) f, (let g : 0 + m ≡ 0 + n = ap (λ (t : PatternBinds). t.taken) f in omega arith))

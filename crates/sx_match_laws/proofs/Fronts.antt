@@ -5,7 +5,7 @@ use Rattle.std.proofs.lemmas.Option.{slice_get_within}
 use Rattle.std.proofs.lemmas.Bool.{ltb-true, ltb-false}
 use Rattle.sx_region.specs.declared.region.Place.{Place}
 use Rattle.sx_tree.specs.Tree.{Tree, atom, leaf, pair, vector}
-use Rattle.sx_value.specs.Cells.{pair_in, pair_at, vector_in, is_found, FitsIn, IsBelow, Lies, Each, Whole}
+use Rattle.sx_value.specs.Cells.{pair_in, pair_at, vector_in, is_found, FitsIn, IsBelow, Lies, Each, WholeCells}
 use Rattle.sx_value.specs.declared.cell.Cell.{Cell}
 use Rattle.sx_value.specs.declared.cell.Cell.TheVariants as cell
 use Rattle.sx_value.specs.declared.value.Value.{Value}
@@ -77,7 +77,7 @@ stored_is cells (value.Closure c p) x d e = e
 stored_is cells (value.Prim o) x d e = e
 stored_is cells (value.Transformer p) x d e = e
 
-module _ (cells : List Cell) (w : Whole cells) where
+module _ (cells : List Cell) (w : WholeCells cells) where
   pair_lies : (p : Place) (x d : Value) → pair_at cells p.0 ≡ Some (x, d) → Lies cells p.0 x × Lies cells p.0 d
   pair_lies p x d e = go (slice_get cells p.0) refl e
     where
@@ -169,7 +169,7 @@ module _ (cells : List Cell) (limit : Option ℕ) where
     within = λ i. t.within (subst (IsWithin limit) (let k : length done + 1 ≡ length (done ++ x ∷ []) = omega (arith, length-append done (x ∷ [])) in k) (room_within limit (length done) room));
   }
 
-  module _ (w : Whole cells) where
+  module _ (w : WholeCells cells) where
     abbrev More : ℕ → Type 0
     More n = (done : List Value) (v : Value) → PairBelow n v → Took cells limit (stored_pair cells) done v (store_front cells n limit done v)
 
@@ -237,7 +237,7 @@ module _ (cells : List Cell) (limit : Option ℕ) where
       go (value.Prim o) e = same (value.Prim o) e refl
       go (value.Transformer p) e = same (value.Transformer p) e refl
 
-  pub front_took : Whole cells → (v : Value) → FitsIn cells v → Took cells limit (pair_of cells) [] v (front cells limit v)
+  pub front_took : WholeCells cells → (v : Value) → FitsIn cells v → Took cells limit (pair_of cells) [] v (front cells limit v)
   front_took w v h = took_further [] v (store_front cells (length cells) limit [] v) (store_took cells limit w (length cells) [] v (fits_below cells v h))
 
 -- A list has its elements in one way.
@@ -267,7 +267,7 @@ module _ (cells : List Cell) where
       omega (arith, no_longer a k (subst (λ u. Begins cells ys s u) (sym p.1) b))
 
 -- What is taken is what a list begins with.
-module _ (cells : List Cell) (w : Whole cells) where
+module _ (cells : List Cell) (w : WholeCells cells) where
   -- all elements
   pub all_taken : {xs : List Value} {r v : Value} → FitsIn cells v → Begins cells xs r v → pair_of cells r ≡ None → front cells None v ≡ fronted xs r
   all_taken {xs = xs} {r = r} {v = v} h b e =

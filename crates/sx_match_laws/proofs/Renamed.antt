@@ -28,7 +28,7 @@ use Rattle.sx_pattern.specs.Matched.{matched, all_matched, repeated, no_rows, wi
 use Rattle.sx_pattern.specs.declared.front.Front.{Front}
 use Rattle.sx_pattern.specs.declared.columns.Column.{Column}
 use Rattle.sx_pattern.specs.declared.columns.Rows.{Rows}
-use Rattle.sx_pattern.specs.declared.columns.Found.{Found}
+use Rattle.sx_pattern.specs.declared.columns.PatternBinds.{PatternBinds}
 use Rattle.sx_match_laws.specs.Renaming.{renamed_value, renamed_bind, renamed_binds, renamed_row, renamed_cell, renamed_pattern, renamed_patterns, renamed_found}
 
 module _ (r : Mark → Mark) where
@@ -241,32 +241,32 @@ module _ (r : Mark → Mark) where
   limit-renamed (dots p ps) = refl
 
   -- Matching.
-  abbrev found : Option Found → Option Found
+  abbrev found : Option PatternBinds → Option PatternBinds
   found o = option_map (renamed_found r) o
 
-  kept-renamed : (b : Bool) (s : Found) → kept b (renamed_found r s) ≡ found (kept b s)
+  kept-renamed : (b : Bool) (s : PatternBinds) → kept b (renamed_found r s) ≡ found (kept b s)
   kept-renamed true s = refl
   kept-renamed false s = refl
 
-  bound-renamed : (l : Label) (v : Value) (s : Found) → bound l (renamed_value r v) (renamed_found r s) ≡ renamed_found r (bound l v s)
+  bound-renamed : (l : Label) (v : Value) (s : PatternBinds) → bound l (renamed_value r v) (renamed_found r s) ≡ renamed_found r (bound l v s)
   bound-renamed l v s = λ i. record { binds = sym (map-append (renamed_row r) s.binds ((l, one v) ∷ [])) i; taken = s.taken }
 
-  with_rows-renamed : (s : Found) (x : Rows) → with_rows (renamed_found r s) (rows_of x) ≡ renamed_found r (with_rows s x)
+  with_rows-renamed : (s : PatternBinds) (x : Rows) → with_rows (renamed_found r s) (rows_of x) ≡ renamed_found r (with_rows s x)
   with_rows-renamed s x = λ i. record { binds = ((ap (λ ys. map (renamed_row r) s.binds ++ ys) (closed-renamed x.columns)) ∙ sym (map-append (renamed_row r) s.binds (closed x.columns))) i; taken = x.taken }
 
   -- one after another
-  then-renamed : {A : Type 0} (h : A → A) (x : Option A) (k l : A → Option Found) → ((a : A) → l (h a) ≡ found (k a)) → and_then (option_map h x) l ≡ found (and_then x k)
+  then-renamed : {A : Type 0} (h : A → A) (x : Option A) (k l : A → Option PatternBinds) → ((a : A) → l (h a) ≡ found (k a)) → and_then (option_map h x) l ≡ found (and_then x k)
   then-renamed h None k l same = refl
   then-renamed h (Some a) k l same = same a
 
-  repeated-renamed : (go to : Value → Found → Option Found) → ((v : Value) (s : Found) → to (renamed_value r v) (renamed_found r s) ≡ found (go v s)) → (x : Rows) (xs : List Value)
+  repeated-renamed : (go to : Value → PatternBinds → Option PatternBinds) → ((v : Value) (s : PatternBinds) → to (renamed_value r v) (renamed_found r s) ≡ found (go v s)) → (x : Rows) (xs : List Value)
       → repeated to (rows_of x) (values xs) ≡ option_map rows_of (repeated go x xs)
   repeated-renamed go to same x [] = refl
   repeated-renamed go to same x (v ∷ vs) =
       ap (λ o. and_then o (λ row. repeated to (record { columns = grown [] (map column x.columns) row.binds; taken = row.taken }) (values vs))) (same v (nothing (x.taken + 1)))
       ∙ on (λ y. repeated-renamed go to same y vs) (go v (nothing (x.taken + 1)))
     where
-      on : ((y : Rows) → repeated to (rows_of y) (values vs) ≡ option_map rows_of (repeated go y vs)) → (o : Option Found)
+      on : ((y : Rows) → repeated to (rows_of y) (values vs) ≡ option_map rows_of (repeated go y vs)) → (o : Option PatternBinds)
           → and_then (found o) (λ row. repeated to (record { columns = grown [] (map column x.columns) row.binds; taken = row.taken }) (values vs))
           ≡ option_map rows_of (and_then o (λ row. repeated go (record { columns = grown [] x.columns row.binds; taken = row.taken }) vs))
       on ih None = refl
@@ -274,7 +274,7 @@ module _ (r : Mark → Mark) where
           ap (λ cols. repeated to (record { columns = cols; taken = row.taken }) (values vs)) (grown-renamed [] x.columns row.binds)
           ∙ ih (record { columns = grown [] x.columns row.binds; taken = row.taken })
 
-  at_end-renamed : (xs : List Value) (s : Found) → at_end (values xs) (renamed_found r s) ≡ found (at_end xs s)
+  at_end-renamed : (xs : List Value) (s : PatternBinds) → at_end (values xs) (renamed_found r s) ≡ found (at_end xs s)
   at_end-renamed [] s = refl
   at_end-renamed (x ∷ xs) s = refl
 
@@ -304,10 +304,10 @@ module _ (r : Mark → Mark) where
     is_alike-renamed t (value.Transformer p) = refl
 
     abbrev Same : PlainPattern → Type 0
-    Same p = (v : Value) (s : Found) → matched fs' cells' (renamed_pattern r p) (renamed_value r v) (renamed_found r s) ≡ found (matched fs cells p v s)
+    Same p = (v : Value) (s : PatternBinds) → matched fs' cells' (renamed_pattern r p) (renamed_value r v) (renamed_found r s) ≡ found (matched fs cells p v s)
 
     abbrev AllSame : PlainPatterns → Type 0
-    AllSame ps = (xs : List Value) (s : Found) → all_matched fs' cells' (renamed_patterns r ps) (values xs) (renamed_found r s) ≡ found (all_matched fs cells ps xs s)
+    AllSame ps = (xs : List Value) (s : PatternBinds) → all_matched fs' cells' (renamed_patterns r ps) (values xs) (renamed_found r s) ≡ found (all_matched fs cells ps xs s)
 
     list_same : (ps : PlainPatterns) (t : PlainPattern) → AllSame ps → Same t → Same (list ps t)
     list_same ps t all last v s =
@@ -330,14 +330,14 @@ module _ (r : Mark → Mark) where
         ap (λ o. and_then o (all_matched fs' cells' (renamed_patterns r ps) (values xs))) (here x s)
         ∙ then-renamed (renamed_found r) (matched fs cells p x s) (all_matched fs cells ps xs) (all_matched fs' cells' (renamed_patterns r ps) (values xs)) (all xs)
 
-    abbrev rest_by : PlainPatterns → List Value → Found → ℕ → Rows → Option Found
+    abbrev rest_by : PlainPatterns → List Value → PatternBinds → ℕ → Rows → Option PatternBinds
     rest_by ps xs s n x = all_matched fs' cells' (renamed_patterns r ps) (drop n (values xs)) (with_rows (renamed_found r s) x)
 
-    abbrev dots_by : PlainPattern → PlainPatterns → List Value → Found → ℕ → ℕ → Option Found
+    abbrev dots_by : PlainPattern → PlainPatterns → List Value → PatternBinds → ℕ → ℕ → Option PatternBinds
     dots_by p ps xs s k n =
         if nat_le k n then and_then (repeated (matched fs' cells' (renamed_pattern r p)) (no_rows (renamed_pattern r p) s.taken) (take (n - k) (values xs))) (rest_by ps xs s (n - k)) else None
 
-    rest_same : (ps : PlainPatterns) → AllSame ps → (xs : List Value) (s : Found) (n : ℕ) (x : Rows) → rest_by ps xs s n (rows_of x) ≡ found (all_matched fs cells ps (drop n xs) (with_rows s x))
+    rest_same : (ps : PlainPatterns) → AllSame ps → (xs : List Value) (s : PatternBinds) (n : ℕ) (x : Rows) → rest_by ps xs s n (rows_of x) ≡ found (all_matched fs cells ps (drop n xs) (with_rows s x))
     rest_same ps all xs s n x =
         ap (λ ys. all_matched fs' cells' (renamed_patterns r ps) ys (with_rows (renamed_found r s) (rows_of x))) (drop-map (renamed_value r) n xs)
         ∙ ap (all_matched fs' cells' (renamed_patterns r ps) (values (drop n xs))) (with_rows-renamed s x) ∙ all (drop n xs) (with_rows s x)
@@ -345,7 +345,7 @@ module _ (r : Mark → Mark) where
     none_same : (p : PlainPattern) (taken : ℕ) → no_rows (renamed_pattern r p) taken ≡ rows_of (no_rows p taken)
     none_same p taken = ap (λ cols. record { columns = cols; taken = taken }) (empty-renamed p [])
 
-    dots_true : (p : PlainPattern) (ps : PlainPatterns) → Same p → AllSame ps → (xs : List Value) (s : Found) (n : ℕ)
+    dots_true : (p : PlainPattern) (ps : PlainPatterns) → Same p → AllSame ps → (xs : List Value) (s : PatternBinds) (n : ℕ)
         → and_then (repeated (matched fs' cells' (renamed_pattern r p)) (no_rows (renamed_pattern r p) s.taken) (take n (values xs))) (rest_by ps xs s n)
         ≡ found (and_then (repeated (matched fs cells p) (no_rows p s.taken) (take n xs)) (λ rows. all_matched fs cells ps (drop n xs) (with_rows s rows)))
     dots_true p ps here all xs s n =

@@ -8,7 +8,7 @@ use Rattle.sx_frames.specs.Scope.{Scope}
 use Rattle.sx_core.specs.Pattern.{PlainPattern, any, variable, literal, list, PlainPatterns, none, more, dots}
 use Rattle.sx_core.specs.Pattern as pattern
 use Rattle.sx_value.specs.Bind.{one}
-use Rattle.sx_value.specs.Cells.{FitsIn, Whole}
+use Rattle.sx_value.specs.Cells.{FitsIn, WholeCells}
 use Rattle.sx_value.specs.declared.cell.Cell.{Cell}
 use Rattle.sx_value.specs.declared.value.Value.{Value}
 use Rattle.sx_pattern.specs.Values.{atom_of, is_atom, is_alike, vector_of}
@@ -17,7 +17,7 @@ use Rattle.sx_pattern.specs.Columns.{empty_columns, grown, closed}
 use Rattle.sx_pattern.specs.Matched.{matched, all_matched, repeated, no_rows, with_rows, nothing, and_then, on_elements, count, limit}
 use Rattle.sx_pattern.specs.declared.columns.Column.{Column}
 use Rattle.sx_pattern.specs.declared.columns.Rows.{Rows}
-use Rattle.sx_pattern.specs.declared.columns.Found.{Found}
+use Rattle.sx_pattern.specs.declared.columns.PatternBinds.{PatternBinds}
 use Rattle.sx_match_laws.specs.Matches.{Bindings, pair_of, Begins, IsLast, stacked, Matches, takes_any, takes_variable, takes_literal, takes_atom, takes_list, takes_vector, Fills, no_more, one_more, all_but, Repeats, no_rows as no_row, one_row, IsRight}
 use Rattle.sx_match_laws.proofs.Fronts.{Took, Fit, front_took, begun_fit, elements_fit, fit_then}
 use Rattle.sx_match_laws.proofs.Complete.{with, with_none, with_with, matched_is}
@@ -30,7 +30,7 @@ and_then_some : {A B : Type 0} (x : Option A) (k : A → Option B) (y : B) → a
 and_then_some None k y e = absurd (let f : ⊥ = cc in f)
 and_then_some (Some x) k y e = (x, (refl, e))
 
-on_elements_some : (x : Option (List Value)) (k : List Value → Option Found) (y : Found) → on_elements x k ≡ Some y → (z : List Value) × ((x ≡ Some z) × (k z ≡ Some y))
+on_elements_some : (x : Option (List Value)) (k : List Value → Option PatternBinds) (y : PatternBinds) → on_elements x k ≡ Some y → (z : List Value) × ((x ≡ Some z) × (k z ≡ Some y))
 on_elements_some None k y e = absurd (let f : ⊥ = cc in f)
 on_elements_some (Some x) k y e = (x, (refl, e))
 
@@ -47,14 +47,14 @@ last_taken : (cells : List Cell) (o : Option ℕ) (v : Value) → Took cells o (
 last_taken cells None v t = t.ends refl
 last_taken cells (Some n) v t = tt
 
-abbrev Sounds : Scope → List Cell → PlainPattern → Value → Found → Found → Type 0
+abbrev Sounds : Scope → List Cell → PlainPattern → Value → PatternBinds → PatternBinds → Type 0
 Sounds fs cells p v s t = (bs : Bindings) × ((n : ℕ) × (Matches fs cells p v bs n × (t ≡ with s bs n)))
 
-abbrev AllSound : Scope → List Cell → PlainPatterns → List Value → Found → Found → Type 0
+abbrev AllSound : Scope → List Cell → PlainPatterns → List Value → PatternBinds → PatternBinds → Type 0
 AllSound fs cells ps xs s t = (bs : Bindings) × ((n : ℕ) × (Fills fs cells ps xs bs n × (t ≡ with s bs n)))
 
 module _ (fs : Scope) (cells : List Cell) where
-  repeated_sound : (p : PlainPattern) → ((v : Value) (s t : Found) → FitsIn cells v → matched fs cells p v s ≡ Some t → Sounds fs cells p v s t)
+  repeated_sound : (p : PlainPattern) → ((v : Value) (s t : PatternBinds) → FitsIn cells v → matched fs cells p v s ≡ Some t → Sounds fs cells p v s t)
       → (cols : List Column) (k : ℕ) (xs : List Value) (r : Rows) → Fit cells xs → repeated (matched fs cells p) (record { columns = cols; taken = k }) xs ≡ Some r
       → (rows : List Bindings) × ((n : ℕ) × (Repeats fs cells p xs rows n × (r ≡ record { columns = stacked cols rows; taken = k + n })))
   repeated_sound p ih cols k [] r h e =
@@ -68,15 +68,15 @@ module _ (fs : Scope) (cells : List Cell) where
           suc (m.1.0 + rest.1.0),
           (
             one_row m.1.1.0 rest.1.1.0,
-            rest.1.1.1 ∙ ap (λ (t : Found). record { columns = stacked (grown [] cols t.binds) rest.0; taken = t.taken + rest.1.0 }) m.1.1.1
+            rest.1.1.1 ∙ ap (λ (t : PatternBinds). record { columns = stacked (grown [] cols t.binds) rest.0; taken = t.taken + rest.1.0 }) m.1.1.1
                 ∙ ap (λ j. record { columns = stacked (grown [] cols m.0) rest.0; taken = j }) (let f : k + 1 + m.1.0 + rest.1.0 ≡ k + suc (m.1.0 + rest.1.0) = omega arith in f),
           ),
         ),
       )
 
-  module _ (w : Whole cells) where
+  module _ (w : WholeCells cells) where
     mutual
-      pub sound : (p : PlainPattern) (v : Value) (s t : Found) → FitsIn cells v → matched fs cells p v s ≡ Some t → Sounds fs cells p v s t
+      pub sound : (p : PlainPattern) (v : Value) (s t : PatternBinds) → FitsIn cells v → matched fs cells p v s ≡ Some t → Sounds fs cells p v s t
       sound any v s t h e = ([], (0, (takes_any, sym (some_inj s t e) ∙ sym (with_none s))))
       sound (variable l) v s t h e = ((l, one v) ∷ [], (0, (takes_variable, sym (some_inj _ t e) ∙ ap (λ k. record { binds = s.binds ++ (l, one v) ∷ []; taken = k }) (let f : s.taken ≡ s.taken + 0 = omega arith in f))))
       sound (literal u) v s t h e = let a = if_some (is_alike fs u v) (Some s) t e in ([], (0, (takes_literal a.0, sym (some_inj s t a.1) ∙ sym (with_none s))))
@@ -97,7 +97,7 @@ module _ (fs : Scope) (cells : List Cell) where
           let b = all_sound ps a.0 s t (elements_fit cells w v a.0 a.1.0) a.1.1 in
           (b.0, (b.1.0, (takes_vector a.1.0 b.1.1.0, b.1.1.1)))
 
-      pub all_sound : (ps : PlainPatterns) (xs : List Value) (s t : Found) → Fit cells xs → all_matched fs cells ps xs s ≡ Some t → AllSound fs cells ps xs s t
+      pub all_sound : (ps : PlainPatterns) (xs : List Value) (s t : PatternBinds) → Fit cells xs → all_matched fs cells ps xs s ≡ Some t → AllSound fs cells ps xs s t
       all_sound none [] s t h e = ([], (0, (no_more, sym (some_inj s t e) ∙ sym (with_none s))))
       all_sound none (x ∷ xs) s t h e = absurd (let f : ⊥ = cc in f)
       all_sound (more p ps) [] s t h e = absurd (let f : ⊥ = cc in f)
@@ -131,6 +131,6 @@ module _ (fs : Scope) (cells : List Cell) where
     pub rightly : (p : PlainPattern) (v : Value) → FitsIn cells v → IsRight fs cells p v (matched fs cells p v (nothing 0))
     rightly p v h = go (matched fs cells p v (nothing 0)) refl
       where
-        go : (o : Option Found) → matched fs cells p v (nothing 0) ≡ o → IsRight fs cells p v o
+        go : (o : Option PatternBinds) → matched fs cells p v (nothing 0) ≡ o → IsRight fs cells p v o
         go None e = λ bs n m. let f = sym e ∙ matched_is fs cells w (nothing 0) h m in let g : ⊥ = cc in g
-        go (Some t) e = let a = sound p v (nothing 0) t h e in subst (λ (u : Found). Matches fs cells p v u.binds u.taken) (sym (start_with a.0 a.1.0) ∙ sym a.1.1.1) a.1.1.0
+        go (Some t) e = let a = sound p v (nothing 0) t h e in subst (λ (u : PatternBinds). Matches fs cells p v u.binds u.taken) (sym (start_with a.0 a.1.0) ∙ sym a.1.1.1) a.1.1.0

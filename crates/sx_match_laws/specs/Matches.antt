@@ -14,7 +14,7 @@ use Rattle.sx_pattern.specs.Values.{atom_of, is_alike, stored_pair, vector_of}
 use Rattle.sx_pattern.specs.Columns.{empty_columns, grown, closed}
 use Rattle.sx_pattern.specs.Matched.{count, limit}
 use Rattle.sx_pattern.specs.declared.columns.Column.{Column}
-use Rattle.sx_pattern.specs.declared.columns.Found.{Found}
+use Rattle.sx_pattern.specs.declared.columns.PatternBinds.{PatternBinds}
 
 abbrev pub Bindings : Type 0
 Bindings = List (Label × PlainBind)
@@ -72,6 +72,6 @@ mutual
         → Matches fs cells p x row m → Repeats fs cells p xs rows n → Repeats fs cells p (x ∷ xs) (row ∷ rows) (suc (m + n))
 
 -- the binds are those of the relation, and without any there are none
-abbrev pub IsRight : Scope → List Cell → PlainPattern → Value → Option Found → Type 0
+abbrev pub IsRight : Scope → List Cell → PlainPattern → Value → Option PatternBinds → Type 0
 IsRight fs cells p v (Some f) = Matches fs cells p v f.binds f.taken
 IsRight fs cells p v None = (bs : Bindings) (n : ℕ) → Matches fs cells p v bs n → ⊥

@@ -10,7 +10,7 @@ use Rattle.sx_value.specs.declared.cell.Cell.{Cell}
 use Rattle.sx_value.specs.declared.cell.Cell.TheVariants as cell
 use Rattle.sx_value.specs.declared.value.Value.{Value}
 use Rattle.sx_value.specs.declared.value.Value.TheVariants as value
-use Rattle.sx_pattern.specs.declared.columns.Found.{Found}
+use Rattle.sx_pattern.specs.declared.columns.PatternBinds.{PatternBinds}
 
 abbrev pub renamed_value : (Mark → Mark) → Value → Value
 renamed_value r (value.Syn t) = value.Syn (renamed r t)
@@ -53,5 +53,5 @@ abbrev mutual
   renamed_patterns r (more p ps) = more (renamed_pattern r p) (renamed_patterns r ps)
   renamed_patterns r (dots p ps) = dots (renamed_pattern r p) (renamed_patterns r ps)
 
-abbrev pub renamed_found : (Mark → Mark) → Found → Found
+abbrev pub renamed_found : (Mark → Mark) → PatternBinds → PatternBinds
 renamed_found r f = record { binds = map (renamed_row r) f.binds; taken = f.taken }

@@ -17,8 +17,8 @@ use Rattle.sx_names.specs.Generated.{name_part, library_text}
 use Rattle.sx_names.proofs.Decimal.{number_reads}
 use Rattle.sx_round.specs.Readable.{IsName}
 use Rattle.sx_round.proofs.Round.{read_back}
-use Rattle.sx_name_laws.specs.Variable.{Variable, IsVariable, name_of}
-use Rattle.sx_name_laws.specs.Apart.{IsReadAs, NamesAreReadAsThemselves, NamesStayApart}
+use Rattle.sx_name_laws.specs.Variable.{NamedVariable, IsVariable, name_of}
+use Rattle.sx_name_laws.specs.Apart.{IsReadAsSymbol, NamesAreReadAsThemselves, NamesStayApart}
 use Rattle.sx_name_laws.proofs.Words.{all_append, all_weaker}
 use Rattle.sx_name_laws.proofs.Telling.{is_path, is_word, part_word, library_path, name_is, names_tell}
 
@@ -62,7 +62,7 @@ symbol_is bs h =
     let plain : chars (0x25 ∷ bs) ≡ 0x25 ∷ bs = chars-IsAscii (0x25 ∷ bs) (ascii (0x25 ∷ bs) h) in
     ap name_text plain ∙ ap (λ (w : List ℕ). w ++ subsequents_text bs) first_itself ∙ ap (λ (w : List ℕ). 0x25 ∷ w) (all_themselves bs h)
 
-rest_subsequent : (v : Variable) → IsVariable v → list_all is_subsequent (library_text v.library ++ (0x2F ∷ (name_part v.symbol ++ (0x2F ∷ number_text v.number)))) ≡ true
+rest_subsequent : (v : NamedVariable) → IsVariable v → list_all is_subsequent (library_text v.library ++ (0x2F ∷ (name_part v.symbol ++ (0x2F ∷ number_text v.number)))) ≡ true
 rest_subsequent v h =
     let path = all_weaker is_path is_subsequent path_subsequent (library_text v.library) (library_path v.library h.0) in
     let word = all_weaker is_word is_subsequent word_subsequent (name_part v.symbol) (part_word v.symbol h.1) in
@@ -79,7 +79,7 @@ unspanned_symbol (atom s a) x e = absurd (cc)
 unspanned_symbol (pair s a b) x e = absurd (cc)
 unspanned_symbol (vector s a) x e = absurd (cc)
 
-pub read_itself : (file : List ℕ) (nesting : ℕ) (bs : List ℕ) → list_all is_subsequent bs ≡ true → IsReadAs file nesting (0x25 ∷ bs) (0x25 ∷ bs)
+pub read_itself : (file : List ℕ) (nesting : ℕ) (bs : List ℕ) → list_all is_subsequent bs ≡ true → IsReadAsSymbol file nesting (0x25 ∷ bs) (0x25 ∷ bs)
 read_itself file nesting bs h =
     let name : IsName (0x25 ∷ bs) = (IsUtf8-from_ascii (0x25 ∷ bs) (ascii (0x25 ∷ bs) h), omega arith) in
     let r = read_back file nesting (symbol None (0x25 ∷ bs)) name in

@@ -6,7 +6,7 @@ use Rattle.sx_base.specs.declared.library.LibName.TheVariants as library
 use Rattle.sx_names.specs.Generated.{generated_name}
 
 -- a variable, with its number among those of its library
-pub record Variable : Type 0 where
+pub record NamedVariable : Type 0 where
   pub library : LibName
   pub symbol : List ℕ
   pub number : ℕ
@@ -23,8 +23,8 @@ IsNamed library.Prelude = ⊥
 IsNamed library.Program = Unit {0}
 IsNamed (library.User parts) = (0 < length parts) × All IsPart parts
 
-abbrev pub IsVariable : Variable → Type 0
+abbrev pub IsVariable : NamedVariable → Type 0
 IsVariable v = IsNamed v.library × IsUtf8 v.symbol
 
-abbrev pub name_of : Variable → List ℕ
+abbrev pub name_of : NamedVariable → List ℕ
 name_of v = generated_name v.library v.symbol v.number

@@ -12,7 +12,7 @@ use Rattle.sx_core.specs.Core.{PlainCore, two_armed, assignment, letrec, call, i
 use Rattle.sx_core.specs.CoreView.{inits, clauses}
 use Rattle.sx_core.specs.declared.code.Init.{Init}
 use Rattle.sx_core.specs.declared.code.Lambda.{Lambda}
-use Rattle.sx_core.specs.declared.record.LibRecord.{LibRecord}
+use Rattle.sx_core.specs.declared.record.CompiledLibrary.{CompiledLibrary}
 use Rattle.sx_core_laws.specs.Words.{Each}
 use Rattle.sx_shapes.specs.At.{place_of}
 use Rattle.sx_shapes.specs.declared.shape.BindingSpec.{BindingSpec}
@@ -36,18 +36,18 @@ use Rattle.sx_expand.specs.Expression.{in_order, case_in, lambda_case, lambda, o
 use Rattle.sx_expand.specs.Inside.{Inside}
 use Rattle.sx_expand.specs.Keywords.{with_keywords, define_syntax}
 use Rattle.sx_expand.specs.Quasi.{quasi_form}
-use Rattle.sx_expand.specs.Settle.{settle, settle_item}
-use Rattle.sx_expand.specs.declared.settle.SettledItem.{SettledItem}
+use Rattle.sx_expand.specs.ExpandUses.{expand_uses, expand_item_uses}
+use Rattle.sx_expand.specs.declared.expand_uses.PlannedItem.{PlannedItem}
 use Rattle.sx_expand_laws.proofs.Acts.{Gave, gave-after, gave-any, gave-if, gave-less, gave-within}
 use Rattle.sx_expand_laws.proofs.Naming.{as_frame, counted}
 use Rattle.sx_expand_laws.proofs.Nesting.{not-deep, deeper-next, deeper-up}
 use Rattle.sx_expand_laws.proofs.NestingBinding.{Pairs, pairs-each}
-use Rattle.sx_expand_laws.proofs.NestingForms.{IsShort, settle-short}
+use Rattle.sx_expand_laws.proofs.NestingForms.{IsShort, expand_uses-short}
 use Rattle.sx_nesting_laws.specs.Heights.{Between}
 use Rattle.sx_nesting_laws.specs.Nesting.{deepest, IsAtMostText}
 use Rattle.sx_nesting_laws.proofs.Bodies.{Nests, AreDeep, gave-all, splice-nests, body-nests}
 use Rattle.sx_nesting_laws.proofs.Heights.{Low, LowCase, LowInit, LowFender, LowClause, alone-low, low-at, one_armed-low, two_armed-low, assignment-low, in-sequence-low, call-low, lambda-low, case_lambda-low, letrec-low, matching-low}
-use Rattle.sx_nesting_laws.proofs.Items.{settle-deep}
+use Rattle.sx_nesting_laws.proofs.Items.{expand_uses-deep}
 use Rattle.sx_nesting_laws.proofs.Quasi.{quasi-nests}
 
 -- whatever an action gives
@@ -211,8 +211,8 @@ module _ (between : Between) (few : IsAtMostText between) (go : Inside) (nests :
   form-nests : (place : Span) (level depth : ℕ) (t : Tree) (s : State) → Gave (λ c u. Low between few depth deepest c) (form_at go place level depth t s)
   unfolding form_at
   form-nests place level depth t s =
-      gave-if (λ c u. Low between few depth deepest c) (nat_lt most_round depth) _ (after (settle go.earlier place level t s) (perform_settled go level depth)) (λ e. tt)
-      (λ e. gave-after (λ d u. IsShort d.plan) (λ c u. Low between few depth deepest c) (settle go.earlier place level t s) (perform_settled go level depth) (settle-short go.earlier s.uses_left place level t s)
+      gave-if (λ c u. Low between few depth deepest c) (nat_lt most_round depth) _ (after (expand_uses go.earlier place level t s) (perform_settled go level depth)) (λ e. tt)
+      (λ e. gave-after (λ d u. IsShort d.plan) (λ c u. Low between few depth deepest c) (expand_uses go.earlier place level t s) (perform_settled go level depth) (expand_uses-short go.earlier s.uses_left place level t s)
       (λ d u k. performs d.place level depth d.form (not-deep depth e) d.plan u k))
 
   -- A form of a body.
@@ -233,13 +233,13 @@ module _ (between : Between) (few : IsAtMostText between) (go : Inside) (nests :
     item-nests : (at : BodyAt) (d : Taken) (t : Tree) (s : State) → AreDeep base d → Gave (λ e u. AreDeep base e) (item go at depth d t s)
     unfolding item
     item-nests at d t s h =
-        gave-if (λ e u. AreDeep base e) (nat_lt most_round depth) _ (after (settle_item go.earlier at depth d t s) (expand_body.perform_settled go depth)) (λ e. tt)
-        (λ e. gave-after (λ (p : Taken × SettledItem) u. AreDeep base p.0) (λ x u. AreDeep base x) (settle_item go.earlier at depth d t s) (expand_body.perform_settled go depth)
-        (settle-deep base depth deep (not-deep depth e) go.earlier s.uses_left at d t s h)
+        gave-if (λ e u. AreDeep base e) (nat_lt most_round depth) _ (after (expand_item_uses go.earlier at depth d t s) (expand_body.perform_settled go depth)) (λ e. tt)
+        (λ e. gave-after (λ (p : Taken × PlannedItem) u. AreDeep base p.0) (λ x u. AreDeep base x) (expand_item_uses go.earlier at depth d t s) (expand_body.perform_settled go depth)
+        (expand_uses-deep base depth deep (not-deep depth e) go.earlier s.uses_left at d t s h)
         (λ p u j. item-performs p.1.at p.0 p.1.form p.1.item u j))
 
 -- So it is inside forms, however deep they may nest.
-pub inside-nests : (between : Between) (few : IsAtMostText between) (rs : List LibRecord) (room : ℕ) → Nests between few (inside rs room)
+pub inside-nests : (between : Between) (few : IsAtMostText between) (rs : List CompiledLibrary) (room : ℕ) → Nests between few (inside rs room)
 unfolding inside
 inside-nests between few rs zero = record {
   form = λ place level depth t s. tt;

@@ -5,7 +5,7 @@ use Rattle.sx_base.specs.Act.{after, give}
 use Rattle.sx_base.specs.declared.fault.FaultKind.TheVariants as kind
 use Rattle.sx_base.specs.declared.name.Label.{Label}
 use Rattle.sx_tree.specs.Tree.{Tree}
-use Rattle.sx_core.specs.declared.record.LibRecord.{LibRecord}
+use Rattle.sx_core.specs.declared.record.CompiledLibrary.{CompiledLibrary}
 use Rattle.sx_core_laws.specs.Words.{Each}
 use Rattle.sx_shapes.specs.At.{place_of}
 use Rattle.sx_shapes.specs.declared.shape.Shape.{Shape}
@@ -22,11 +22,11 @@ use Rattle.sx_heads.specs.declared.taken.Taken.{Taken}
 use Rattle.sx_heads.specs.declared.taken.Waiting.{Waiting}
 use Rattle.sx_heads.specs.declared.taken.Waits.{Waits}
 use Rattle.sx_heads.specs.declared.taken.Waits.TheVariants as waits
-use Rattle.sx_expand.specs.Settle as settle
-use Rattle.sx_expand.specs.Settle.{next_form, too_many, at_use, set_item_step, item_step_of, item_step, settle_item_to}
-use Rattle.sx_expand.specs.declared.settle.ItemStep.{ItemStep}
-use Rattle.sx_expand.specs.declared.settle.ItemStep.TheVariants as item_steps
-use Rattle.sx_expand.specs.declared.settle.SettledItem.{SettledItem}
+use Rattle.sx_expand.specs.ExpandUses as expand_uses
+use Rattle.sx_expand.specs.ExpandUses.{next_form, too_many, at_use, set_item_step, item_step_of, item_step, expand_item_uses_to}
+use Rattle.sx_expand.specs.declared.expand_uses.ItemOrUse.{ItemOrUse}
+use Rattle.sx_expand.specs.declared.expand_uses.ItemOrUse.TheVariants as item_steps
+use Rattle.sx_expand.specs.declared.expand_uses.PlannedItem.{PlannedItem}
 use Rattle.sx_expand_laws.proofs.Acts.{Gave, gave-after, gave-any, gave-if}
 use Rattle.sx_expand_laws.proofs.Fresh.{each-append}
 use Rattle.sx_expand_laws.proofs.Items.{item-cases, with_expression}
@@ -73,42 +73,42 @@ module _ (base depth : ℕ) (deep : base ≤ depth) (room : depth ≤ most_round
       (λ e x y j. gave-after (λ z u. AreDeep base z) (Deep {A = Item}) (define_item at depth e x y s) (λ z. give (z, items.Nothing)) (definition-deep at e x y s j) (λ z u k. k))
       (λ e i j. j) d t h
 
-  module _ (rs : List LibRecord) where
-    set-deep : (at : BodyAt) (d : Taken) (t : Tree) (l : Label) (b : Bool) (u : State) → AreDeep base d → Gave (Deep {A = ItemStep}) (set_item_step at depth d t l b u)
+  module _ (rs : List CompiledLibrary) where
+    set-deep : (at : BodyAt) (d : Taken) (t : Tree) (l : Label) (b : Bool) (u : State) → AreDeep base d → Gave (Deep {A = ItemOrUse}) (set_item_step at depth d t l b u)
     set-deep at d t l true u h = h
     set-deep at d t l false u h = waits-deep at d (waits.Expression t) h
 
-    steps-deep : (at : BodyAt) (t : Tree) (d : Taken) (i : Item) (u : State) → AreDeep base d → Gave (Deep {A = ItemStep}) (item_step_of rs at depth t d i u)
+    steps-deep : (at : BodyAt) (t : Tree) (d : Taken) (i : Item) (u : State) → AreDeep base d → Gave (Deep {A = ItemOrUse}) (item_step_of rs at depth t d i u)
     steps-deep at t d items.Nothing u h = h
     steps-deep at t d (items.Forms forms) u h = h
     steps-deep at t d (items.Keyword b) u h = h
     steps-deep at t d (items.Keywords recursive bs forms) u h = h
     steps-deep at t d (items.Use l) u h = h
     steps-deep at t d (items.SetUse l) u h =
-        gave-after (λ b v. Unit {0}) (Deep {A = ItemStep}) (asks_variable rs (place_of t at.place) l u) (set_item_step at depth d t l) (gave-any (λ b v. Unit {0}) (asks_variable rs (place_of t at.place) l u) (λ b v. tt)) (λ b v k. set-deep at d t l b v h)
+        gave-after (λ b v. Unit {0}) (Deep {A = ItemOrUse}) (asks_variable rs (place_of t at.place) l u) (set_item_step at depth d t l) (gave-any (λ b v. Unit {0}) (asks_variable rs (place_of t at.place) l u) (λ b v. tt)) (λ b v k. set-deep at d t l b v h)
 
-    step-deep : (at : BodyAt) (d : Taken) (t : Tree) (s : State) → AreDeep base d → Gave (Deep {A = ItemStep}) (item_step rs at depth d t s)
+    step-deep : (at : BodyAt) (d : Taken) (t : Tree) (s : State) → AreDeep base d → Gave (Deep {A = ItemOrUse}) (item_step rs at depth d t s)
     unfolding item_step
-    step-deep at d t s h = gave-after (Deep {A = Item}) (Deep {A = ItemStep}) (item_plan at depth d t s) (λ p. item_step_of rs at depth t p.0 p.1) (item-deep at d t s h) (λ p u j. steps-deep at t p.0 p.1 u j)
+    step-deep at d t s h = gave-after (Deep {A = Item}) (Deep {A = ItemOrUse}) (item_plan at depth d t s) (λ p. item_step_of rs at depth t p.0 p.1) (item-deep at d t s h) (λ p u j. steps-deep at t p.0 p.1 u j)
 
     -- forms of a body are settled
-    pub settle-deep : (left : ℕ) (at : BodyAt) (d : Taken) (t : Tree) (s : State) → AreDeep base d → Gave (Deep {A = SettledItem}) (settle_item_to rs left at depth d t s)
-    unfolding settle_item_to
-    settle-deep zero at d t s h =
-        gave-after (Deep {A = ItemStep}) (Deep {A = SettledItem}) (item_step rs at depth d t s) (settle.item_by (λ done l. too_many t at.place) at t) (step-deep at d t s h) by
+    pub expand_uses-deep : (left : ℕ) (at : BodyAt) (d : Taken) (t : Tree) (s : State) → AreDeep base d → Gave (Deep {A = PlannedItem}) (expand_item_uses_to rs left at depth d t s)
+    unfolding expand_item_uses_to
+    expand_uses-deep zero at d t s h =
+        gave-after (Deep {A = ItemOrUse}) (Deep {A = PlannedItem}) (item_step rs at depth d t s) (expand_uses.item_by (λ done l. too_many t at.place) at t) (step-deep at d t s h) by
       where
-        by : (p : Taken × ItemStep) (u : State) → Deep p u → Gave (Deep {A = SettledItem}) (settle.item_by (λ done l. too_many t at.place) at t p u)
+        by : (p : Taken × ItemOrUse) (u : State) → Deep p u → Gave (Deep {A = PlannedItem}) (expand_uses.item_by (λ done l. too_many t at.place) at t p u)
         by (e, item_steps.Item i) u j = j
         by (e, item_steps.Use l) u j = tt
-    settle-deep (suc left) at d t s h =
-        gave-after (Deep {A = ItemStep}) (Deep {A = SettledItem}) (item_step rs at depth d t s) (settle.item_by (λ taken l s'. after (next_form rs left at.place t l (Some at.frame) s') (settle_item_to rs left (at_use at t) depth taken)) at t)
+    expand_uses-deep (suc left) at d t s h =
+        gave-after (Deep {A = ItemOrUse}) (Deep {A = PlannedItem}) (item_step rs at depth d t s) (expand_uses.item_by (λ taken l s'. after (next_form rs left at.place t l (Some at.frame) s') (expand_item_uses_to rs left (at_use at t) depth taken)) at t)
         (step-deep at d t s h)
-        (λ p u j. by p u j (λ e x v w. settle-deep left (at_use at t) e x v w))
+        (λ p u j. by p u j (λ e x v w. expand_uses-deep left (at_use at t) e x v w))
       where
-        by : (p : Taken × ItemStep) (u : State) → Deep p u
-            → ((e : Taken) (x : Tree) (v : State) → AreDeep base e → Gave (Deep {A = SettledItem}) (settle_item_to rs left (at_use at t) depth e x v))
-            → Gave (Deep {A = SettledItem}) (settle.item_by (λ taken l s'. after (next_form rs left at.place t l (Some at.frame) s') (settle_item_to rs left (at_use at t) depth taken)) at t p u)
+        by : (p : Taken × ItemOrUse) (u : State) → Deep p u
+            → ((e : Taken) (x : Tree) (v : State) → AreDeep base e → Gave (Deep {A = PlannedItem}) (expand_item_uses_to rs left (at_use at t) depth e x v))
+            → Gave (Deep {A = PlannedItem}) (expand_uses.item_by (λ taken l s'. after (next_form rs left at.place t l (Some at.frame) s') (expand_item_uses_to rs left (at_use at t) depth taken)) at t p u)
         by (e, item_steps.Item i) u j next = j
         by (e, item_steps.Use l) u j next =
-            gave-after (λ x v. Unit {0}) (Deep {A = SettledItem}) (next_form rs left at.place t l (Some at.frame) u) (settle_item_to rs left (at_use at t) depth e) (gave-any (λ x v. Unit {0}) (next_form rs left at.place t l (Some at.frame) u) (λ x v. tt))
+            gave-after (λ x v. Unit {0}) (Deep {A = PlannedItem}) (next_form rs left at.place t l (Some at.frame) u) (expand_item_uses_to rs left (at_use at t) depth e) (gave-any (λ x v. Unit {0}) (next_form rs left at.place t l (Some at.frame) u) (λ x v. tt))
             (λ x v i. next e x v j)

@@ -22,7 +22,7 @@ use Rattle.sx_quasi_code.specs.Inserted.{insert_variables, inserts_pattern, list
 use Rattle.sx_quasi_code.specs.Parts.{part, with_made, quasi_parts, all_quasi_parts, insert_part, inserts_parts}
 use Rattle.sx_quasi_code.specs.declared.form.QuasiForm.{QuasiForm}
 use Rattle.sx_quasi_code.specs.declared.form.QuasiForm.TheVariants as forms
-use Rattle.sx_quasi_code.specs.declared.parts.Part.{Part}
+use Rattle.sx_quasi_code.specs.declared.parts.PartForm.{PartForm}
 use Rattle.sx_shapes.specs.At.{place_of}
 use Rattle.sx_standing.specs.Patterns.{template_of}
 use Rattle.sx_standing.specs.State.{State, fresh_frame}
@@ -42,10 +42,10 @@ use Rattle.sx_nesting_laws.proofs.Heights.{Low, some-height, low-at, call-low, m
 
 module _ (between : Between) (few : IsAtMostText between) where
   -- the code of a part, and the first codes where they are those of these parts
-  abbrev LowPart : Part → PlainCore → Type 0
+  abbrev LowPart : PartForm → PlainCore → Type 0
   LowPart p c = Low between few p.depth deepest c
 
-  abbrev Codes : List Part → List PlainCore → Type 0
+  abbrev Codes : List PartForm → List PlainCore → Type 0
   Codes [] cs = Unit {0}
   Codes (p ∷ ps) [] = ⊥
   Codes (p ∷ ps) (c ∷ cs) = LowPart p c × Codes ps cs
@@ -54,7 +54,7 @@ module _ (between : Between) (few : IsAtMostText between) where
   part-room : (depth : ℕ) (c : PlainCore) → Low between few depth deepest c → depth ≤ most_round
   part-room depth c low = let some = some-height between few c in omega (arith, low, some)
 
-  made-room : (t : Tree) (depth : ℕ) (rest : List Part) (cs : List PlainCore) → Codes (with_made t depth [] ++ rest) cs → (depth ≤ most_round) × Codes rest cs
+  made-room : (t : Tree) (depth : ℕ) (rest : List PartForm) (cs : List PlainCore) → Codes (with_made t depth [] ++ rest) cs → (depth ≤ most_round) × Codes rest cs
   made-room t depth rest cs h = by (nat_lt most_round depth) refl cs h
     where
       by : (b : Bool) → nat_lt most_round depth ≡ b → (ds : List PlainCore) → Codes ((if b then [] ++ part t depth ∷ [] else []) ++ rest) ds → (depth ≤ most_round) × Codes rest ds
@@ -66,13 +66,13 @@ module _ (between : Between) (few : IsAtMostText between) where
 
   module _ (t : Tree) where
     -- the code that comes, and the codes of the parts behind
-    abbrev Comes : ℕ → List Part → PlainCore × List PlainCore → Type 0
+    abbrev Comes : ℕ → List PartForm → PlainCore × List PlainCore → Type 0
     Comes depth rest p = Low between few depth deepest p.0 × Codes rest p.1
 
-    abbrev AllCome : ℕ → List Part → List PlainCore × List PlainCore → Type 0
+    abbrev AllCome : ℕ → List PartForm → List PlainCore × List PlainCore → Type 0
     AllCome depth rest p = Each (Low between few depth deepest) p.0 × Codes rest p.1
 
-    next-nests : (x : Tree) (depth : ℕ) (rest : List Part) (cs : List PlainCore) → Codes (part x depth ∷ rest) cs → Comes depth rest (next_code x cs)
+    next-nests : (x : Tree) (depth : ℕ) (rest : List PartForm) (cs : List PlainCore) → Codes (part x depth ∷ rest) cs → Comes depth rest (next_code x cs)
     next-nests x depth rest [] h = elim h [ ]
     next-nests x depth rest (c ∷ cs) h = h
 
@@ -84,26 +84,26 @@ module _ (between : Between) (few : IsAtMostText between) where
         (call-low between few (deeper depth) deepest (deepest + 1) (omega arith) (omega (arith, room)) (primitive o) cs (omega (arith, room)) h)
 
     mutual
-      filled-nests : (q : PlainQuasi) (depth : ℕ) (rest : List Part) (cs : List PlainCore) → Codes (quasi_parts t depth [] q ++ rest) cs → Comes depth rest (filled q cs)
+      filled-nests : (q : PlainQuasi) (depth : ℕ) (rest : List PartForm) (cs : List PlainCore) → Codes (quasi_parts t depth [] q ++ rest) cs → Comes depth rest (filled q cs)
       filled-nests (constant c) depth rest cs h = let k = made-room t depth rest cs h in (let room = k.0 in omega (arith, room), k.1)
       filled-nests (expression e) depth rest cs h = next-nests e depth rest cs h
       filled-nests (quasi.call m qs) depth rest cs h =
           let inner = all_quasi_parts t (deeper depth) [] qs in
           let k = made-room t (deeper depth) (inner ++ rest) cs
-          (subst (λ (ps : List Part). Codes ps cs) (ap (λ ps. ps ++ rest) (more-all t (deeper depth) (with_made t (deeper depth) []) qs) ∙ append_assoc (with_made t (deeper depth) []) inner rest) h) in
+          (subst (λ (ps : List PartForm). Codes ps cs) (ap (λ ps. ps ++ rest) (more-all t (deeper depth) (with_made t (deeper depth) []) qs) ∙ append_assoc (with_made t (deeper depth) []) inner rest) h) in
           let j = all-nest qs (deeper depth) [] rest cs k.1 tt in
           (calls (op_of m) depth (all_filled [] qs cs).0 k.0 j.0, j.1)
 
-      all-nest : (qs : PlainQuasis) (depth : ℕ) (done : List PlainCore) (rest : List Part) (cs : List PlainCore) → Codes (all_quasi_parts t depth [] qs ++ rest) cs → Each (Low between few depth deepest) done
+      all-nest : (qs : PlainQuasis) (depth : ℕ) (done : List PlainCore) (rest : List PartForm) (cs : List PlainCore) → Codes (all_quasi_parts t depth [] qs ++ rest) cs → Each (Low between few depth deepest) done
           → AllCome depth rest (all_filled done qs cs)
       all-nest none depth done rest cs h k = (k, h)
       all-nest (more q qs) depth done rest cs h k =
           let inner = all_quasi_parts t depth [] qs in
           let j = filled-nests q depth (inner ++ rest) cs
-          (subst (λ (ps : List Part). Codes ps cs) (ap (λ ps. ps ++ rest) (more-all t depth (quasi_parts t depth [] q) qs) ∙ append_assoc (quasi_parts t depth [] q) inner rest) h) in
+          (subst (λ (ps : List PartForm). Codes ps cs) (ap (λ ps. ps ++ rest) (more-all t depth (quasi_parts t depth [] q) qs) ∙ append_assoc (quasi_parts t depth [] q) inner rest) h) in
           all-nest qs depth (done ++ (filled q cs).0 ∷ []) rest (filled q cs).1 j.1 (each-append (Low between few depth deepest) done ((filled q cs).0 ∷ []) k (j.0, tt))
 
-  pairs-codes : (ps : List Part) (cs : List PlainCore) → Pairs LowPart ps cs → Codes ps cs
+  pairs-codes : (ps : List PartForm) (cs : List PlainCore) → Pairs LowPart ps cs → Codes ps cs
   pairs-codes [] cs h = tt
   pairs-codes (p ∷ ps) [] h = elim h [ ]
   pairs-codes (p ∷ ps) (c ∷ cs) h = (h.0, pairs-codes ps cs h.1)
@@ -116,7 +116,7 @@ module _ (between : Between) (few : IsAtMostText between) where
   inserts-each depth (i ∷ is) (c ∷ cs) h = (h.0, inserts-each depth is cs h.1)
 
   module _ (go : Inside) (nests : Nests between few go) (place : Span) (level : ℕ) (t : Tree) where
-    parts-nest : (ps : List Part) (s : State) → Gave (λ cs u. Pairs LowPart ps cs) (parts_in_order go place level ps s)
+    parts-nest : (ps : List PartForm) (s : State) → Gave (λ cs u. Pairs LowPart ps cs) (parts_in_order go place level ps s)
     parts-nest ps s = gave-all (part_core go place level) LowPart (λ p u. nests.form place level p.depth p.form u) ps s
 
     -- the code of the match
@@ -143,7 +143,7 @@ module _ (between : Between) (few : IsAtMostText between) where
         (λ y u k. omega (arith, room))
 
     syntax-nests : (q : QuasiSyntax) (is : List Insert) (depth : ℕ) (cs : List PlainCore) (s : State) → Pairs LowPart (inserts_parts t depth is) cs → Gave (λ c u. Low between few depth deepest c) (syntax_code place level t q cs is s)
-    syntax-nests q [] depth cs s k = plain-nests q depth s (made-room t depth [] cs (subst (λ (ps : List Part). Codes ps cs) (sym (append-nil (with_made t depth []))) (pairs-codes (with_made t depth []) cs k))).0
+    syntax-nests q [] depth cs s k = plain-nests q depth s (made-room t depth [] cs (subst (λ (ps : List PartForm). Codes ps cs) (sym (append-nil (with_made t depth []))) (pairs-codes (with_made t depth []) cs k))).0
     syntax-nests q (i ∷ is) depth cs s k =
         let two = deeper (deeper depth) in
         let some = map (insert_part two) (i ∷ is) in
@@ -154,13 +154,13 @@ module _ (between : Between) (few : IsAtMostText between) where
         let is_two : two ≡ depth + 2 = omega (arith, first, second) in
         inserted-nests q depth cs s (omega (arith, room, is_two)) (subst (λ d. Each (Low between few d deepest) cs) is_two (inserts-each two (i ∷ is) cs (unmade two some (nat_lt most_round two) refl room k)))
       where
-        unmade : (two : ℕ) (some : List Part) (b : Bool) → nat_lt most_round two ≡ b → two ≤ most_round → Pairs LowPart ((if b then [] ++ part t two ∷ [] else []) ++ some) cs → Pairs LowPart some cs
+        unmade : (two : ℕ) (some : List PartForm) (b : Bool) → nat_lt most_round two ≡ b → two ≤ most_round → Pairs LowPart ((if b then [] ++ part t two ∷ [] else []) ++ some) cs → Pairs LowPart some cs
         unmade two some true e room h = absurd (too-deep two e room)
         unmade two some false e room h = h
 
     code-nests : (q : QuasiForm) (depth : ℕ) (cs : List PlainCore) (s : State) → Pairs LowPart (parts_of t depth q) cs → Gave (λ c u. Low between few depth deepest c) (code_of place level t q cs s)
     code-nests (forms.Quote q) depth cs s k =
-        (filled-nests t q depth [] cs (subst (λ (ps : List Part). Codes ps cs) (sym (append-nil (quasi_parts t depth [] q))) (pairs-codes (quasi_parts t depth [] q) cs k))).0
+        (filled-nests t q depth [] cs (subst (λ (ps : List PartForm). Codes ps cs) (sym (append-nil (quasi_parts t depth [] q))) (pairs-codes (quasi_parts t depth [] q) cs k))).0
     code-nests (forms.Syntax q) depth cs s k = syntax-nests q q.inserts depth cs s k
 
     pub quasi-nests : (depth : ℕ) (which : Family) (template : Tree) (s : State) → Gave (λ c u. Low between few depth deepest c) (quasi_form go place level depth t which template s)

@@ -5,7 +5,7 @@ use Rattle.sx_base.specs.declared.fault.Fault.{Fault}
 use Rattle.sx_base.specs.declared.name.Label.{Label}
 use Rattle.sx_tree.specs.Changes.{stamp}
 use Rattle.sx_tree.specs.Tree.{Tree}
-use Rattle.sx_core.specs.declared.record.LibRecord.{LibRecord}
+use Rattle.sx_core.specs.declared.record.CompiledLibrary.{CompiledLibrary}
 use Rattle.sx_core.specs.declared.record.Line.{Line}
 use Rattle.sx_core_laws.specs.Records.{line_core}
 use Rattle.sx_core_laws.specs.Words.{Each}
@@ -18,7 +18,7 @@ use Rattle.sx_expand.specs.Body.{splice, finish_all}
 use Rattle.sx_expand.specs.Expanding.{ready, body_of}
 use Rattle.sx_expand.specs.Expression.{inside, full_room}
 use Rattle.sx_expand.specs.Inside.{Inside}
-use Rattle.sx_expand.specs.Top.{record_in, exports, give_record, body_at, finished, first_pass, top}
+use Rattle.sx_expand.specs.Top.{record_in, exports, give_record, body_at, second_pass, first_pass, top}
 use Rattle.sx_expand.specs.declared.top.TopAt.{TopAt}
 use Rattle.sx_expand_laws.proofs.Acts.{Gave, gave-after, gave-any}
 use Rattle.sx_nesting_laws.specs.Heights.{Between, height_with}
@@ -28,7 +28,7 @@ use Rattle.sx_nesting_laws.proofs.Heights.{Low}
 use Rattle.sx_nesting_laws.proofs.Forms.{inside-nests}
 
 module _ (between : Between) (few : IsAtMostText between) where
-  abbrev LinesAreLow : LibRecord → Type 0
+  abbrev LinesAreLow : CompiledLibrary → Type 0
   LinesAreLow r = Each (λ l. height_with between (line_core l) ≤ deepest) r.run
 
   lines-low : (xs : List Line) → Each (LowLine between few 0) xs → Each (λ l. height_with between (line_core l) ≤ deepest) xs
@@ -36,8 +36,8 @@ module _ (between : Between) (few : IsAtMostText between) where
   lines-low (x ∷ xs) h = ((let low = line-low between few 0 x h.0 in omega (arith, low)), lines-low xs h.1)
 
   module _ (go : Inside) (nests : Nests between few go) (at : TopAt) (es : List (List ℕ × Tree)) where
-    finished-nests : (d : Taken) (s : State) → AreDeep 0 d → Gave (λ r u. LinesAreLow r) (finished go at es d s)
-    unfolding finished
+    finished-nests : (d : Taken) (s : State) → AreDeep 0 d → Gave (λ r u. LinesAreLow r) (second_pass go at es d s)
+    unfolding second_pass
     finished-nests d s h =
         gave-after (λ ls u. Unit {0}) (λ r u. LinesAreLow r) (exports at es s) (λ ls t. after (finish_all go 0 d.waiting t) (λ lines. give_record at ls lines)) (gave-any (λ ls u. Unit {0}) (exports at es s) (λ ls u. tt))
         (λ ls t k. gave-after (λ xs u. Each (LowLine between few 0) xs) (λ r u. LinesAreLow r) (finish_all go 0 d.waiting t) (λ lines. give_record at ls lines) (lines-nest between few go nests 0 0 d.waiting t h)
@@ -46,11 +46,11 @@ module _ (between : Between) (few : IsAtMostText between) where
     top-nests : (forms : List Tree) (s : State) → Gave (λ r u. LinesAreLow r) (top go at es forms s)
     unfolding top first_pass
     top-nests forms s =
-        gave-after (λ d u. AreDeep 0 d) (λ r u. LinesAreLow r) (splice go (body_at at s.library) 0 begun (map (stamp at.frame) forms) s) (finished go at es)
+        gave-after (λ d u. AreDeep 0 d) (λ r u. LinesAreLow r) (splice go (body_at at s.library) 0 begun (map (stamp at.frame) forms) s) (second_pass go at es)
         (splice-nests between few go nests (body_at at s.library) 0 0 begun (map (stamp at.frame) forms) s (omega arith) tt)
         (λ d u k. finished-nests d u k)
 
-  recorded : (r : LibRecord) (x : Result (LibRecord × State) Fault) → Gave (λ q u. LinesAreLow q) x → record_in x ≡ Ok r → LinesAreLow r
+  recorded : (r : CompiledLibrary) (x : Result (CompiledLibrary × State) Fault) → Gave (λ q u. LinesAreLow q) x → record_in x ≡ Ok r → LinesAreLow r
   recorded r (Ok p) h e = let same : p.0 ≡ r = cc in subst LinesAreLow same h
   recorded r (Err f) h e = absurd (cc)
 

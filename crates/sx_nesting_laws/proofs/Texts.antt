@@ -15,11 +15,11 @@ use Rattle.sx_core_grammar.specs.Lines.{SpellsLine, definition, expression}
 use Rattle.sx_core_grammar.specs.Spellable.{CanBeRead, own_constant, constants}
 use Rattle.sx_core_grammar.specs.Spells.{word, before, form, one, two, three, letrec_keyword, SpellsFormals, no_rest, rest, required}
 use Rattle.sx_core_grammar.specs.Spells as s
-use Rattle.sx_core_grammar.specs.Spells.{Spells, SpellsAll, SpellsInits, SpellsCases}
+use Rattle.sx_core_grammar.specs.Spells.{SpellsCode, SpellsAllCode, SpellsInits, SpellsCases}
 use Rattle.sx_core_laws.specs.Parts.{parts, all_parts, init_parts, case_parts}
 use Rattle.sx_core_laws.specs.Records.{line_core}
 use Rattle.sx_core_laws.specs.Words.{Each}
-use Rattle.sx_core_text.specs.CoreText.{Names}
+use Rattle.sx_core_text.specs.CoreText.{VariableNames}
 use Rattle.sx_nesting_laws.specs.Heights.{in_text, height_with, highest_with, highest_init_with, highest_case_with}
 use Rattle.sx_nesting_laws.specs.Texts.{nested_atom, nested, nested_behind, ReadWhereNested, SpellingsNest, LineSpellingsNest}
 use Rattle.sx_nesting_laws.proofs.Heights.{some-height, text-at-most}
@@ -133,7 +133,7 @@ module _ {A : Type 0} (P : A → Type 0) where
   behind-each [] ys h = h
   behind-each (x ∷ xs) ys h = behind-each xs ys h.1
 
-module _ (names : Names) (n : ℕ) where
+module _ (names : VariableNames) (n : ℕ) where
   abbrev Fine : PlainDatum → Type 0
   Fine e = nested e ≤ n
 
@@ -163,7 +163,7 @@ module _ (names : Names) (n : ℕ) where
 
   mutual
     -- under any limit that is as high
-    spelled : {c : PlainCore} {d : PlainDatum} (k : ℕ) → Spells names c d → AreFine (parts c) → height_with in_text c + n ≤ k → nested d ≤ k
+    spelled : {c : PlainCore} {d : PlainDatum} (k : ℕ) → SpellsCode names c d → AreFine (parts c) → height_with in_text c + n ≤ k → nested d ≤ k
     spelled k (s.constant d h) f le = let fine = f.0.0 in let same = bare d in omega (arith, fine, same, le)
     spelled k (s.quotation d h) f le = let fine = f.0.0 in let same = bare d in form-nested (codes "quote") (one (unspanned d)) n k (one-behind (unspanned d) n (omega (arith, fine, same))) (omega (arith, le))
     spelled k (s.reference h) f le = omega arith
@@ -227,7 +227,7 @@ module _ (names : Names) (n : ℕ) where
         (all-spelled k ps (behind-each IsFine (parts c) (all_parts cs) f.1) (right-high (height_with in_text c) (highest_with in_text cs) n k inner))
         (omega arith)
 
-    all-spelled : {cs : PlainCores} {e : PlainDatum} (k : ℕ) → SpellsAll names cs e → AreFine (all_parts cs) → highest_with in_text cs + n ≤ k → nested_behind e ≤ k
+    all-spelled : {cs : PlainCores} {e : PlainDatum} (k : ℕ) → SpellsAllCode names cs e → AreFine (all_parts cs) → highest_with in_text cs + n ≤ k → nested_behind e ≤ k
     all-spelled k s.no_more f le = omega arith
     all-spelled k (s.more {c} {cs} {d} {e} p ps) f le =
         pair-behind d e k

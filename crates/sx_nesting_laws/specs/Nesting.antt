@@ -6,7 +6,7 @@ use Rattle.sx_base.specs.declared.span.Span.{Span}
 use Rattle.sx_tree.specs.Tree.{Tree}
 use Rattle.sx_core.specs.Core.{PlainCore}
 use Rattle.sx_core.specs.Height.{height}
-use Rattle.sx_core.specs.declared.record.LibRecord.{LibRecord}
+use Rattle.sx_core.specs.declared.record.CompiledLibrary.{CompiledLibrary}
 use Rattle.sx_core_laws.specs.Records.{line_core}
 use Rattle.sx_core_laws.specs.Words.{Each}
 use Rattle.sx_eval.specs.Codes.{Codes}
@@ -31,6 +31,6 @@ deepest = 4 * (most_round + 1)
 
 -- each line of a record, whatever the records before it and the forms of its library
 abbrev pub LinesNest : Type 0
-LinesNest = (between : Between) → IsAtMostText between → (own : LibName) (path : List ℕ) (records : List LibRecord) (imports : List (List ℕ × Label)) (version : List ℕ) (place : Span)
-    (exports : List (List ℕ × Tree)) (forms : List Tree) (codes : Codes) (r : LibRecord)
+LinesNest = (between : Between) → IsAtMostText between → (own : LibName) (path : List ℕ) (records : List CompiledLibrary) (imports : List (List ℕ × Label)) (version : List ℕ) (place : Span)
+    (exports : List (List ℕ × Tree)) (forms : List Tree) (codes : Codes) (r : CompiledLibrary)
     → library_record (ready own path records imports codes) records version place exports forms ≡ Ok r → Each (λ l. height_with between (line_core l) ≤ deepest) r.run

@@ -7,10 +7,10 @@ use Rattle.sx_core.specs.Core.{PlainCore}
 use Rattle.sx_core.specs.declared.record.Line.{Line}
 use Rattle.sx_core_grammar.specs.Lines.{SpellsLine}
 use Rattle.sx_core_grammar.specs.Spellable.{CanBeRead, constants}
-use Rattle.sx_core_grammar.specs.Spells.{Spells}
+use Rattle.sx_core_grammar.specs.Spells.{SpellsCode}
 use Rattle.sx_core_laws.specs.Records.{line_core}
 use Rattle.sx_core_laws.specs.Words.{Each}
-use Rattle.sx_core_text.specs.CoreText.{Names}
+use Rattle.sx_core_text.specs.CoreText.{VariableNames}
 use Rattle.sx_nesting_laws.specs.Heights.{in_text, height_with}
 use Rattle.sx_round.specs.Readable.{IsReadable}
 
@@ -40,9 +40,9 @@ ReadWhereNested = (d : PlainDatum) (n : ℕ) → CanBeRead d → nested d ≤ n 
 
 -- What spells core code nests as deep as the code and its constants do, and no deeper.
 abbrev pub SpellingsNest : Type 0
-SpellingsNest = (names : Names) (c : PlainCore) (d : PlainDatum) (n : ℕ) → Each (λ e. nested e ≤ n) (constants c) → Spells names c d → nested d ≤ height_with in_text c + n
+SpellingsNest = (names : VariableNames) (c : PlainCore) (d : PlainDatum) (n : ℕ) → Each (λ e. nested e ≤ n) (constants c) → SpellsCode names c d → nested d ≤ height_with in_text c + n
 
 -- and what spells a line, one deeper
 abbrev pub LineSpellingsNest : Type 0
-LineSpellingsNest = (names : Names) (l : Line) (d : PlainDatum) (n : ℕ) → Each (λ e. nested e ≤ n) (constants (line_core l)) → SpellsLine names l d
+LineSpellingsNest = (names : VariableNames) (l : Line) (d : PlainDatum) (n : ℕ) → Each (λ e. nested e ≤ n) (constants (line_core l)) → SpellsLine names l d
     → nested d ≤ height_with in_text (line_core l) + n + 1

@@ -6,8 +6,8 @@ use Rattle.std.proofs.lemmas.Bool.Decides.{nat_tests}
 use Rattle.std.proofs.lemmas.Int.{ints}
 use Rattle.sx_base.specs.declared.atom.Atom.TheVariants as a
 use Rattle.sx_value.specs.declared.value.Value.TheVariants as value
-use Rattle.sx_prims.specs.declared.made.Made.{Made}
-use Rattle.sx_prims.specs.declared.made.Made.TheVariants as made
+use Rattle.sx_prims.specs.declared.made.PrimResult.{PrimResult}
+use Rattle.sx_prims.specs.declared.made.PrimResult.TheVariants as made
 use Rattle.sx_prims.specs.Characters.{is_scalar, character_of}
 
 either : (b c : Bool) → b || c ≡ cond b true c
@@ -23,11 +23,11 @@ not_true : (b : Bool) → ¬ (b ≡ true) → b ≡ false
 not_true true h = absurd (h refl)
 not_true false h = refl
 
-taken : (b : Bool) (x : Option Made) → b ≡ true → (if b then x else None) ≡ x
+taken : (b : Bool) (x : Option PrimResult) → b ≡ true → (if b then x else None) ≡ x
 taken true x h = refl
 taken false x h = absurd (cc)
 
-refused : (b : Bool) (x : Option Made) → b ≡ false → (if b then x else None) ≡ None
+refused : (b : Bool) (x : Option PrimResult) → b ≡ false → (if b then x else None) ≡ None
 refused true x h = absurd (cc)
 refused false x h = refl
 

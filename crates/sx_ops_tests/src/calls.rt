@@ -11,7 +11,7 @@ use sx_ops::parts::{parts, unpacked};
 use sx_ops::raised::raising;
 use sx_ops::strings::{number_strings, string_comparisons, strings};
 use sx_ops::syntax::{identifiers, temporaries};
-use sx_prims::made::Made;
+use sx_prims::made::PrimResult;
 use sx_prims::prim_call::PrimCall;
 use sx_prims::rows::{
     APPENDED, BASICS, CHARACTERS, DATA, EQUALITY, GATHERED, IDENTIFIERS, INDEXED, LISTS,
@@ -73,7 +73,7 @@ pub fn full_table(alloc: Global) -> Result<Option<PrimTable>, Memory> {
 }
 
 /// A call, of whose answer nothing is promised here: its definition would be carried along.
-pub fn called(alloc: Global, table: &PrimTable, call: &PrimCall) -> Result<Made, BareStop> {
+pub fn called(alloc: Global, table: &PrimTable, call: &PrimCall) -> Result<PrimResult, BareStop> {
     let frames = Frames::new(alloc);
     table.call(alloc, call, &frames)
 }

@@ -6,7 +6,7 @@ use sx_base::atom::Atom;
 use sx_base::fault::BareStop;
 use sx_base::memory::Memory;
 use sx_base::op::{Op, names};
-use sx_prims::made::Made;
+use sx_prims::made::PrimResult;
 use sx_prims::prim_call::PrimCall;
 use sx_prims::table::{PrimRow, PrimTable};
 use sx_region::region::Region;
@@ -184,23 +184,23 @@ fn check_ops(rt: &impl Abort, alloc: Global, table: &PrimTable) -> Result<(), Me
 
 /// A call of `list-tail` on the empty list: its op, and how much is to be taken off.
 #[derive(Clone, Copy)]
-struct Tail {
+struct TailCall {
     op: u16,
     number: i128,
 }
 
-const TAIL: Tail = Tail {
+const TAIL: TailCall = TailCall {
     op: names::LIST_TAIL,
     number: 2_000_000,
 };
 
 /// More than any limit.
-const LONGEST_TAIL: Tail = Tail {
+const LONGEST_TAIL: TailCall = TailCall {
     op: names::LIST_TAIL,
     number: 99_999_999_999_999_999_999_999,
 };
 
-fn tail_arguments(alloc: Global, tail: Tail) -> Result<Vec<Value>, Memory> {
+fn tail_arguments(alloc: Global, tail: TailCall) -> Result<Vec<Value>, Memory> {
     let mut args = Vec::new(alloc);
     args.push(Value::Atom(Atom::Nil))?;
     args.push(Value::Atom(Atom::Int(tail.number)))?;
@@ -208,7 +208,7 @@ fn tail_arguments(alloc: Global, tail: Tail) -> Result<Vec<Value>, Memory> {
 }
 
 /// What such a call costs, where the limit is 1,000,000,000.
-fn tail_cost(alloc: Global, table: &PrimTable, tail: Tail) -> Result<u64, Memory> {
+fn tail_cost(alloc: Global, table: &PrimTable, tail: TailCall) -> Result<u64, Memory> {
     let args = tail_arguments(alloc, tail)?;
     let cells: Region<Cell> = Region::new(alloc);
     let call = PrimCall {
@@ -219,7 +219,7 @@ fn tail_cost(alloc: Global, table: &PrimTable, tail: Tail) -> Result<u64, Memory
     table.cost(alloc, &call, 1_000_000_000)
 }
 
-fn is_refused(outcome: &Result<Made, BareStop>) -> bool {
+fn is_refused(outcome: &Result<PrimResult, BareStop>) -> bool {
     match outcome {
         Err(BareStop::Fault(fault)) => fault.kind.name() == "PrimFault",
         _ => false,
@@ -227,7 +227,7 @@ fn is_refused(outcome: &Result<Made, BareStop>) -> bool {
 }
 
 /// Whether such a call is refused.
-fn tail_is_refused(alloc: Global, table: &PrimTable, tail: Tail) -> Result<bool, Memory> {
+fn tail_is_refused(alloc: Global, table: &PrimTable, tail: TailCall) -> Result<bool, Memory> {
     let args = tail_arguments(alloc, tail)?;
     let cells: Region<Cell> = Region::new(alloc);
     let call = PrimCall {

@@ -33,11 +33,11 @@ abbrev pub faulted : CallRecord → CallRecord
 faulted calls = record { fails = calls.fails; next = calls.next; faults = raised calls.faults }
 
 -- a call fails exactly where it is listed, and it is counted
-pub record Counts {T : Type 0} (before : CallRecord) (result : Result T OutsideError) (after : CallRecord) : Type 0 where
+pub record CountsCall {T : Type 0} (before : CallRecord) (result : Result T OutsideError) (after : CallRecord) : Type 0 where
   pub listed : (result ≡ Err Failed) ↔ IsTrue (fails_now before)
   pub counted : after ≡ called before
 
 -- a finite map in memory, and its calls
-pub record Kept : Type 0 where
+pub record KeptMap : Type 0 where
   pub contents : Paths
   pub calls : CallRecord

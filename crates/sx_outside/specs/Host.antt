@@ -4,7 +4,7 @@ use Rattle.sx_outside.specs.Sink.{Gains}
 use Rattle.sx_outside.specs.declared.sink.PutFailed.{PutFailed}
 
 -- a writer, how many puts have failed, and how many were asked for
-pub record Written (W : Type 0) : Type 0 where
+pub record WrittenPuts (W : Type 0) : Type 0 where
   pub writer : W
   pub faults : ℕ
   pub puts : ℕ

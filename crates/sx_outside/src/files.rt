@@ -3,7 +3,7 @@
 ghost use Rattle.std.specs.Prelude.{◌≡◌, ◌≤◌, ℕ, Option, Some, IfSome, IfOk};
 ghost use Rattle.sx_outside.specs.Causes.{Rose};
 ghost use Rattle.sx_outside.specs.Contents.{Paths, at_path, paths_of, read_of};
-ghost use Rattle.sx_outside.specs.Calls.{Counts, uncalled};
+ghost use Rattle.sx_outside.specs.Calls.{CountsCall, uncalled};
 ghost use Rattle.sx_outside.specs.Files.{file_reading};
 
 use crate::calls::Calls;
@@ -51,10 +51,10 @@ pub struct MemFiles {
 }
 
 impl Model for MemFiles {
-    ghost use Rattle.sx_outside.specs.Calls.{Kept};
+    ghost use Rattle.sx_outside.specs.Calls.{KeptMap};
     ghost use Rattle.sx_outside.specs.Contents.{paths_of};
 
-    ghost Value = { Kept };
+    ghost Value = { KeptMap };
 
     ghost view = { λ m. record { contents = paths_of m.pairs.items; calls = m.calls } };
 }
@@ -87,7 +87,7 @@ impl Files for MemFiles {
             Rose self.old.calls.faults self.new.calls.faults }
 
         // Exactly the listed calls fail.
-        ensures calls { Counts self.old.calls result self.new.calls }
+        ensures calls { CountsCall self.old.calls result self.new.calls }
     {
         self.calls.count()?;
         Ok(read_pairs(self.alloc, &self.pairs, path, max)?)

@@ -218,9 +218,9 @@ pub struct HostSink<W> {
 }
 
 impl<W> Model for HostSink<W> {
-    ghost use Rattle.sx_outside.specs.Host.{Written};
+    ghost use Rattle.sx_outside.specs.Host.{WrittenPuts};
 
-    ghost Value = { Written W };
+    ghost Value = { WrittenPuts W };
 
     ghost view = { λ m. record { writer = m.writer; faults = m.faults; puts = m.puts } };
 }

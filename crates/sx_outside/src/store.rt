@@ -1,7 +1,7 @@
 //! A store: a finite map from places to bytes, of which a put sets one.
 
 ghost use Rattle.std.specs.Prelude.{◌≡◌, ◌≤◌, ℕ, Option, Some, IfSome, IfOk, OnOk, OnErr, ◌∷◌, [], ◌++◌};
-ghost use Rattle.sx_outside.specs.Calls.{Counts, uncalled, faulted};
+ghost use Rattle.sx_outside.specs.Calls.{CountsCall, uncalled, faulted};
 ghost use Rattle.sx_outside.specs.Causes.{Rose};
 ghost use Rattle.sx_outside.specs.Contents.{Paths, at_path, paths_of, read_of};
 ghost use Rattle.sx_outside.specs.Files.{file_reading};
@@ -74,10 +74,10 @@ pub struct MemStore {
 }
 
 impl Model for MemStore {
-    ghost use Rattle.sx_outside.specs.Calls.{Kept};
+    ghost use Rattle.sx_outside.specs.Calls.{KeptMap};
     ghost use Rattle.sx_outside.specs.Contents.{paths_of};
 
-    ghost Value = { Kept };
+    ghost Value = { KeptMap };
 
     ghost view = { λ m. record { contents = paths_of m.pairs.items; calls = m.calls } };
 }
@@ -121,7 +121,7 @@ impl MemStore {
         add_pair(self.alloc, &mut self.pairs, place, bytes)
     }
 
-    /// Counts a failure that is no call of its own.
+    /// CountsCall a failure that is no call of its own.
     pub(crate) fn fail(&mut self) -> OutsideError
         ensures error { result ≡ OutsideError.Failed }
         ensures contents { self.new.contents ≡ self.old.contents }
@@ -146,7 +146,7 @@ impl Store for MemStore {
             Rose self.old.calls.faults self.new.calls.faults }
 
         // Exactly the listed calls fail.
-        ensures calls { Counts self.old.calls result self.new.calls }
+        ensures calls { CountsCall self.old.calls result self.new.calls }
     {
         self.calls.count()?;
         let answer = read_pairs(self.alloc, &self.pairs, place, max)?;
@@ -161,7 +161,7 @@ impl Store for MemStore {
             Rose self.old.calls.faults self.new.calls.faults }
 
         // Exactly the listed calls fail, and one that fails sets nothing.
-        ensures calls { Counts self.old.calls result self.new.calls }
+        ensures calls { CountsCall self.old.calls result self.new.calls }
         ensures kept { OnErr result (self.new.contents ≡ self.old.contents) }
     {
         self.calls.count()?;

@@ -13,7 +13,7 @@ use std::marker::Model;
 
 /// Where a put goes.
 #[derive(Clone, Copy)]
-pub enum Turn {
+pub enum PutTurn {
     Within,
     Tear,
     Stopped,
@@ -70,13 +70,13 @@ impl TornStore {
         self.inner
     }
 
-    fn turn(&self) -> Turn
+    fn turn(&self) -> PutTurn
         ensures { result ≡ turn_of self.now }
     {
         match self.left {
-            None if self.stop => Turn::Stopped,
-            Some(0) => Turn::Tear,
-            _ => Turn::Within,
+            None if self.stop => PutTurn::Stopped,
+            Some(0) => PutTurn::Tear,
+            _ => PutTurn::Within,
         }
     }
 }
@@ -98,7 +98,7 @@ impl Store for TornStore {
         ensures rest { self.new ≡ record self.old { inner = self.new.inner } }
     {
         match self.turn() {
-            Turn::Stopped => Err(self.inner.fail()),
+            PutTurn::Stopped => Err(self.inner.fail()),
             _ => self.inner.get(place, max),
         }
     }
@@ -118,9 +118,9 @@ impl Store for TornStore {
         let turn = self.turn();
         self.left = self.left.and_then(|left| left.checked_sub(1));
         match turn {
-            Turn::Within => self.inner.put(place, bytes),
-            Turn::Tear => tear(&mut self.inner, place, &bytes[..self.keep.min(bytes.len())]),
-            Turn::Stopped => Err(self.inner.fail()),
+            PutTurn::Within => self.inner.put(place, bytes),
+            PutTurn::Tear => tear(&mut self.inner, place, &bytes[..self.keep.min(bytes.len())]),
+            PutTurn::Stopped => Err(self.inner.fail()),
         }
     }
 }

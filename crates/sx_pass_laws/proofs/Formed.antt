@@ -23,11 +23,11 @@ use Rattle.sx_core_grammar.specs.Lines as sl
 use Rattle.sx_core_grammar.specs.Lines.{SpellsLine}
 use Rattle.sx_core_grammar.specs.Names.{IsCalled, IsPrimitive}
 use Rattle.sx_core_grammar.specs.Spells as s
-use Rattle.sx_core_grammar.specs.Spells.{is_itself, letrec_keyword, SpellsFormals, Spells, SpellsAll, SpellsInits, SpellsCases}
+use Rattle.sx_core_grammar.specs.Spells.{is_itself, letrec_keyword, SpellsFormals, SpellsCode, SpellsAllCode, SpellsInits, SpellsCases}
 use Rattle.sx_core_laws.specs.Parts.{init_labels}
 use Rattle.sx_core_laws.specs.Records.{line_core, line_labels, line_binders}
 use Rattle.sx_core_laws.specs.Words.{Each, Among}
-use Rattle.sx_core_text.specs.CoreText.{Names, name_of}
+use Rattle.sx_core_text.specs.CoreText.{VariableNames, name_of}
 use Rattle.sx_expand_laws.proofs.Fresh.{each-at, each-append}
 use Rattle.sx_pass_laws.proofs.Primitives.{primitive_found}
 use Rattle.sx_run_laws.specs.Names.{names_for, NamesClosed, AllNamesClosed, InitNamesClosed, CaseNamesClosed}
@@ -103,10 +103,10 @@ letrec_is : (ordered : Bool) → IsLetrec (letrec_keyword ordered)
 letrec_is true = f.ordered
 letrec_is false = f.plain
 
-called_is : (names : Names) (l : Label) (x : List ℕ) → IsCalled names l x → name_of names l ≡ x
+called_is : (names : VariableNames) (l : Label) (x : List ℕ) → IsCalled names l x → name_of names l ≡ x
 called_is names l x e = ap (λ (o : Option (List ℕ)). unwrap_or o []) e
 
-module _ (names : Names) where
+module _ (names : VariableNames) where
   -- what such a variable is called is a name
   abbrev pub IsGood : Label → Type 0
   IsGood l = (x : List ℕ) → IsCalled names l x → IsName x
@@ -188,7 +188,7 @@ module _ (names : Names) where
   all_as {n} {d} {fs = fs} e i = subst (λ (b : Words). AreExpressions n d b fs) e i
 
   mutual
-    formed : {c : PlainCore} {d : PlainDatum} → Spells names c d → (ns : Words) → NamesClosed names ns c → Each IsName ns → AllGood (binders c) → Formed ns c d
+    formed : {c : PlainCore} {d : PlainDatum} → SpellsCode names c d → (ns : Words) → NamesClosed names ns c → Each IsName ns → AllGood (binders c) → Formed ns c d
     formed (s.constant d h) ns k a g = record { fs = []; is = constant_is d h; within = Within.no_name }
     formed (s.quotation d h) ns k a g = record { fs = []; is = f.quotation f.single (quoted_is d h); within = Within.no_name }
     formed (s.reference {l = l} {x = x} h) ns k a g = record { fs = x ∷ []; is = f.reference (mention_named ns l x h k a); within = Within.name (mentioned ns l x h k) Within.no_name }
@@ -241,7 +241,7 @@ module _ (names : Names) where
         let y = formed_all q ns k.1 a (good_right (binders c) (all_binders cs) g) in
         record { fs = x.fs ++ y.fs; is = bound_as (sym (named_append (binders c) (all_binders cs))) (f.application x.is y.are); within = within_append ns x.fs y.fs x.within y.within }
 
-    formed_all : {cs : PlainCores} {d : PlainDatum} → SpellsAll names cs d → (ns : Words) → AllNamesClosed names ns cs → Each IsName ns → AllGood (all_binders cs) → FormedAll ns cs d
+    formed_all : {cs : PlainCores} {d : PlainDatum} → SpellsAllCode names cs d → (ns : Words) → AllNamesClosed names ns cs → Each IsName ns → AllGood (all_binders cs) → FormedAll ns cs d
     formed_all s.no_more ns k a g = record { n = 0; fs = []; are = f.no_more; within = Within.no_name }
     formed_all (s.more {c = c} {cs = cs} p q) ns k a g =
         let x = formed p ns k.0 a (good_left (binders c) (all_binders cs) g) in

@@ -27,18 +27,18 @@ use Rattle.sx_pass_laws.specs.Pass.{TextsPass}
 use Rattle.sx_core.specs.References.{binders}
 use Rattle.sx_core.specs.declared.binding.Binding.{Binding}
 use Rattle.sx_core.specs.declared.binding.Binding.TheVariants as binding
-use Rattle.sx_core.specs.declared.record.LibRecord.{LibRecord}
+use Rattle.sx_core.specs.declared.record.CompiledLibrary.{CompiledLibrary}
 use Rattle.sx_core.specs.declared.record.Line.{Line}
 use Rattle.sx_core_grammar.specs.Laws.{LineTextsAreSpellings}
 use Rattle.sx_core_grammar.specs.Lines.{SpellLines, no_line, further, record_lines, all_lines}
 use Rattle.sx_core_grammar.specs.Names.{AreGenerated}
 use Rattle.sx_core_laws.specs.Records.{line_core, line_labels, line_binders, defined, run_binders}
 use Rattle.sx_core_laws.specs.Words.{Each, Among, Once}
-use Rattle.sx_core_text.specs.CoreText.{Names, name_of, line_text, lines_text}
+use Rattle.sx_core_text.specs.CoreText.{VariableNames, name_of, line_text, lines_text}
 use Rattle.sx_core_text.specs.Syntax.{Checked, lines_checked}
 use Rattle.sx_core_text.specs.Whole.{plan_checked, record_text, plan_text, all_names, all_text, core_text}
 use Rattle.sx_expand_laws.proofs.Fresh.{each-at, each-of, among-first}
-use Rattle.sx_name_laws.specs.Variable.{Variable}
+use Rattle.sx_name_laws.specs.Variable.{NamedVariable}
 use Rattle.sx_name_laws.specs.Variable as variables
 use Rattle.sx_plan.specs.Planned.{plan_of}
 use Rattle.sx_prelude.specs.Prelude.{prelude_table}
@@ -86,15 +86,15 @@ once (x ∷ xs) h = judged.Once.name (not_true (has xs x) (λ k. h.0 (has_among 
 
 -- the whole text
 
-lines_both : (names : Names) (ks ls : List Line) → lines_text names (ks ++ ls) ≡ lines_text names ks ++ lines_text names ls
+lines_both : (names : VariableNames) (ks ls : List Line) → lines_text names (ks ++ ls) ≡ lines_text names ks ++ lines_text names ls
 lines_both names [] ls = refl
 lines_both names (k ∷ ks) ls = ap (λ w. line_text names k ++ w) (lines_both names ks ls) ∙ sym (append_assoc (line_text names k) (lines_text names ks) (lines_text names ls))
 
-record_is : (names : Names) (r : Option LibRecord) → record_text names r ≡ lines_text names (record_lines r)
+record_is : (names : VariableNames) (r : Option CompiledLibrary) → record_text names r ≡ lines_text names (record_lines r)
 record_is names None = refl
 record_is names (Some r) = refl
 
-plan_is : (records : List LibRecord) (names : Names) (plan : List ℕ) (program : LibRecord)
+plan_is : (records : List CompiledLibrary) (names : VariableNames) (plan : List ℕ) (program : CompiledLibrary)
     → plan_text records names plan ++ lines_text names program.run ≡ lines_text names (all_lines records plan program)
 plan_is records names [] program = refl
 plan_is records names (p ∷ ps) program =
@@ -109,7 +109,7 @@ bind_gives (Err f) q w h = absurd (cc)
 ok_same : (v w : List ℕ) → ◌≡◌ {A = Result (List ℕ) Fault} (Ok v) (Ok w) → v ≡ w
 ok_same v w e = cc
 
-whole_is : (records : List LibRecord) (plan : List ℕ) (program : LibRecord) (whole : List ℕ) → core_text records plan program ≡ Ok whole
+whole_is : (records : List CompiledLibrary) (plan : List ℕ) (program : CompiledLibrary) (whole : List ℕ) → core_text records plan program ≡ Ok whole
     → whole ≡ first_line ++ lines_text (all_names records plan program) (all_lines records plan program)
 whole_is records plan program whole h =
     let names = all_names records plan program in
@@ -119,11 +119,11 @@ whole_is records plan program whole h =
     sym (ok_same text whole q) ∙ ap (λ w. first_line ++ w) (plan_is records names plan program)
 
 -- what all lines bind is what the records of the text bind
-gathered : (f : Line → List Label) (records : List LibRecord) (ps : List ℕ) (program : LibRecord)
+gathered : (f : Line → List Label) (records : List CompiledLibrary) (ps : List ℕ) (program : CompiledLibrary)
     → flat_map f (all_lines records ps program) ≡ flat_map (λ r. flat_map f r.run) (records_at records ps ++ program ∷ [])
 gathered f records [] program = sym (append-nil (flat_map f program.run))
 gathered f records (p ∷ ps) program = by (slice_get records p) (gathered f records ps program) where
-  by : (o : Option LibRecord) → flat_map f (all_lines records ps program) ≡ flat_map (λ r. flat_map f r.run) (records_at records ps ++ program ∷ [])
+  by : (o : Option CompiledLibrary) → flat_map f (all_lines records ps program) ≡ flat_map (λ r. flat_map f r.run) (records_at records ps ++ program ∷ [])
       → flat_map f (record_lines o ++ all_lines records ps program) ≡ flat_map (λ r. flat_map f r.run) (or_skip o (records_at records ps) ++ program ∷ [])
   by None go = go
   by (Some r) go = flat_map-append f r.run (all_lines records ps program) ∙ ap (λ w. flat_map f r.run ++ w) go
@@ -132,7 +132,7 @@ as_lines : {n : ℕ} {x y : List ℕ} {ds es bs cs fs : Words} → x ≡ y → d
 as_lines {n} {x} {y} {ds} {es} {bs} {cs} {fs} text labels binders are =
     subst (λ (w : List ℕ). AreLines n w es cs fs) text (subst (λ (ks : Words). AreLines n x ks cs fs) labels (subst (λ (ks : Words). AreLines n x ds ks fs) binders are))
 
-module _ (readings : SpellingsAre) (texts : LineTextsAreSpellings) (names : Names) (generated : AreGenerated names) where
+module _ (readings : SpellingsAre) (texts : LineTextsAreSpellings) (names : VariableNames) (generated : AreGenerated names) where
   abbrev N : List Label → Words
   N ls = names_for names ls
 
@@ -182,12 +182,12 @@ each_mapped P g (x ∷ xs) h = (h.0, each_mapped P g xs h.1)
 some_same : (v w : List ℕ) → ◌≡◌ {A = Option (List ℕ)} (Some v) (Some w) → v ≡ w
 some_same v w e = cc
 
-module _ (records : List LibRecord) (program : LibRecord) (standing : AreStanding records program) (sound : Each IsSound (records ++ program ∷ [])) (checked : Each HasText (planned.text_of records program))
+module _ (records : List CompiledLibrary) (program : CompiledLibrary) (standing : AreStanding records program) (sound : Each IsSound (records ++ program ∷ [])) (checked : Each HasText (planned.text_of records program))
     (readable : Each ReadableRecord (records ++ program ∷ [])) where
-  abbrev T : List LibRecord
+  abbrev T : List CompiledLibrary
   T = planned.text_of records program
 
-  abbrev given_names : Names
+  abbrev given_names : VariableNames
   given_names = run_names records program
 
   -- a binder has the name of a variable whose symbol is UTF-8
@@ -196,7 +196,7 @@ module _ (records : List LibRecord) (program : LibRecord) (standing : AreStandin
       let b = binder records program standing sound checked l a in
       let holder = each-at ReadableRecord (records ++ program ∷ []) b.holder readable (text-known records program standing b.holder b.there) in
       let symbol : round.IsName b.indexed.variable.symbol = cells_at (λ (r : Label × Binding). ReadableBinding r.1) b.holder.bindings (l, binding.Variable b.indexed.variable) holder.bindings b.indexed.bound in
-      let v : Variable = record { library = l.0.library; symbol = b.indexed.variable.symbol; number = b.indexed.number } in
+      let v : NamedVariable = record { library = l.0.library; symbol = b.indexed.variable.symbol; number = b.indexed.number } in
       subst IsName (some_same (variables.name_of v) x (sym b.called ∙ called)) (variables_are_named v (b.named, symbol.0))
 
   binder_is_named : (l : Label) → Among (flat_map run_binders T) l → IsName (name_of given_names l)

@@ -8,7 +8,7 @@ use Rattle.sx_value.specs.declared.value.Value.{Value}
 use Rattle.sx_value.specs.declared.cell.Cell.{Cell}
 use Rattle.sx_pattern.specs.declared.columns.Column.{Column}
 use Rattle.sx_pattern.specs.declared.columns.Rows.{Rows}
-use Rattle.sx_pattern.specs.declared.columns.Found.{Found}
+use Rattle.sx_pattern.specs.declared.columns.PatternBinds.{PatternBinds}
 use Rattle.sx_pattern.specs.Columns.{empty_columns, all_empty_columns}
 use Rattle.sx_pattern.specs.Matched.{matched, all_matched, repeated, no_rows, with_rows, and_then, count, limit, one_more}
 
@@ -26,29 +26,29 @@ limit_dots (r ∷ ps) p q = ap one_more (limit_dots ps p q)
 
 module _ (fs : Scope) (cells : List Cell) where
   -- as many elements as patterns first, and then the others
-  pub matched_on : (ps : List PlainPattern) (q : PlainPatterns) (xs ys : List Value) (s : Found) → length xs ≡ length ps
+  pub matched_on : (ps : List PlainPattern) (q : PlainPatterns) (xs ys : List Value) (s : PatternBinds) → length xs ≡ length ps
       → all_matched fs cells (patterns_on ps q) (xs ++ ys) s ≡ and_then (all_matched fs cells (patterns ps) xs s) (all_matched fs cells q ys)
   matched_on [] q [] ys s h = refl
   matched_on [] q (x ∷ xs) ys s h = absurd (omega arith)
   matched_on (p ∷ ps) q [] ys s h = absurd (omega arith)
   matched_on (p ∷ ps) q (x ∷ xs) ys s h = go (λ t. matched_on ps q xs ys t (omega arith)) (matched fs cells p x s)
     where
-      go : ((t : Found) → all_matched fs cells (patterns_on ps q) (xs ++ ys) t ≡ and_then (all_matched fs cells (patterns ps) xs t) (all_matched fs cells q ys))
-          → (r : Option Found) → and_then r (all_matched fs cells (patterns_on ps q) (xs ++ ys)) ≡ and_then (and_then r (all_matched fs cells (patterns ps) xs)) (all_matched fs cells q ys)
+      go : ((t : PatternBinds) → all_matched fs cells (patterns_on ps q) (xs ++ ys) t ≡ and_then (all_matched fs cells (patterns ps) xs t) (all_matched fs cells q ys))
+          → (r : Option PatternBinds) → and_then r (all_matched fs cells (patterns_on ps q) (xs ++ ys)) ≡ and_then (and_then r (all_matched fs cells (patterns ps) xs)) (all_matched fs cells q ys)
       go ih None = refl
       go ih (Some t) = ih t
 
   -- fewer elements than patterns before are not enough
-  pub matched_short : (ps : List PlainPattern) (q : PlainPatterns) (xs : List Value) (s : Found) → length xs < length ps → all_matched fs cells (patterns_on ps q) xs s ≡ None
+  pub matched_short : (ps : List PlainPattern) (q : PlainPatterns) (xs : List Value) (s : PatternBinds) → length xs < length ps → all_matched fs cells (patterns_on ps q) xs s ≡ None
   matched_short [] q xs s h = absurd (omega arith)
   matched_short (p ∷ ps) q [] s h = refl
   matched_short (p ∷ ps) q (x ∷ xs) s h = go (λ t. matched_short ps q xs t (omega arith)) (matched fs cells p x s)
     where
-      go : ((t : Found) → all_matched fs cells (patterns_on ps q) xs t ≡ None) → (r : Option Found) → and_then r (all_matched fs cells (patterns_on ps q) xs) ≡ None
+      go : ((t : PatternBinds) → all_matched fs cells (patterns_on ps q) xs t ≡ None) → (r : Option PatternBinds) → and_then r (all_matched fs cells (patterns_on ps q) xs) ≡ None
       go ih None = refl
       go ih (Some t) = ih t
 
-  module _ (ps : List PlainPattern) (q : PlainPatterns) (xs : List Value) (s : Found) (h : length ps ≤ length xs) where
+  module _ (ps : List PlainPattern) (q : PlainPatterns) (xs : List Value) (s : PatternBinds) (h : length ps ≤ length xs) where
     split : all_matched fs cells (patterns_on ps q) xs s ≡ and_then (all_matched fs cells (patterns ps) (take (length ps) xs) s) (all_matched fs cells q (drop (length ps) xs))
     split =
         ap (λ ys. all_matched fs cells (patterns_on ps q) ys s) (sym (take-append-drop (length ps) xs))
@@ -57,20 +57,20 @@ module _ (fs : Scope) (cells : List Cell) where
     pub before_fails : all_matched fs cells (patterns ps) (take (length ps) xs) s ≡ None → all_matched fs cells (patterns_on ps q) xs s ≡ None
     before_fails e = split ∙ ap (λ r. and_then r (all_matched fs cells q (drop (length ps) xs))) e
 
-    pub before_taken : (t : Found) → all_matched fs cells (patterns ps) (take (length ps) xs) s ≡ Some t → all_matched fs cells (patterns_on ps q) xs s ≡ all_matched fs cells q (drop (length ps) xs) t
+    pub before_taken : (t : PatternBinds) → all_matched fs cells (patterns ps) (take (length ps) xs) s ≡ Some t → all_matched fs cells (patterns_on ps q) xs s ≡ all_matched fs cells q (drop (length ps) xs) t
     before_taken t e = split ∙ ap (λ r. and_then r (all_matched fs cells q (drop (length ps) xs))) e
 
   count_patterns : (ps : List PlainPattern) → count (patterns ps) ≡ length ps
   count_patterns [] = refl
   count_patterns (p ∷ ps) = ap suc (count_patterns ps)
 
-  module _ (p : PlainPattern) (ps : List PlainPattern) (xs : List Value) (s : Found) where
+  module _ (p : PlainPattern) (ps : List PlainPattern) (xs : List Value) (s : PatternBinds) where
     pub dots_short : length xs < length ps → all_matched fs cells (dots p (patterns ps)) xs s ≡ None
     dots_short h = rw (count_patterns ps, lt-leb (length ps) (length xs) h) refl
 
     pub dots_fails : length ps ≤ length xs → repeated (matched fs cells p) (no_rows p s.taken) (take (length xs - length ps) xs) ≡ None → all_matched fs cells (dots p (patterns ps)) xs s ≡ None
     dots_fails h e = rw (count_patterns ps, le-leb (length ps) (length xs) h, e) refl
 
-    pub dots_taken : (rows : Rows) (t : Found) → length ps ≤ length xs → repeated (matched fs cells p) (no_rows p s.taken) (take (length xs - length ps) xs) ≡ Some rows → t ≡ with_rows s rows
+    pub dots_taken : (rows : Rows) (t : PatternBinds) → length ps ≤ length xs → repeated (matched fs cells p) (no_rows p s.taken) (take (length xs - length ps) xs) ≡ Some rows → t ≡ with_rows s rows
         → all_matched fs cells (dots p (patterns ps)) xs s ≡ all_matched fs cells (patterns ps) (drop (length xs - length ps) xs) t
     dots_taken rows t h e w = rw (count_patterns ps, le-leb (length ps) (length xs) h, e, w) refl

@@ -6,13 +6,13 @@ use Rattle.sx_base.specs.declared.atom.Atom.{Atom}
 use Rattle.sx_base.specs.declared.fault.Fault.{Fault}
 use Rattle.sx_tree.specs.Tree.{Tree, atom, leaf, pair, vector, chain, nil, is_pair}
 use Rattle.sx_syntax.specs.Opens.{Opens}
-use Rattle.sx_syntax.specs.declared.syn.Opened.TheVariants as opened
+use Rattle.sx_syntax.specs.declared.syn.OpenedTree.TheVariants as opened
 use Rattle.sx_core.specs.Pattern.{PlainPattern}
 use Rattle.sx_core.specs.Pattern as patterns
 use Rattle.sx_shapes.specs.Lists.{elements, tail_of}
 use Rattle.sx_value.specs.declared.value.Value.TheVariants as value
 use Rattle.sx_pattern.specs.Values.{tree_atom, tree_vector}
-use Rattle.sx_pattern.specs.Compile.{Context, Taken, Element, pattern, element_patterns, tail_pattern, with_pattern, list_with, vector_with, forms_walked, walked, no_parts, leaf_pattern, list_pattern, vector_pattern}
+use Rattle.sx_pattern.specs.Compile.{PatternScope, Taken, Element, pattern, element_patterns, tail_pattern, with_pattern, list_with, vector_with, forms_walked, walked, no_parts, leaf_pattern, list_pattern, vector_pattern}
 
 pub atom_opened : (e : Atom) (t : Tree) → Opens (opened.Atom e) t → tree_atom t ≡ Some e
 atom_opened e (atom s b) h = ap Some (sym h)
@@ -73,7 +73,7 @@ pair_opened x y (pair s a d) h = refl
 pair_opened x y (vector s d) h = absurd h
 
 -- The pattern of a tree, by its level.
-module _ (c : Context) where
+module _ (c : PatternScope) where
   elements_are : (t : Tree) → element_patterns c t ≡ map (with_pattern c) (elements t)
   elements_are (atom s a) = refl
   elements_are (leaf s x k) = refl

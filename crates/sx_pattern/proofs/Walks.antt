@@ -9,14 +9,14 @@ use Rattle.sx_base.specs.declared.fault.Stop.TheVariants as stops
 use Rattle.sx_tree.specs.Tree.{Tree}
 use Rattle.sx_core.specs.Pattern.{PlainPattern}
 use Rattle.sx_pattern.specs.Keywords.{first_ellipsis}
-use Rattle.sx_pattern.specs.Compile.{Context, Taken, next_ellipsis, with_part, with_repeated, repeated_part, inner_depth, behind_ellipsis, added, pattern, with_pattern, step, walked, Walked}
+use Rattle.sx_pattern.specs.Compile.{PatternScope, Taken, next_ellipsis, with_part, with_repeated, repeated_part, inner_depth, behind_ellipsis, added, pattern, with_pattern, step, walked, Walked}
 use Rattle.sx_pattern.specs.declared.compile.PatternParts.{PatternParts}
 
-next_is_first : (c : Context) (ts : List Tree) → next_ellipsis c.frames (map (with_pattern c) ts) ≡ first_ellipsis c.frames ts
+next_is_first : (c : PatternScope) (ts : List Tree) → next_ellipsis c.frames (map (with_pattern c) ts) ≡ first_ellipsis c.frames ts
 next_is_first c [] = refl
 next_is_first c (t ∷ ts) = refl
 
-module _ (c : Context) (depth : ℕ) (parts : PatternParts) (t : Tree) where
+module _ (c : PatternScope) (depth : ℕ) (parts : PatternParts) (t : Tree) where
   -- with the pattern of an element: its part is added, and the forms behind its ellipsis follow
   abbrev on_pattern : Option Tree → List Tree → PlainPattern → Taken → Result (PatternParts × Taken) Fault
   on_pattern e ts p u = added c.place e parts p >>= λ more. walked c depth false more (map (with_pattern c) (behind_ellipsis e ts)) u

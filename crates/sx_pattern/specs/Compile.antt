@@ -23,12 +23,12 @@ use Rattle.sx_pattern.specs.declared.compile.PatternParts.{PatternParts}
 use Rattle.sx_pattern.specs.declared.compile.PatternVariable.{PatternVariable}
 
 -- what is known round a pattern: frames, the literals, and the place round it
-pub record Context : Type 0 where
+pub record PatternScope : Type 0 where
   pub frames : Scope
   pub literals : List Tree
   pub place : Span
 
-abbrev pub seen : PatternContext → Context
+abbrev pub seen : PatternContext → PatternScope
 seen c = record { frames = c.frames.now; literals = c.literals.now; place = c.place.now }
 
 -- the variables so far, and the names that are free
@@ -75,7 +75,7 @@ new_variable place t depth s =
     else Ok (variable (record { 0 = s.1 }), (s.0 ++ named s.1 t depth ∷ [], following s.1))
 
 -- an ellipsis behind an element never comes here
-abbrev pub leaf_pattern : Context → Tree → ℕ → Act Taken PlainPattern
+abbrev pub leaf_pattern : PatternScope → Tree → ℕ → Act Taken PlainPattern
 leaf_pattern c t depth s =
     if is_form form.Ellipsis (stands c.frames t) then Err (bad c.place t) else
     (if is_form form.Underscore (stands c.frames t) then Ok (any, s) else
@@ -127,7 +127,7 @@ abbrev pub step : Span → ℕ → Bool → Element → Option Tree → PatternP
 step place depth true x e parts s = Ok ((false, parts), s)
 step place depth false x e parts s = element place depth x e parts s
 
-abbrev pub walked : Context → ℕ → Bool → PatternParts → List Element → Act Taken PatternParts
+abbrev pub walked : PatternScope → ℕ → Bool → PatternParts → List Element → Act Taken PatternParts
 walked c depth skips parts [] s = Ok (parts, s)
 walked c depth skips parts (x ∷ xs) s =
     after (step c.place depth skips x (next_ellipsis c.frames xs) parts s) (λ w. walked c depth w.0 w.1 xs)
@@ -156,37 +156,37 @@ vector_with elements s = after (elements s) (λ parts s. Ok (vector (parts_of pa
 -- Forms.
 
 abbrev mutual
-  pub pattern : Context → Tree → ℕ → Act Taken PlainPattern
+  pub pattern : PatternScope → Tree → ℕ → Act Taken PlainPattern
   pattern c (tree.atom s a) depth = give (atom a)
   pattern c (tree.leaf s x k) depth = leaf_pattern c (tree.leaf s x k) depth
   pattern c (tree.pair s a d) depth = list_with (walked c depth false no_parts ((a, pattern c a) ∷ element_patterns c d)) (tail_pattern c d depth)
   pattern c (tree.vector s d) depth = vector_with (walked c depth false no_parts (element_patterns c d))
 
   -- the elements of a list, each with its pattern
-  pub element_patterns : Context → Tree → List Element
+  pub element_patterns : PatternScope → Tree → List Element
   element_patterns c (tree.atom s a) = []
   element_patterns c (tree.leaf s x k) = []
   element_patterns c (tree.pair s a d) = (a, pattern c a) ∷ element_patterns c d
   element_patterns c (tree.vector s d) = []
 
   -- the pattern of what ends a list
-  pub tail_pattern : Context → Tree → ℕ → Act Taken PlainPattern
+  pub tail_pattern : PatternScope → Tree → ℕ → Act Taken PlainPattern
   tail_pattern c (tree.atom s a) depth = give (atom a)
   tail_pattern c (tree.leaf s x k) depth = leaf_pattern c (tree.leaf s x k) depth
   tail_pattern c (tree.pair s a d) depth = tail_pattern c d depth
   tail_pattern c (tree.vector s d) depth = vector_with (walked c depth false no_parts (element_patterns c d))
 
-abbrev pub with_pattern : Context → Tree → Element
+abbrev pub with_pattern : PatternScope → Tree → Element
 with_pattern c t = (t, pattern c t)
 
 -- the parts of the patterns of forms
-abbrev pub forms_walked : Context → ℕ → List Tree → Act Taken PatternParts
+abbrev pub forms_walked : PatternScope → ℕ → List Tree → Act Taken PatternParts
 forms_walked c depth ts = walked c depth false no_parts (map (with_pattern c) ts)
 
-abbrev pub list_pattern : Context → Tree → ℕ → Act Taken PlainPattern
+abbrev pub list_pattern : PatternScope → Tree → ℕ → Act Taken PlainPattern
 list_pattern c t depth = list_with (forms_walked c depth (elements t)) (pattern c (tail_of t) depth)
 
-abbrev pub vector_pattern : Context → List Tree → ℕ → Act Taken PlainPattern
+abbrev pub vector_pattern : PatternScope → List Tree → ℕ → Act Taken PlainPattern
 vector_pattern c ts depth = vector_with (forms_walked c depth ts)
 
 abbrev pub with_variables : Result (PlainPattern × Taken) Fault → Result (Compiled × Named) Fault
@@ -194,5 +194,5 @@ with_variables (Ok r) = Ok (record { pattern = r.0; variables = r.1.0 }, r.1.1)
 with_variables (Err f) = Err f
 
 -- the literals are looked at first
-abbrev pub compiled : Context → Tree → Act Named Compiled
+abbrev pub compiled : PatternScope → Tree → Act Named Compiled
 compiled c t names = literals_checked c.frames c.place c.literals >>= λ _. with_variables (pattern c t 0 ([], names))

@@ -12,19 +12,19 @@ use Rattle.sx_pattern.specs.Values.{atom_of, is_atom, is_alike, vector_of}
 use Rattle.sx_pattern.specs.Front.{front}
 use Rattle.sx_pattern.specs.Columns.{empty_columns, grown, closed}
 use Rattle.sx_pattern.specs.declared.columns.Rows.{Rows}
-use Rattle.sx_pattern.specs.declared.columns.Found.{Found}
+use Rattle.sx_pattern.specs.declared.columns.PatternBinds.{PatternBinds}
 
-abbrev pub nothing : ℕ → Found
+abbrev pub nothing : ℕ → PatternBinds
 nothing taken = record { binds = []; taken = taken }
 
 abbrev pub and_then : {A B : Type 0} → Option A → (A → Option B) → Option B
 and_then None k = None
 and_then (Some x) k = k x
 
-abbrev pub kept : Bool → Found → Option Found
+abbrev pub kept : Bool → PatternBinds → Option PatternBinds
 kept b s = if b then Some s else None
 
-abbrev pub bound : Label → Value → Found → Found
+abbrev pub bound : Label → Value → PatternBinds → PatternBinds
 bound l v s = record s { binds = s.binds ++ (l, one v) ∷ [] }
 
 -- how many patterns there are, that of an ellipsis aside
@@ -44,7 +44,7 @@ limit (more p ps) = one_more (limit ps)
 limit (dots p ps) = None
 
 -- the elements of an ellipsis: each is matched alone, and adds a bind to each column
-abbrev pub repeated : (Value → Found → Option Found) → Rows → List Value → Option Rows
+abbrev pub repeated : (Value → PatternBinds → Option PatternBinds) → Rows → List Value → Option Rows
 repeated go rows [] = Some rows
 repeated go rows (x ∷ xs) =
     and_then (go x (nothing (rows.taken + 1))) (λ row. repeated go (record { columns = grown [] rows.columns row.binds; taken = row.taken }) xs)
@@ -52,24 +52,24 @@ repeated go rows (x ∷ xs) =
 abbrev pub no_rows : PlainPattern → ℕ → Rows
 no_rows p taken = record { columns = empty_columns p []; taken = taken }
 
-abbrev pub with_rows : Found → Rows → Found
+abbrev pub with_rows : PatternBinds → Rows → PatternBinds
 with_rows s rows = record { binds = s.binds ++ closed rows.columns; taken = rows.taken }
 
-abbrev pub on_elements : Option (List Value) → (List Value → Option Found) → Option Found
+abbrev pub on_elements : Option (List Value) → (List Value → Option PatternBinds) → Option PatternBinds
 on_elements None go = None
 on_elements (Some xs) go = go xs
 
-abbrev pub at_end : List Value → Found → Option Found
+abbrev pub at_end : List Value → PatternBinds → Option PatternBinds
 at_end [] s = Some s
 at_end (x ∷ xs) s = None
 
-abbrev pub on_first : List Value → (Value → List Value → Option Found) → Option Found
+abbrev pub on_first : List Value → (Value → List Value → Option PatternBinds) → Option PatternBinds
 on_first [] go = None
 on_first (x ∷ xs) go = go x xs
 
 -- a list: its elements first, and then what is behind them
 abbrev mutual
-  pub matched : Scope → List Cell → PlainPattern → Value → Found → Option Found
+  pub matched : Scope → List Cell → PlainPattern → Value → PatternBinds → Option PatternBinds
   matched fs cells any v s = Some s
   matched fs cells (variable l) v s = Some (bound l v s)
   matched fs cells (literal t) v s = kept (is_alike fs t v) s
@@ -80,7 +80,7 @@ abbrev mutual
   matched fs cells (vector ps) v s = on_elements (vector_of cells v) (λ xs. all_matched fs cells ps xs s)
 
   -- an ellipsis takes all but as many elements as there are patterns after it
-  pub all_matched : Scope → List Cell → PlainPatterns → List Value → Found → Option Found
+  pub all_matched : Scope → List Cell → PlainPatterns → List Value → PatternBinds → Option PatternBinds
   all_matched fs cells none xs s = at_end xs s
   all_matched fs cells (more p ps) xs s = on_first xs (λ x xs. and_then (matched fs cells p x s) (all_matched fs cells ps xs))
   all_matched fs cells (dots p ps) xs s =
@@ -90,7 +90,7 @@ abbrev mutual
       else None
 
 -- What a call answers and leaves is what the definition gives, unless memory ran out.
-abbrev pub Takes : Result Bool Memory → Found → Option Found → Type 0
+abbrev pub Takes : Result Bool Memory → PatternBinds → Option PatternBinds → Type 0
 Takes (Ok true) new given = given ≡ Some new
 Takes (Ok false) new given = given ≡ None
 Takes (Err e) new given = Unit {0}

@@ -13,7 +13,7 @@ use std::alloc::Global;
 use sx_base::fault::{FaultKind, Stop};
 use sx_base::items::Items;
 use sx_base::memory::Memory;
-use sx_base::name::{Label, Names};
+use sx_base::name::{Label, FreeNames};
 use sx_base::span::Span;
 use sx_core::core_form::CoreForm;
 use sx_core::pattern::{Elements, Pattern, PatternNode, Repeated};
@@ -21,7 +21,7 @@ use sx_scope::same::same_binder;
 use sx_scope::scope::Frames;
 use sx_shapes::at::fault_at;
 use sx_shapes::lists::{is_id, parts_of};
-use sx_syntax::syn::{Opened, Syn};
+use sx_syntax::syn::{OpenedTree, Syn};
 
 /// What forms are read with as patterns.
 #[derive(Drop)]
@@ -73,7 +73,7 @@ pub(crate) struct PatternParts {
 pub fn compile_pattern(
     context: &PatternContext,
     form: &Syn,
-    names: &mut Names,
+    names: &mut FreeNames,
 ) -> Result<Compiled, Stop>
     ensures { GivesAfter (λ c. c) result names.new (compiled (seen context.now) form.now names.old) }
 {
@@ -154,7 +154,7 @@ fn new_variable(
     form: &Syn,
     depth: u32,
     variables: &mut Items<PatternVariable>,
-    names: &mut Names,
+    names: &mut FreeNames,
 ) -> Result<Pattern, Stop>
     ensures { GivesAfter (λ p. p) result (variables.new, names.new) (new_variable context.now.place.now form.now depth (variables.old, names.old)) }
 {
@@ -179,7 +179,7 @@ fn leaf_pattern(
     form: &Syn,
     depth: u32,
     variables: &mut Items<PatternVariable>,
-    names: &mut Names,
+    names: &mut FreeNames,
 ) -> Result<Pattern, Stop>
     ensures { GivesAfter (λ p. p) result (variables.new, names.new) (leaf_pattern (seen context.now) form.now depth (variables.old, names.old)) }
 {
@@ -342,17 +342,17 @@ fn pattern(
     form: &Syn,
     depth: u32,
     variables: &mut Items<PatternVariable>,
-    names: &mut Names,
+    names: &mut FreeNames,
 ) -> Result<Pattern, Stop>
     ensures { GivesAfter (λ p. p) result (variables.new, names.new) (pattern (seen context.now) form.now depth (variables.old, names.old)) }
 {
     match form.open(context.alloc)? {
-        Opened::Atom(atom) => Ok(Pattern {
+        OpenedTree::Atom(atom) => Ok(Pattern {
             node: PatternNode::Atom(atom),
         }),
-        Opened::Symbol(_) => leaf_pattern(context, form, depth, variables, names),
-        Opened::Pair(_, _) => list_pattern(context, form, depth, variables, names),
-        Opened::Vector(forms) => vector_pattern(context, &forms, depth, variables, names),
+        OpenedTree::Symbol(_) => leaf_pattern(context, form, depth, variables, names),
+        OpenedTree::Pair(_, _) => list_pattern(context, form, depth, variables, names),
+        OpenedTree::Vector(forms) => vector_pattern(context, &forms, depth, variables, names),
     }
 }
 
@@ -362,7 +362,7 @@ fn list_pattern(
     form: &Syn,
     depth: u32,
     variables: &mut Items<PatternVariable>,
-    names: &mut Names,
+    names: &mut FreeNames,
 ) -> Result<Pattern, Stop>
     requires { is_pair form.now ≡ true }
     ensures { GivesAfter (λ p. p) result (variables.new, names.new) (list_pattern (seen context.now) form.now depth (variables.old, names.old)) }
@@ -384,7 +384,7 @@ fn vector_pattern(
     forms: &[Syn],
     depth: u32,
     variables: &mut Items<PatternVariable>,
-    names: &mut Names,
+    names: &mut FreeNames,
 ) -> Result<Pattern, Stop>
     ensures { GivesAfter (λ p. p) result (variables.new, names.new) (vector_pattern (seen context.now) forms.now depth (variables.old, names.old)) }
 {
@@ -400,7 +400,7 @@ fn elements(
     forms: &[Syn],
     depth: u32,
     variables: &mut Items<PatternVariable>,
-    names: &mut Names,
+    names: &mut FreeNames,
 ) -> Result<PatternParts, Stop>
     ensures { GivesAfter (λ p. p) result (variables.new, names.new) (forms_walked (seen context.now) depth forms.now (variables.old, names.old)) }
 {
@@ -426,7 +426,7 @@ fn add_elements(
     elements: &ElementForms,
     parts: &mut PatternParts,
     variables: &mut Items<PatternVariable>,
-    names: &mut Names,
+    names: &mut FreeNames,
 ) -> Result<(), Stop>
     ensures { GivesAfter (λ _. parts.new) result (variables.new, names.new) (walked (seen context.now) elements.now.depth false parts.old (map (with_pattern (seen context.now)) elements.now.forms.now) (variables.old, names.old)) }
 {

@@ -12,7 +12,7 @@ use Rattle.sx_core.specs.PatternView.{elements_of}
 use Rattle.sx_core.specs.Template.{PlainTemplate}
 use Rattle.sx_core.specs.TemplateView as view
 use Rattle.sx_core.specs.declared.pattern.Elements.{Elements}
-use Rattle.sx_core.specs.declared.template.Item.{Item}
+use Rattle.sx_core.specs.declared.template.TemplateItem.{TemplateItem}
 use Rattle.sx_pattern_bytes.specs.Seen.{repeated_parts, split_is, one_dots, item_part, items_are}
 
 -- where one item has no spelling the list has none
@@ -38,6 +38,6 @@ elements_puts part e old mid new p q =
           ∙ sym (ap (λ (z : Split). old ++ ((listed part).put z.0 ++ behind.put z.1)) (split_is e)),
     )
 
-pub items_puts : (part : Codec PlainTemplate) (is : List Item) (old new : List ℕ) (b : Bool) → PutsIf (listed (part then u32)) (map item_part is) old new b → PutsIf (items part) (view.items is) old new b
+pub items_puts : (part : Codec PlainTemplate) (is : List TemplateItem) (old new : List ℕ) (b : Bool) → PutsIf (listed (part then u32)) (map item_part is) old new b → PutsIf (items part) (view.items is) old new b
 unfolding items
 items_puts part is old new b p = subst (λ (z : List (PlainTemplate × ℕ)). PutsIf (listed (part then u32)) z old new b) (sym (items_are is)) p

@@ -12,7 +12,7 @@ use Rattle.sx_core.specs.Template.{PlainTemplate, PlainItems, more}
 use Rattle.sx_core.specs.TemplateView as view
 use Rattle.sx_core.specs.declared.pattern.Elements.{Elements}
 use Rattle.sx_core.specs.declared.pattern.Repeated.{Repeated}
-use Rattle.sx_core.specs.declared.template.Item.{Item}
+use Rattle.sx_core.specs.declared.template.TemplateItem.{TemplateItem}
 use Rattle.sx_tree.specs.Tree.{Tree}
 
 -- the repeated pattern, and those after it
@@ -65,14 +65,14 @@ pattern_more zero h = absurd (omega arith)
 pattern_more (suc room) h = let same : suc room - 1 ≡ room = omega arith in rw same refl
 
 -- an item with its ellipses, as its codec takes it
-abbrev pub item_part : Item → PlainTemplate × ℕ
+abbrev pub item_part : TemplateItem → PlainTemplate × ℕ
 item_part i = (i.template, i.ellipses)
 
-pub items_are : (is : List Item) → item_list (view.items is) ≡ map item_part is
+pub items_are : (is : List TemplateItem) → item_list (view.items is) ≡ map item_part is
 items_are [] = refl
 items_are (i ∷ is) = ap (λ (ys : List (PlainTemplate × ℕ)). item_part i ∷ ys) (items_are is)
 
-pub items_back : (is : List Item) → items_of (map item_part is) ≡ view.items is
+pub items_back : (is : List TemplateItem) → items_of (map item_part is) ≡ view.items is
 items_back [] = refl
 items_back (i ∷ is) = ap (λ (ys : PlainItems). more i.template i.ellipses ys) (items_back is)
 

@@ -6,30 +6,30 @@ use std::mem::forget;
 
 /// Something that is being read. Where the bytes turn out to be no spelling it is given up and not dropped: a drop takes as
 /// many frames of the stack as there are levels in it, each larger than those of reading, and an entry may have 8,192.
-pub struct Held<T> {
+pub struct HeldReading<T> {
     pub value: T,
 }
 
-impl<T: Drop> Drop for Held<T> {
+impl<T: Drop> Drop for HeldReading<T> {
     fn drop(self) {
-        let Held { value } = self;
+        let HeldReading { value } = self;
         forget(value);
     }
 }
 
-impl<T> Held<T> {
+impl<T> HeldReading<T> {
     /// Holds what is being read.
-    pub fn new(value: T) -> Held<T>
+    pub fn new(value: T) -> HeldReading<T>
         ensures { result.value ≡ value }
     {
-        Held { value }
+        HeldReading { value }
     }
 
     /// What was held.
     pub fn take(self) -> T
         ensures { result ≡ self.value }
     {
-        let Held { value } = self;
+        let HeldReading { value } = self;
         value
     }
 }

@@ -12,10 +12,10 @@ use std::alloc::Global;
 use std::boxed::Box;
 use sx_base::memory::Memory;
 use sx_base::name::Label;
-use sx_bytes::libraries::Libraries;
+use sx_bytes::libraries::RecentLibraries;
 use sx_bytes::numbers::{put_u32, put_u64, u32_at, u64_at};
 use sx_bytes::spelled::Spelled;
-use sx_core::template::{Item, Template, TemplateNode};
+use sx_core::template::{TemplateItem, Template, TemplateNode};
 use sx_tree_bytes::trees::{put_tree, tree_at};
 
 /// How high the tree of a constant may be.
@@ -76,7 +76,7 @@ fn put_list(
     out: &mut Vec<u8>,
     alloc: Global,
     room: u32,
-    list: &[Item],
+    list: &[TemplateItem],
     tail: &Template,
 ) -> Result<bool, Memory>
     ensures { IfOk result (λ b.
@@ -94,14 +94,14 @@ fn put_list(
 
 #[cycle(template_put)]
 #[tactic(auto, unfolding(sx_codec::specs::Code::items), using(crate::specs::Seen::items_are))]
-fn put_items(out: &mut Vec<u8>, alloc: Global, room: u32, list: &[Item]) -> Result<bool, Memory>
+fn put_items(out: &mut Vec<u8>, alloc: Global, room: u32, list: &[TemplateItem]) -> Result<bool, Memory>
     ensures { IfOk result (λ b. PutsIf (spell.items (spell.template room)) (items list.now) out.old.items out.new.items b) }
 {
     put_all(out, alloc, room, list)
 }
 
 #[cycle(template_put)]
-fn put_all(out: &mut Vec<u8>, alloc: Global, room: u32, list: &[Item]) -> Result<bool, Memory>
+fn put_all(out: &mut Vec<u8>, alloc: Global, room: u32, list: &[TemplateItem]) -> Result<bool, Memory>
     ensures { IfOk result (λ b. PutsIf (listed (spell.template room then u32)) (map item_part list.now) out.old.items out.new.items b) }
 {
     put_u64(out, list.len() as u64)?;
@@ -114,7 +114,7 @@ fn put_all(out: &mut Vec<u8>, alloc: Global, room: u32, list: &[Item]) -> Result
 }
 
 #[cycle(template_put)]
-fn put_item(out: &mut Vec<u8>, alloc: Global, room: u32, item: &Item) -> Result<bool, Memory>
+fn put_item(out: &mut Vec<u8>, alloc: Global, room: u32, item: &TemplateItem) -> Result<bool, Memory>
     ensures { IfOk result (λ b. PutsIf (spell.template room then u32) (item_part item.now) out.old.items out.new.items b) }
 {
     if !put_template(out, alloc, room, &item.template)? {
@@ -128,7 +128,7 @@ fn put_item(out: &mut Vec<u8>, alloc: Global, room: u32, item: &Item) -> Result<
 #[cycle(template_read)]
 #[tactic(auto, using(crate::specs::Seen::template_none, crate::specs::Seen::template_more))]
 pub fn template_at<'a>(
-    libraries: &mut Libraries,
+    libraries: &mut RecentLibraries,
     room: u32,
     bytes: &'a [u8],
 ) -> Result<Option<(Template, &'a [u8])>, Memory>
@@ -146,7 +146,7 @@ pub fn template_at<'a>(
 #[cycle(template_read)]
 #[tactic(auto, unfolding(sx_codec::specs::Code::template_level))]
 fn node_at<'a>(
-    libraries: &mut Libraries,
+    libraries: &mut RecentLibraries,
     room: u32,
     bytes: &'a [u8],
 ) -> Result<Option<(TemplateNode, &'a [u8])>, Memory>
@@ -178,39 +178,39 @@ fn node_at<'a>(
 
 /// A pattern variable, with its depth.
 #[derive(Drop)]
-struct Variable {
+struct VariableBytes {
     label: Label,
     depth: u32,
 }
 
 fn variable_at<'a>(
-    libraries: &mut Libraries,
+    libraries: &mut RecentLibraries,
     bytes: &'a [u8],
-) -> Result<Option<(Variable, &'a [u8])>, Memory>
+) -> Result<Option<(VariableBytes, &'a [u8])>, Memory>
     ensures { IfOk result (λ o. option_map (λ x. ((x.0.label, x.0.depth), x.1.now)) o ≡ (label then u32).get bytes.now) }
 {
     let Some((label, rest)) = Label::at(libraries, bytes)? else {
         return Ok(None);
     };
     match u32_at(rest) {
-        Some((depth, rest)) => Ok(Some((Variable { label, depth }, rest))),
+        Some((depth, rest)) => Ok(Some((VariableBytes { label, depth }, rest))),
         None => Ok(None),
     }
 }
 
 /// The items of a list, and its tail.
 #[derive(Drop)]
-struct ListParts {
-    items: Vec<Item>,
+struct ItemsAndTail {
+    items: Vec<TemplateItem>,
     tail: Box<Template>,
 }
 
 #[cycle(template_read)]
 fn list_at<'a>(
-    libraries: &mut Libraries,
+    libraries: &mut RecentLibraries,
     room: u32,
     bytes: &'a [u8],
-) -> Result<Option<(ListParts, &'a [u8])>, Memory>
+) -> Result<Option<(ItemsAndTail, &'a [u8])>, Memory>
     ensures { IfOk result (λ o. option_map (λ x. ((items x.0.items.items, x.0.tail.value), x.1.now)) o
         ≡ (spell.items (spell.template room) then spell.template room).get bytes.now) }
 {
@@ -221,16 +221,16 @@ fn list_at<'a>(
         return Ok(None);
     };
     let tail = Box::new(libraries.alloc(), tail)?;
-    Ok(Some((ListParts { items, tail }, rest)))
+    Ok(Some((ItemsAndTail { items, tail }, rest)))
 }
 
 #[cycle(template_read)]
 #[tactic(auto, unfolding(sx_codec::specs::Code::items), using(crate::specs::Seen::items_back))]
 fn items_at<'a>(
-    libraries: &mut Libraries,
+    libraries: &mut RecentLibraries,
     room: u32,
     bytes: &'a [u8],
-) -> Result<Option<(Vec<Item>, &'a [u8])>, Memory>
+) -> Result<Option<(Vec<TemplateItem>, &'a [u8])>, Memory>
     ensures { IfOk result (λ o. option_map (λ x. (items x.0.items, x.1.now)) o ≡ (spell.items (spell.template room)).get bytes.now) }
 {
     match all_at(libraries, room, bytes)? {
@@ -241,10 +241,10 @@ fn items_at<'a>(
 
 #[cycle(template_read)]
 fn all_at<'a>(
-    libraries: &mut Libraries,
+    libraries: &mut RecentLibraries,
     room: u32,
     bytes: &'a [u8],
-) -> Result<Option<(Vec<Item>, &'a [u8])>, Memory>
+) -> Result<Option<(Vec<TemplateItem>, &'a [u8])>, Memory>
     ensures { IfOk result (λ o. option_map (λ x. (map item_part x.0.items, x.1.now)) o ≡ (listed (spell.template room then u32)).get bytes.now) }
 {
     match u64_at(bytes) {
@@ -255,11 +255,11 @@ fn all_at<'a>(
 
 #[cycle(template_read)]
 fn some_items<'a>(
-    libraries: &mut Libraries,
+    libraries: &mut RecentLibraries,
     room: u32,
     count: u64,
     bytes: &'a [u8],
-) -> Result<Option<(Vec<Item>, &'a [u8])>, Memory>
+) -> Result<Option<(Vec<TemplateItem>, &'a [u8])>, Memory>
     ensures { IfOk result (λ o. option_map (λ x. (map item_part x.0.items, x.1.now)) o ≡ some_get (spell.template room then u32).get count bytes.now) }
 {
     let mut list = Vec::new(libraries.alloc());
@@ -276,17 +276,17 @@ fn some_items<'a>(
 
 #[cycle(template_read)]
 fn item_at<'a>(
-    libraries: &mut Libraries,
+    libraries: &mut RecentLibraries,
     room: u32,
     bytes: &'a [u8],
-) -> Result<Option<(Item, &'a [u8])>, Memory>
+) -> Result<Option<(TemplateItem, &'a [u8])>, Memory>
     ensures { IfOk result (λ o. option_map (λ x. (item_part x.0, x.1.now)) o ≡ (spell.template room then u32).get bytes.now) }
 {
     let Some((template, rest)) = template_at(libraries, room, bytes)? else {
         return Ok(None);
     };
     match u32_at(rest) {
-        Some((ellipses, rest)) => Ok(Some((Item { template, ellipses }, rest))),
+        Some((ellipses, rest)) => Ok(Some((TemplateItem { template, ellipses }, rest))),
         None => Ok(None),
     }
 }

@@ -19,13 +19,13 @@ use Rattle.sx_core.specs.declared.core_form.CoreForm.TheVariants as form
 use Rattle.sx_shapes.specs.Lists.{is_leaf, elements, tail_of}
 use Rattle.sx_value.specs.Cells.{Each}
 use Rattle.sx_pattern.specs.Keywords.{is_form, is_ellipsis, first_ellipsis}
-use Rattle.sx_pattern.specs.Compile.{Context, Taken, Element, bad, may_be_literal, literals_checked, is_literal, is_known, new_variable, leaf_pattern, no_parts, with_part, parts_of, pattern, element_patterns, tail_pattern, with_pattern, walked, forms_walked, list_pattern, list_with, vector_with, with_variables}
+use Rattle.sx_pattern.specs.Compile.{PatternScope, Taken, Element, bad, may_be_literal, literals_checked, is_literal, is_known, new_variable, leaf_pattern, no_parts, with_part, parts_of, pattern, element_patterns, tail_pattern, with_pattern, walked, forms_walked, list_pattern, list_with, vector_with, with_variables}
 use Rattle.sx_pattern.specs.declared.compile.PatternVariable.{PatternVariable}
 use Rattle.sx_pattern.proofs.Walks.{pattern_stop, part_stop, forms_on}
 use Rattle.sx_shape_laws.specs.Grammar.{IsId}
 use Rattle.sx_shape_laws.specs.Grammar as g
-use Rattle.sx_shape_laws.specs.Records.{IsWord}
-use Rattle.sx_pattern_laws.specs.Patterns.{IsPlain, AreLiterals, IsAmong, IsChain, IsPattern, AreElements, AreOthers, IsNew, AreNew, next_name, AreNumbered, IsPart, IsIn, IsBadPattern, PatternsAreCompiled, IsTold, OthersAreBadPatterns}
+use Rattle.sx_shape_laws.specs.Records.{IsKeywordIdentifier}
+use Rattle.sx_pattern_laws.specs.Patterns.{IsPlain, AreLiterals, IsAmong, IsChain, IsPattern, AreElements, AreOthers, IsNew, AreNew, next_name, AreNumbered, IsPartOfForm, IsIn, IsBadPattern, PatternsAreCompiled, IsTold, OthersAreBadPatterns}
 use Rattle.sx_pattern_laws.specs.Patterns as r
 use Rattle.sx_pattern_laws.proofs.Words.{an-id, id-is, form-is, ellipsis-is, underscore-is, no-ellipsis, untold}
 
@@ -116,17 +116,17 @@ chain-tail (r.chain_ends {r = e} h) = by e h
     by (vector s d) k = refl
 chain-tail (r.chain_next h) = chain-tail h
 
-in-rest : {u : Tree} {s : Option Span} {a d : Tree} → IsPart u d → IsPart u (pair s a d)
+in-rest : {u : Tree} {s : Option Span} {a d : Tree} → IsPartOfForm u d → IsPartOfForm u (pair s a d)
 in-rest h = r.in_rest h
 
-pub element-part : (u x t : Tree) → IsIn x (elements t) → IsPart u x → IsPart u t
+pub element-part : (u x t : Tree) → IsIn x (elements t) → IsPartOfForm u x → IsPartOfForm u t
 element-part u x (atom s a) h k = elim h [ ]
 element-part u x (leaf s y c) h k = elim h [ ]
 element-part u _ (pair s a d) r.is_first k = r.in_first k
 element-part u x (pair s a d) (r.is_behind h) k = r.in_rest (element-part u x d h k)
 element-part u x (vector s d) h k = elim h [ ]
 
-pub tail-part : (u t : Tree) → IsPart u (tail_of t) → IsPart u t
+pub tail-part : (u t : Tree) → IsPartOfForm u (tail_of t) → IsPartOfForm u t
 tail-part u (atom s a) h = h
 tail-part u (leaf s x c) h = h
 tail-part u (pair s a d) h = r.in_rest (tail-part u d h)
@@ -160,7 +160,7 @@ module _ (fs : Scope) (literals : List Tree) where
 
 -- Lists, by their elements.
 
-module _ (c : Context) where
+module _ (c : PatternScope) where
   elements-are : (t : Tree) → element_patterns c t ≡ map (with_pattern c) (elements t)
   elements-are (atom s a) = refl
   elements-are (leaf s x k) = refl
@@ -192,7 +192,7 @@ module _ (c : Context) where
 
   record IsBadAt (t : Tree) (f : Fault) : Type 0 where
     pub at : Tree
-    pub part : IsPart at t
+    pub part : IsPartOfForm at t
     pub is : f ≡ bad c.place at
 
   abbrev Tells : ℕ → Tree → Taken → Result (PlainPattern × Taken) Fault → Type 0
@@ -284,10 +284,10 @@ module _ (c : Context) where
       by true k = subst (λ x. IsIn e (x ∷ ts)) (let f : e ≡ t = cc in f) r.is_first
       by false k = absurd (cc)
 
-  first-is : (e t : Tree) (ts : List Tree) → Some e ≡ first_ellipsis c.frames (t ∷ ts) → IsWord c.frames form.Ellipsis t
+  first-is : (e t : Tree) (ts : List Tree) → Some e ≡ first_ellipsis c.frames (t ∷ ts) → IsKeywordIdentifier c.frames form.Ellipsis t
   first-is e t ts h = by (is_ellipsis c.frames t) refl h
     where
-      by : (b : Bool) → is_ellipsis c.frames t ≡ b → Some e ≡ (if b then Some t else None) → IsWord c.frames form.Ellipsis t
+      by : (b : Bool) → is_ellipsis c.frames t ≡ b → Some e ≡ (if b then Some t else None) → IsKeywordIdentifier c.frames form.Ellipsis t
       by true k j = form-is c.frames form.Ellipsis t k
       by false k j = absurd (cc)
 
@@ -322,7 +322,7 @@ module _ (c : Context) where
     }
     elements-on before p new (Err f) a b = bad-behind t ts f b
 
-  dots-on : (depth : ℕ) (t e : Tree) (ts : List Tree) (s : Taken) (before : List PlainPattern) (p : PlainPattern) (new : Taken) (total : Result (Parts × Taken) Fault) → IsWord c.frames form.Ellipsis e → Gave (depth + 1) t s (p, new)
+  dots-on : (depth : ℕ) (t e : Tree) (ts : List Tree) (s : Taken) (before : List PlainPattern) (p : PlainPattern) (new : Taken) (total : Result (Parts × Taken) Fault) → IsKeywordIdentifier c.frames form.Ellipsis e → Gave (depth + 1) t s (p, new)
       → TellsOthers depth ts (parts-with before (Some p) []) new total → TellsElements depth (t ∷ e ∷ ts) (parts-with before None []) s total
   dots-on depth t e ts s before p new (Ok x) w a b = record {
     us = a.us ++ b.us;

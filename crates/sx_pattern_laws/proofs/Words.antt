@@ -14,7 +14,7 @@ use Rattle.sx_core.specs.declared.core_form.CoreForm.TheVariants as form
 use Rattle.sx_shapes.specs.Lists.{is_leaf}
 use Rattle.sx_shape_laws.specs.Grammar.{IsId}
 use Rattle.sx_shape_laws.specs.Grammar as g
-use Rattle.sx_shape_laws.specs.Records.{keyword_label, IsWord}
+use Rattle.sx_shape_laws.specs.Records.{keyword_label, IsKeywordIdentifier}
 use Rattle.sx_pattern.specs.Keywords.{is_form, is_ellipsis}
 
 pub an-id : (t : Tree) → is_leaf t ≡ true → IsId t
@@ -39,21 +39,21 @@ form-label f l h =
     let k = (same_library_decides l.0.library library.Core).0 (second_so (nat_eq l.0.number (number f)) (same_library l.0.library library.Core) h) in
     λ i. record { 0 = record { library = k i; number = n i } }
 
-pub form-is : (fs : Scope) (f : CoreForm) (t : Tree) → is_form f (stands fs t) ≡ true → IsWord fs f t
+pub form-is : (fs : Scope) (f : CoreForm) (t : Tree) → is_form f (stands fs t) ≡ true → IsKeywordIdentifier fs f t
 form-is fs f t h = by (stands fs t) refl h
   where
-    by : (o : Option Label) → stands fs t ≡ o → is_form f o ≡ true → IsWord fs f t
+    by : (o : Option Label) → stands fs t ≡ o → is_form f o ≡ true → IsKeywordIdentifier fs f t
     by None e k = absurd (cc)
     by (Some l) e k = record { is_id = no-word fs t l e; label = e ∙ ap Some (form-label f l k) }
 
 -- the tests of the two words, where it is known what an identifier stands for
-pub ellipsis-is : (fs : Scope) (t : Tree) → IsWord fs form.Ellipsis t → is_ellipsis fs t ≡ true
+pub ellipsis-is : (fs : Scope) (t : Tree) → IsKeywordIdentifier fs form.Ellipsis t → is_ellipsis fs t ≡ true
 ellipsis-is fs t w = ap (is_form form.Ellipsis) w.label
 
-pub underscore-is : (fs : Scope) (t : Tree) → IsWord fs form.Underscore t → is_form form.Underscore (stands fs t) ≡ true
+pub underscore-is : (fs : Scope) (t : Tree) → IsKeywordIdentifier fs form.Underscore t → is_form form.Underscore (stands fs t) ≡ true
 underscore-is fs t w = ap (is_form form.Underscore) w.label
 
-pub no-ellipsis : (fs : Scope) (t : Tree) → IsWord fs form.Underscore t → is_ellipsis fs t ≡ false
+pub no-ellipsis : (fs : Scope) (t : Tree) → IsKeywordIdentifier fs form.Underscore t → is_ellipsis fs t ≡ false
 no-ellipsis fs t w = ap (is_form form.Ellipsis) w.label
 
 pub untold : (b : Bool) → (b ≡ true → ⊥) → b ≡ false

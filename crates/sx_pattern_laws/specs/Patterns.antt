@@ -15,8 +15,8 @@ use Rattle.sx_core.specs.declared.core_form.CoreForm.TheVariants as form
 use Rattle.sx_shapes.specs.At.{fault_at}
 use Rattle.sx_shapes.specs.Lists.{elements}
 use Rattle.sx_shape_laws.specs.Grammar.{IsId}
-use Rattle.sx_shape_laws.specs.Records.{IsWord}
-use Rattle.sx_pattern.specs.Compile.{Context, compiled}
+use Rattle.sx_shape_laws.specs.Records.{IsKeywordIdentifier}
+use Rattle.sx_pattern.specs.Compile.{PatternScope, compiled}
 use Rattle.sx_pattern.specs.declared.compile.Compiled.{Compiled}
 use Rattle.sx_pattern.specs.declared.compile.PatternVariable.{PatternVariable}
 
@@ -25,8 +25,8 @@ use Rattle.sx_pattern.specs.declared.compile.PatternVariable.{PatternVariable}
 -- an identifier that stands neither for the ellipsis nor for the underscore
 pub record IsPlain (fs : Scope) (t : Tree) : Type 0 where
   pub is_id : IsId t
-  pub no_ellipsis : IsWord fs form.Ellipsis t → ⊥
-  pub no_underscore : IsWord fs form.Underscore t → ⊥
+  pub no_ellipsis : IsKeywordIdentifier fs form.Ellipsis t → ⊥
+  pub no_underscore : IsKeywordIdentifier fs form.Underscore t → ⊥
 
 -- each literal is such an identifier
 abbrev pub AreLiterals : Scope → List Tree → Type 0
@@ -47,7 +47,7 @@ pub data IsChain : List Tree → Tree → Tree → Type 0 where
 mutual
   pub data IsPattern (fs : Scope) (literals : List Tree) : ℕ → Tree → List PatternVariable → PlainPattern → Type 0 where
     -- `_`
-    an_underscore : {depth : ℕ} {t : Tree} → IsWord fs form.Underscore t → IsPattern fs literals depth t [] any
+    an_underscore : {depth : ℕ} {t : Tree} → IsKeywordIdentifier fs form.Underscore t → IsPattern fs literals depth t [] any
     a_literal : {depth : ℕ} {t : Tree} → IsPlain fs t → IsAmong t literals → IsPattern fs literals depth t [] (literal t)
     -- any other identifier but the ellipsis
     a_variable : {depth : ℕ} {t : Tree} {l : Label} → IsPlain fs t → (IsAmong t literals → ⊥) → IsPattern fs literals depth t (record { id = t; label = l; depth = depth } ∷ []) (variable l)
@@ -64,7 +64,7 @@ mutual
     an_element : {depth : ℕ} {x : Tree} {xs : List Tree} {us ws : List PatternVariable} {p : PlainPattern} {ps : PlainPatterns}
         → IsPattern fs literals depth x us p → AreElements fs literals depth xs ws ps → AreElements fs literals depth (x ∷ xs) (us ++ ws) (more p ps)
     an_ellipsis : {depth : ℕ} {x e : Tree} {xs : List Tree} {us ws : List PatternVariable} {p : PlainPattern} {ps : PlainPatterns}
-        → IsPattern fs literals (depth + 1) x us p → IsWord fs form.Ellipsis e → AreOthers fs literals depth xs ws ps → AreElements fs literals depth (x ∷ e ∷ xs) (us ++ ws) (dots p ps)
+        → IsPattern fs literals (depth + 1) x us p → IsKeywordIdentifier fs form.Ellipsis e → AreOthers fs literals depth xs ws ps → AreElements fs literals depth (x ∷ e ∷ xs) (us ++ ws) (dots p ps)
 
   -- elements without an ellipsis
   pub data AreOthers (fs : Scope) (literals : List Tree) : ℕ → List Tree → List PatternVariable → PlainPatterns → Type 0 where
@@ -91,36 +91,36 @@ AreNumbered n [] m = n ≡ m
 AreNumbered n (v ∷ vs) m = (v.label ≡ record { 0 = n }) × AreNumbered (next_name n) vs m
 
 -- a form with the pattern that it is
-pub record IsCompiled (c : Context) (t : Tree) (n : Named) (r : Compiled × Named) : Type 0 where
+pub record IsCompiled (c : PatternScope) (t : Tree) (n : Named) (r : Compiled × Named) : Type 0 where
   pub are_literals : AreLiterals c.frames c.literals
   pub is_pattern : IsPattern c.frames c.literals 0 t r.0.variables r.0.pattern
   pub new : AreNew [] r.0.variables
   pub numbered : AreNumbered n r.0.variables r.1
 
 -- a form, or one inside it
-pub data IsPart (u : Tree) : Tree → Type 0 where
-  itself : IsPart u u
-  in_first : {span : Option Span} {a d : Tree} → IsPart u a → IsPart u (pair span a d)
-  in_rest : {span : Option Span} {a d : Tree} → IsPart u d → IsPart u (pair span a d)
-  in_vector : {span : Option Span} {t : Tree} → IsPart u t → IsPart u (vector span t)
+pub data IsPartOfForm (u : Tree) : Tree → Type 0 where
+  itself : IsPartOfForm u u
+  in_first : {span : Option Span} {a d : Tree} → IsPartOfForm u a → IsPartOfForm u (pair span a d)
+  in_rest : {span : Option Span} {a d : Tree} → IsPartOfForm u d → IsPartOfForm u (pair span a d)
+  in_vector : {span : Option Span} {t : Tree} → IsPartOfForm u t → IsPartOfForm u (vector span t)
 
 pub data IsIn (u : Tree) : List Tree → Type 0 where
   is_first : {ts : List Tree} → IsIn u (u ∷ ts)
   is_behind : {t : Tree} {ts : List Tree} → IsIn u ts → IsIn u (t ∷ ts)
 
 -- BadPattern at a literal, or at a part of the form
-pub data IsBadPattern (c : Context) (t : Tree) : Fault → Type 0 where
+pub data IsBadPattern (c : PatternScope) (t : Tree) : Fault → Type 0 where
   bad_literal : {u : Tree} → IsIn u c.literals → IsBadPattern c t (fault_at kind.BadPattern u c.place [])
-  bad_part : {u : Tree} → IsPart u t → IsBadPattern c t (fault_at kind.BadPattern u c.place [])
+  bad_part : {u : Tree} → IsPartOfForm u t → IsBadPattern c t (fault_at kind.BadPattern u c.place [])
 
 -- what is a pattern is compiled to it
 abbrev pub PatternsAreCompiled : Type 0
-PatternsAreCompiled = (c : Context) (t : Tree) (n : Named) (r : Compiled × Named) → IsCompiled c t n r → compiled c t n ≡ Ok r
+PatternsAreCompiled = (c : PatternScope) (t : Tree) (n : Named) (r : Compiled × Named) → IsCompiled c t n r → compiled c t n ≡ Ok r
 
 -- what is compiled is a pattern, and else the fault is BadPattern
-abbrev pub IsTold : Context → Tree → Named → Result (Compiled × Named) Fault → Type 0
+abbrev pub IsTold : PatternScope → Tree → Named → Result (Compiled × Named) Fault → Type 0
 IsTold c t n (Ok r) = IsCompiled c t n r
 IsTold c t n (Err f) = IsBadPattern c t f
 
 abbrev pub OthersAreBadPatterns : Type 0
-OthersAreBadPatterns = (c : Context) (t : Tree) (n : Named) → IsTold c t n (compiled c t n)
+OthersAreBadPatterns = (c : PatternScope) (t : Tree) (n : Named) → IsTold c t n (compiled c t n)

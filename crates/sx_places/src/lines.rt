@@ -4,7 +4,7 @@ ghost use Rattle.std.specs.Prelude.{◌≡◌, ◌≤◌, ℕ, List, length};
 ghost use Rattle.sx_base.specs.Place.{place};
 ghost use Rattle.sx_places.specs.Lines.{line, column};
 
-use sx_base::place::place_of;
+use sx_base::place::line_and_column;
 
 /// The line and the column of an offset, both from 1: 1 plus the number of line ends that end at or
 /// before it, and 1 plus the number of characters that begin at or after the end of the last of
@@ -14,7 +14,7 @@ pub fn counted_place(source: &[u8], offset: u32) -> (u64, u64)
     ensures line { result.0 ≡ line source.now offset }
     ensures column { result.1 ≡ column source.now offset }
 {
-    place_of(source, offset)
+    line_and_column(source, offset)
 }
 
 /// The place that `sx_base` defines by its walk is the counted line and column, for every source and

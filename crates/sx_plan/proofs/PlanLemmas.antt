@@ -5,7 +5,7 @@ use Rattle.std.proofs.Common.{inl, inr}
 use Rattle.std.specs.List.{Contains}
 use Rattle.std.proofs.lemmas.List.{reverse-append, reverse-reverse}
 use Rattle.std.proofs.lemmas.List.Sums.{count_by-le-length}
-use Rattle.sx_core.specs.declared.record.LibRecord.{LibRecord}
+use Rattle.sx_core.specs.declared.record.CompiledLibrary.{CompiledLibrary}
 use Rattle.sx_plan.specs.Plan.{RisesFrom, IsPlan}
 use Rattle.sx_plan.specs.Work.{Work, follow, marked_from}
 use Rattle.sx_plan.proofs.MarkLemmas.{contains_later, contains_cases}
@@ -53,12 +53,12 @@ one_rising low (x ∷ xs) (y ∷ ys) r s h k =
     let further : RisesFrom (suc x) ys = subst (λ n. RisesFrom (suc n) ys) (sym same) s.1 in
     ap (λ n. n ∷ xs) same ∙ ap (λ ns. y ∷ ns) (one_rising (suc x) xs ys r.1 further (rest_within low x y xs ys r same h) (rest_within low y x ys xs s (sym same) k))
 
-one_plan : (records : List LibRecord) (program : LibRecord) (p q : List ℕ) → IsPlan records program p → IsPlan records program q → p ≡ q
+one_plan : (records : List CompiledLibrary) (program : CompiledLibrary) (p q : List ℕ) → IsPlan records program p → IsPlan records program q → p ≡ q
 one_plan records program p q a b = one_rising 0 p q a.rising b.rising (λ n c. (b.exact n).1 ((a.exact n).0 c)) (λ n c. (a.exact n).1 ((b.exact n).0 c))
 
 -- ---- what waits is followed to its end
 
-module _ (records : List LibRecord) (program : LibRecord) where
+module _ (records : List CompiledLibrary) (program : CompiledLibrary) where
   turned : (w : Work) (p : ℕ) (ps : List ℕ) → reverse w.waiting ≡ p ∷ ps → w.waiting ≡ reverse ps ++ p ∷ []
   turned w p ps e = sym (reverse-reverse w.waiting) ∙ ap reverse e ∙ reverse-append (p ∷ []) ps
 

@@ -8,7 +8,7 @@ use Rattle.std.proofs.lemmas.List.Elements.{Contains-push, Contains-push_cases, 
 use Rattle.std.proofs.lemmas.List.Sums.{sum_by-set}
 use Rattle.std.proofs.lemmas.Option.{slice_get-get_or, get_or_from_slice_get}
 use Rattle.sx_base.specs.declared.library.LibName.{LibName}
-use Rattle.sx_core.specs.declared.record.LibRecord.{LibRecord}
+use Rattle.sx_core.specs.declared.record.CompiledLibrary.{CompiledLibrary}
 use Rattle.sx_plan.specs.Places.{place_of}
 use Rattle.sx_plan.specs.Plan.{Reached, mentioned, further, IsPlan}
 use Rattle.sx_plan.specs.Work.{Work, no_marks, marked_now, reach, reach_there, reach_each, follow_record, follow, marked_from}
@@ -27,7 +27,7 @@ none_marked zero p k = cc
 none_marked (suc n) zero k = cc
 none_marked (suc n) (suc p) k = none_marked n p k
 
-module _ (records : List LibRecord) (program : LibRecord) where
+module _ (records : List CompiledLibrary) (program : CompiledLibrary) where
   -- the records of these libraries are marked
   abbrev pub AllMarked : List LibName → Work → Type 0
   AllMarked names w = (name : LibName) (p : ℕ) → Contains names name → place_of records name ≡ Some p → marked w p ≡ true
@@ -40,7 +40,7 @@ module _ (records : List LibRecord) (program : LibRecord) where
 
   -- the references of what is marked are marked, but of what waits and of the exceptions
   abbrev pub Followed : (ℕ → Type 0) → Work → Type 0
-  Followed except w = (p : ℕ) (r : LibRecord) → marked w p ≡ true → slice_get records p ≡ Some r → except p ⊎ (Contains w.waiting p ⊎ AllMarked r.refs w)
+  Followed except w = (p : ℕ) (r : CompiledLibrary) → marked w p ≡ true → slice_get records p ≡ Some r → except p ⊎ (Contains w.waiting p ⊎ AllMarked r.refs w)
 
   -- what a step adds waits, and nothing is lost
   pub record Grows (v w : Work) : Type 0 where
@@ -229,11 +229,11 @@ module _ (records : List LibRecord) (program : LibRecord) where
       still : (p : ℕ) → Contains w.waiting p → Contains v.waiting p
       still p c = subst (λ ws. Contains ws p) (sym e) (Contains-append_left w.waiting (place ∷ []) p c)
 
-      rest : (p : ℕ) (r : LibRecord) → Contains w.waiting p ⊎ (place ≡ p) → (p ≡ place) ⊎ (Contains w.waiting p ⊎ AllMarked r.refs w)
+      rest : (p : ℕ) (r : CompiledLibrary) → Contains w.waiting p ⊎ (place ≡ p) → (p ≡ place) ⊎ (Contains w.waiting p ⊎ AllMarked r.refs w)
       rest p r (inl c) = inr (inl c)
       rest p r (inr is) = inl (sym is)
 
-      left : (p : ℕ) (r : LibRecord) → ⊥ ⊎ (Contains v.waiting p ⊎ AllMarked r.refs v) → (p ≡ place) ⊎ (Contains w.waiting p ⊎ AllMarked r.refs w)
+      left : (p : ℕ) (r : CompiledLibrary) → ⊥ ⊎ (Contains v.waiting p ⊎ AllMarked r.refs v) → (p ≡ place) ⊎ (Contains w.waiting p ⊎ AllMarked r.refs w)
       left p r (inl never) = absurd never
       left p r (inr (inl c)) = rest p r (Contains-push_cases w.waiting place p (subst (λ ws. Contains ws p) e c))
       left p r (inr (inr all)) = inr (inr (λ name q c is. back q (all name q c is)))
@@ -244,10 +244,10 @@ module _ (records : List LibRecord) (program : LibRecord) where
   unfolding follow
   follow_grows w place s there f begun = go (slice_get records place) refl
     where
-      go : (o : Option LibRecord) → slice_get records place ≡ o → Known (follow_record records o w) × (weight (follow_record records o w) ≤ weight w)
+      go : (o : Option CompiledLibrary) → slice_get records place ≡ o → Known (follow_record records o w) × (weight (follow_record records o w) ≤ weight w)
       go None e = (record { sound = s; followed = λ p r m is. none p r is (f p r m is); begun = begun }, omega arith)
         where
-          none : (p : ℕ) (r : LibRecord) → slice_get records p ≡ Some r → (p ≡ place) ⊎ (Contains w.waiting p ⊎ AllMarked r.refs w) → ⊥ ⊎ (Contains w.waiting p ⊎ AllMarked r.refs w)
+          none : (p : ℕ) (r : CompiledLibrary) → slice_get records p ≡ Some r → (p ≡ place) ⊎ (Contains w.waiting p ⊎ AllMarked r.refs w) → ⊥ ⊎ (Contains w.waiting p ⊎ AllMarked r.refs w)
           none p r is (inl at) = absurd (let here : slice_get records place ≡ Some r = ap (slice_get records) (sym at) ∙ is in cc)
           none p r is (inr x) = inr x
       go (Some here) e =
@@ -260,13 +260,13 @@ module _ (records : List LibRecord) (program : LibRecord) where
             g.0.lighter,
           )
         where
-          done : (p : ℕ) (r : LibRecord) → slice_get records p ≡ Some r → AllMarked here.refs (reach_each records here.refs w)
+          done : (p : ℕ) (r : CompiledLibrary) → slice_get records p ≡ Some r → AllMarked here.refs (reach_each records here.refs w)
               → (p ≡ place) ⊎ (Contains (reach_each records here.refs w).waiting p ⊎ AllMarked r.refs (reach_each records here.refs w))
               → ⊥ ⊎ (Contains (reach_each records here.refs w).waiting p ⊎ AllMarked r.refs (reach_each records here.refs w))
           done p r is all (inl at) =
               let there : slice_get records place ≡ Some r = ap (slice_get records) (sym at) ∙ is in
               let same : here ≡ r = cc in
-              inr (inr (subst (λ (x : LibRecord). AllMarked x.refs (reach_each records here.refs w)) same all))
+              inr (inr (subst (λ (x : CompiledLibrary). AllMarked x.refs (reach_each records here.refs w)) same all))
           done p r is all (inr x) = inr x
 
   -- one turn of the loop
@@ -301,7 +301,7 @@ module _ (records : List LibRecord) (program : LibRecord) where
   })
 
 -- the loop over references takes the steps of its definition
-module _ (records : List LibRecord) (names : List LibName) (i : ℕ) (w whole : Work) where
+module _ (records : List CompiledLibrary) (names : List LibName) (i : ℕ) (w whole : Work) where
   pub each_on : (name : LibName) (place : Option ℕ) → i < length names → name ≡ get_or names i name → place ≡ place_of records name
       → reach_each records (drop i names) w ≡ whole → reach_each records (drop (i + 1) names) (reach_there place w) ≡ whole
   unfolding reach_each

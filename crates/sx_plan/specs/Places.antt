@@ -6,14 +6,14 @@ use Rattle.std.specs.Ordering.{is_eq}
 use Rattle.sx_base.specs.NameOrder.{library_cmp}
 use Rattle.sx_base.specs.Same.{same_library}
 use Rattle.sx_base.specs.declared.library.LibName.{LibName}
-use Rattle.sx_core.specs.declared.record.LibRecord.{LibRecord}
+use Rattle.sx_core.specs.declared.record.CompiledLibrary.{CompiledLibrary}
 
-abbrev pub place_from : ℕ → LibName → List LibRecord → Option ℕ
+abbrev pub place_from : ℕ → LibName → List CompiledLibrary → Option ℕ
 place_from i name [] = None
 place_from i name (r ∷ rs) = if same_library r.name name then Some i else place_from (suc i) name rs
 
 -- where the record of a library stands: the first of that name
-abbrev pub place_of : List LibRecord → LibName → Option ℕ
+abbrev pub place_of : List CompiledLibrary → LibName → Option ℕ
 place_of records name = place_from 0 name records
 
 -- the place that a table has for a library

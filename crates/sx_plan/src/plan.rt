@@ -10,11 +10,11 @@ use std::alloc::Global;
 use std::collections::BTreeMap;
 use sx_base::library::LibName;
 use sx_base::memory::Memory;
-use sx_core::record::LibRecord;
+use sx_core::record::CompiledLibrary;
 
 // What is known of a plan: which records are reached, and those whose references wait.
 #[derive(Drop)]
-struct Progress {
+struct PlanProgress {
     marks: Vec<bool>,
     waiting: Vec<usize>,
 }
@@ -22,8 +22,8 @@ struct Progress {
 /// The places of the records that the program needs when it runs, rising.
 pub fn run_plan<'a>(
     alloc: Global,
-    records: &'a [LibRecord],
-    program: &'a LibRecord,
+    records: &'a [CompiledLibrary],
+    program: &'a CompiledLibrary,
 ) -> Result<Vec<usize>, Memory>
     ensures { IfOk result (λ plan. IsPlan records.now program.now plan.items) }
 {
@@ -39,7 +39,7 @@ pub fn run_plan<'a>(
 // Where each library's record stands: the first of that name.
 fn places<'a>(
     alloc: Global,
-    records: &'a [LibRecord],
+    records: &'a [CompiledLibrary],
 ) -> Result<BTreeMap<&'a LibName, usize>, Memory>
     ensures { IfOk result (λ m. (name : LibName) → place_in m.entries name ≡ place_of records.now name) }
 {
@@ -53,17 +53,17 @@ fn places<'a>(
 }
 
 // Nothing is reached.
-fn begun(alloc: Global, records: &[LibRecord]) -> Result<Progress, Memory>
+fn begun(alloc: Global, records: &[CompiledLibrary]) -> Result<PlanProgress, Memory>
     ensures { IfOk result (λ p. work_of p ≡ record { marks = no_marks records.now; waiting = [] }) }
 {
     let marks = vec![in alloc; false; records.len()]?;
     let waiting = Vec::new(alloc);
-    Ok(Progress { marks, waiting })
+    Ok(PlanProgress { marks, waiting })
 }
 
 // A record that is reached for the first time is marked, and its references wait.
 #[tactic(auto, unfolding(crate::specs::Work::reach))]
-fn reach(place: usize, progress: &mut Progress) -> Result<(), Memory>
+fn reach(place: usize, progress: &mut PlanProgress) -> Result<(), Memory>
     ensures { OnOk result (work_of progress.new ≡ reach place (work_of progress.old)) }
 {
     if place >= progress.marks.len() {
@@ -77,7 +77,7 @@ fn reach(place: usize, progress: &mut Progress) -> Result<(), Memory>
     Ok(())
 }
 
-fn reach_there(place: Option<&usize>, progress: &mut Progress) -> Result<(), Memory>
+fn reach_there(place: Option<&usize>, progress: &mut PlanProgress) -> Result<(), Memory>
     ensures { OnOk result (work_of progress.new ≡ reach_there (option_map (λ p. p.now) place.entry) (work_of progress.old)) }
 {
     match place {
@@ -89,10 +89,10 @@ fn reach_there(place: Option<&usize>, progress: &mut Progress) -> Result<(), Mem
 // The records of these libraries, one after another.
 #[tactic(auto, using(crate::proofs::WorkLemmas::each_on, crate::proofs::WorkLemmas::each_end))]
 fn reach_each<'a>(
-    records: &'a [LibRecord],
+    records: &'a [CompiledLibrary],
     places: &BTreeMap<&'a LibName, usize>,
     names: &'a [LibName],
-    progress: &mut Progress,
+    progress: &mut PlanProgress,
 ) -> Result<(), Memory>
     requires { (name : LibName) → place_in places.now.entries name ≡ place_of records.now name }
     ensures { OnOk result (work_of progress.new ≡ reach_each records.now names.now (work_of progress.old)) }
@@ -106,10 +106,10 @@ fn reach_each<'a>(
 // What the record at a place refers to.
 #[tactic(auto, unfolding(crate::specs::Work::follow))]
 fn follow<'a>(
-    records: &'a [LibRecord],
+    records: &'a [CompiledLibrary],
     places: &BTreeMap<&'a LibName, usize>,
     place: usize,
-    progress: &mut Progress,
+    progress: &mut PlanProgress,
 ) -> Result<(), Memory>
     requires { (name : LibName) → place_in places.now.entries name ≡ place_of records.now name }
     ensures { OnOk result (work_of progress.new ≡ follow records.now place (work_of progress.old)) }

@@ -13,14 +13,14 @@ ghost use Rattle.sx_plan.specs.Planned.{plan_of};
 use crate::plan::run_plan;
 use std::alloc::Global;
 use sx_base::memory::Memory;
-use sx_core::record::LibRecord;
+use sx_core::record::CompiledLibrary;
 
 /// The places of the records that the program needs when it runs, rising.
 #[tactic(auto, using(crate::proofs::PlanLemmas::plan_is))]
 pub fn planned(
     alloc: Global,
-    records: &[LibRecord],
-    program: &LibRecord,
+    records: &[CompiledLibrary],
+    program: &CompiledLibrary,
 ) -> Result<Vec<usize>, Memory>
     ensures { IfOk result (λ plan. plan.items ≡ plan_of records.now program.now) }
 {

@@ -56,8 +56,8 @@ names = names_of (library.User (codes "rnrs" ∷ []))
 abbrev pub path_of : ℕ → List ℕ
 path_of n = codes "(prelude " ++ op_text n ++ codes ")"
 
-abbrev pub place_of : ℕ → Span
-place_of n = record { file = path_of n; from = 0; to = 0 }
+abbrev pub text_place : ℕ → Span
+text_place n = record { file = path_of n; from = 0; to = 0 }
 
 abbrev pub text_of : Option (List ℕ) → List ℕ
 text_of None = []
@@ -72,7 +72,7 @@ first_tree place [] = Err (record { kind = kind.NoExpression; span = place; word
 first_tree place (d ∷ ds) = at_place place (within (tree_of blank d))
 
 abbrev pub tree_in : ℕ → Result Tree Fault
-tree_in n = data_of (path_of n) (text_of (prelude_text n)) file_nesting >>= first_tree (place_of n)
+tree_in n = data_of (path_of n) (text_of (prelude_text n)) file_nesting >>= first_tree (text_place n)
 
 -- a procedure without arguments, whose body is the text
 abbrev pub procedure_of : ℕ → PlainCore → PlainCode
@@ -80,7 +80,7 @@ procedure_of n c = record { number = record { 0 = record { library = library.Cor
 
 abbrev pub expanded : ℕ → Result Tree Fault → Does PlainCode
 expanded n (Err f) s = Err f
-expanded n (Ok t) s = after (expression [] (place_of n) 0 (stamp (first_frame library.Prelude) t) s) (λ c. give (procedure_of n c))
+expanded n (Ok t) s = after (expression [] (text_place n) 0 (stamp (first_frame library.Prelude) t) s) (λ c. give (procedure_of n c))
 
 unfoldable pub text_code : ℕ → Does PlainCode
 text_code n s = expanded n (tree_in n) s

@@ -8,7 +8,7 @@ ghost use Rattle.sx_base.specs.declared.library.LibName.TheVariants as library;
 ghost use Rattle.sx_expand.specs.Expanding.{ready};
 ghost use Rattle.sx_stage.specs.Libraries.{earlier_in};
 ghost use Rattle.sx_standing.specs.Start.{first_frame};
-ghost use Rattle.sx_prelude.specs.Prelude.{is_core, core_names, names, names_of, path_of, place_of, first_tree, tree_in, procedure_of, text_code, prelude_codes, prelude_spent};
+ghost use Rattle.sx_prelude.specs.Prelude.{is_core, core_names, names, names_of, path_of, text_place, first_tree, tree_in, procedure_of, text_code, prelude_codes, prelude_spent};
 ghost use Rattle.sx_prelude.specs.Spent.{UnlessMemory};
 
 use std::alloc::Global;
@@ -112,8 +112,8 @@ fn path_of(alloc: Global, op: &Op) -> Result<Symbol, Memory>
     Symbol::from_string(path)
 }
 
-fn place_of(alloc: Global, op: &Op) -> Result<Span, Memory>
-    ensures { IfOk result (λ s. s ≡ place_of op.now.0) }
+fn text_place(alloc: Global, op: &Op) -> Result<Span, Memory>
+    ensures { IfOk result (λ s. s ≡ text_place op.now.0) }
 {
     let file = path_of(alloc, op)?;
     Ok(Span {
@@ -146,7 +146,7 @@ fn first_tree(alloc: Global, forms: &[Datum], place: &Span) -> Result<Syn, Stop>
 }
 
 fn tree_in(alloc: Global, op: Op, place: &Span) -> Result<Syn, Stop>
-    requires place { place.now ≡ place_of op.0 }
+    requires place { place.now ≡ text_place op.0 }
     ensures { Gives (λ t. t) result (tree_in op.0) }
 {
     let text = match prelude_source(op) {
@@ -205,7 +205,7 @@ fn text_code<N: Ledger, L: Ledger>(
     ensures given { GivesAfter (λ c. c.value) result expander.new.state (text_code op.now.0 expander.old.state) }
     ensures open { OnOk result (expander.new.failed ≡ false) }
 {
-    let place = place_of(alloc, op)?;
+    let place = text_place(alloc, op)?;
     let tree = tree_in(alloc, *op, &place)?;
     let tree = tree.stamp(alloc, frame(alloc)?, counts.nodes)?;
     let at = OuterAt {

@@ -23,15 +23,15 @@ use Rattle.sx_heads.specs.Items.{keep, is_changed, in_time, keyword_in_time, beg
 use Rattle.sx_heads.specs.Plan.{variable_at, reference, application, shape_plan, keyword_plan, list_plan}
 use Rattle.sx_expand.specs.Body.{perform_item, item, finish_as, finish, body}
 use Rattle.sx_expand.specs.Expression.{lambda_case as a_case, lambda, one_init, letrec_form, application as a_call, conditional, in_sequence, perform, form_at, inside}
-use Rattle.sx_expand.specs.Settle.{step, settle_to, item_step, settle_item_to}
+use Rattle.sx_expand.specs.ExpandUses.{step, expand_uses_to, item_step, expand_item_uses_to}
 use Rattle.sx_prelude.specs.Prelude.{names_of, text_code, prelude_codes, prelude_spent}
 use Rattle.sx_prelude_code_laws.specs.Texts.{TextsExpand, TextsSpendNothing}
 use lib.Utf8.{encode}
 
 pub texts-expand : TextsExpand
-unfolding pieces_from encode letter_here name_from value_from is_spelt characters atmosphere_end repeated string_part string_from bare_step lexed_from lexed run data_of within each gather formals_before formals binding bindings lambda_case quote_shape lambda_shape if_shape letrec_shape shaped shape_of shape all_of rows_for record_frame bind_variable bind_spec bind_formals label_standing standing_of role_of started fresh fresh_frame keep is_changed in_time keyword_in_time begin_item core_item list_item leaf_item variable_at reference application shape_plan keyword_plan list_plan perform_item item finish_as finish body a_case lambda one_init letrec_form a_call conditional in_sequence perform form_at inside step settle_to item_step settle_item_to names_of text_code prelude_codes
+unfolding pieces_from encode letter_here name_from value_from is_spelt characters atmosphere_end repeated string_part string_from bare_step lexed_from lexed run data_of within each gather formals_before formals binding bindings lambda_case quote_shape lambda_shape if_shape letrec_shape shaped shape_of shape all_of rows_for record_frame bind_variable bind_spec bind_formals label_standing standing_of role_of started fresh fresh_frame keep is_changed in_time keyword_in_time begin_item core_item list_item leaf_item variable_at reference application shape_plan keyword_plan list_plan perform_item item finish_as finish body a_case lambda one_init letrec_form a_call conditional in_sequence perform form_at inside step expand_uses_to item_step expand_item_uses_to names_of text_code prelude_codes
 texts-expand = refl
 
 pub texts-spend-nothing : TextsSpendNothing
-unfolding pieces_from encode letter_here name_from value_from is_spelt characters atmosphere_end repeated string_part string_from bare_step lexed_from lexed run data_of within each gather formals_before formals binding bindings lambda_case quote_shape lambda_shape if_shape letrec_shape shaped shape_of shape all_of rows_for record_frame bind_variable bind_spec bind_formals label_standing standing_of role_of started fresh fresh_frame keep is_changed in_time keyword_in_time begin_item core_item list_item leaf_item variable_at reference application shape_plan keyword_plan list_plan perform_item item finish_as finish body a_case lambda one_init letrec_form a_call conditional in_sequence perform form_at inside step settle_to item_step settle_item_to names_of text_code prelude_spent
+unfolding pieces_from encode letter_here name_from value_from is_spelt characters atmosphere_end repeated string_part string_from bare_step lexed_from lexed run data_of within each gather formals_before formals binding bindings lambda_case quote_shape lambda_shape if_shape letrec_shape shaped shape_of shape all_of rows_for record_frame bind_variable bind_spec bind_formals label_standing standing_of role_of started fresh fresh_frame keep is_changed in_time keyword_in_time begin_item core_item list_item leaf_item variable_at reference application shape_plan keyword_plan list_plan perform_item item finish_as finish body a_case lambda one_init letrec_form a_call conditional in_sequence perform form_at inside step expand_uses_to item_step expand_item_uses_to names_of text_code prelude_spent
 texts-spend-nothing = refl

@@ -3,9 +3,9 @@
 ghost use Rattle.std.specs.Prelude.{◌≡◌, List, [], ◌∷◌};
 ghost use Rattle.sx_base.specs.Named.{Named};
 ghost use Rattle.sx_value.specs.declared.cell.Cell.{Cell};
-ghost use Rattle.sx_value.specs.Cells.{Whole, FitsIn};
+ghost use Rattle.sx_value.specs.Cells.{WholeCells, FitsIn};
 ghost use Rattle.sx_value.specs.FromDatum.{Keeps};
-ghost use Rattle.sx_prims.specs.declared.made.Made.{Made};
+ghost use Rattle.sx_prims.specs.declared.made.PrimResult.{PrimResult};
 ghost use Rattle.sx_prims.specs.Perform.{performed, MadeFits};
 ghost use Rattle.sx_prims.specs.Table.{misplaced};
 ghost use Rattle.sx_prims.specs.declared.primitive.TheConstants.{ROWS};
@@ -14,8 +14,8 @@ ghost use Rattle.sx_prims.specs.declared.rows.TheConstants as rows;
 /// To store what a primitive made of values that fit leaves whole cells whole, and the value that
 /// results fits in them.
 pub fn what_is_made_keeps_cells_whole()
-    ensures cells { (m : Made) (name : Named) (cells : List Cell) → Whole cells → MadeFits cells m → Whole (performed m name cells).1 }
-    ensures value { (m : Made) (name : Named) (cells : List Cell) → Whole cells → MadeFits cells m →
+    ensures cells { (m : PrimResult) (name : Named) (cells : List Cell) → WholeCells cells → MadeFits cells m → WholeCells (performed m name cells).1 }
+    ensures value { (m : PrimResult) (name : Named) (cells : List Cell) → WholeCells cells → MadeFits cells m →
         FitsIn (performed m name cells).1 (performed m name cells).0 }
 {}
 

@@ -7,13 +7,13 @@ use Rattle.sx_base.specs.declared.op.names.TheConstants as names
 use Rattle.sx_tree.specs.Measures.{max_height}
 use Rattle.sx_tree.specs.Tree.{Tree}
 use Rattle.sx_frames.specs.Scope.{Scope}
-use Rattle.sx_value.specs.Cells.{Each, FitsIn, Lies, CellLies, Whole}
+use Rattle.sx_value.specs.Cells.{Each, FitsIn, Lies, CellLies, WholeCells}
 use Rattle.sx_value.specs.declared.value.Value.{Value}
 use Rattle.sx_value.specs.declared.value.Value.TheVariants as value
 use Rattle.sx_value.specs.declared.cell.Cell.{Cell}
 use Rattle.sx_value.specs.declared.cell.Cell.TheVariants as cell
-use Rattle.sx_prims.specs.declared.made.Made.{Made}
-use Rattle.sx_prims.specs.declared.made.Made.TheVariants as made
+use Rattle.sx_prims.specs.declared.made.PrimResult.{PrimResult}
+use Rattle.sx_prims.specs.declared.made.PrimResult.TheVariants as made
 use Rattle.sx_prims.specs.declared.primitive.Primitive.{Primitive}
 use Rattle.sx_prims.specs.Answers.{Answer, refused, or_refused, given, said}
 use Rattle.sx_prims.specs.Basics as basics
@@ -51,7 +51,7 @@ reversed_holds P (x ∷ xs) r =
     subst (λ (ys : List Value). Each P ys) (sym (reverse-cons x xs)) (each_and P (reverse xs) x (reversed_holds P xs r.1) r.0)
 
 module _ (P : Value → Type 0) (cells : List Cell) (holds : HoldsIn P cells) where
-  abbrev MadeOr : Option Made → Type 0
+  abbrev MadeOr : Option PrimResult → Type 0
   MadeOr None = Unit {0}
   MadeOr (Some m) = MadeHolds P m
 
@@ -61,7 +61,7 @@ module _ (P : Value → Type 0) (cells : List Cell) (holds : HoldsIn P cells) wh
 
   -- Ways to make.
 
-  made_if : (t : Bool) (a b : Option Made) → MadeOr a → MadeOr b → MadeOr (if t then a else b)
+  made_if : (t : Bool) (a b : Option PrimResult) → MadeOr a → MadeOr b → MadeOr (if t then a else b)
   made_if true a b h k = h
   made_if false a b h k = k
 
@@ -72,15 +72,15 @@ module _ (P : Value → Type 0) (cells : List Cell) (holds : HoldsIn P cells) wh
   given_made None r = tt
   given_made (Some x) r = r
 
-  some_made : {A : Type 0} (o : Option A) (f : A → Option Made) → ((x : A) → MadeOr (f x)) → MadeOr (if_some o f)
+  some_made : {A : Type 0} (o : Option A) (f : A → Option PrimResult) → ((x : A) → MadeOr (f x)) → MadeOr (if_some o f)
   some_made None f k = tt
   some_made (Some x) f k = k x
 
-  some_value : (o : Option Value) (f : Value → Option Made) → ValueOr P o → ((x : Value) → P x → MadeOr (f x)) → MadeOr (if_some o f)
+  some_value : (o : Option Value) (f : Value → Option PrimResult) → ValueOr P o → ((x : Value) → P x → MadeOr (f x)) → MadeOr (if_some o f)
   some_value None f r k = tt
   some_value (Some x) f r k = k x r
 
-  some_values : (o : Option (List Value)) (f : List Value → Option Made) → ValuesOr P o → ((xs : List Value) → Each P xs → MadeOr (f xs)) → MadeOr (if_some o f)
+  some_values : (o : Option (List Value)) (f : List Value → Option PrimResult) → ValuesOr P o → ((xs : List Value) → Each P xs → MadeOr (f xs)) → MadeOr (if_some o f)
   some_values None f r k = tt
   some_values (Some xs) f r k = k xs r
 
@@ -257,7 +257,7 @@ module _ (P : Value → Type 0) (cells : List Cell) (holds : HoldsIn P cells) wh
   syntax_ok op (k ∷ x ∷ []) = tree_ok op x (identifiers.identifier k)
   syntax_ok op (k ∷ x ∷ y ∷ args) = tt
 
-  refused_ok : (op : ℕ) (o : Option Made) → MadeOr o → AnswerOr (or_refused op o)
+  refused_ok : (op : ℕ) (o : Option PrimResult) → MadeOr o → AnswerOr (or_refused op o)
   refused_ok op None r = tt
   refused_ok op (Some m) r = r
 
@@ -490,7 +490,7 @@ module _ (P : Value → Type 0) (cells : List Cell) (holds : HoldsIn P cells) wh
   unfolding delta
   delta_ok op args frames r = answer_ok (primitive_of op) op args frames r
 
-pub call_holds : (P : Value → Type 0) (op : ℕ) (args : List Value) (cells : List Cell) (fs : Scope) (m : Made) → HoldsIn P cells → Each P args → delta op args cells fs ≡ Ok m → MadeHolds P m
+pub call_holds : (P : Value → Type 0) (op : ℕ) (args : List Value) (cells : List Cell) (fs : Scope) (m : PrimResult) → HoldsIn P cells → Each P args → delta op args cells fs ≡ Ok m → MadeHolds P m
 call_holds P op args cells fs m holds r e = subst (λ (x : Answer). AnswerOr P cells holds x) e (delta_ok P cells holds op args fs r)
 
 -- To fit in whole cells is such a property.
@@ -519,7 +519,7 @@ plain_fits cells (value.Prim op) h = tt
 plain_fits cells (value.Syn t) h = tt
 plain_fits cells (value.Transformer p) h = absurd h
 
-made_fits : (cells : List Cell) (m : Made) → MadeHolds (FitsIn cells) m → MadeFits cells m
+made_fits : (cells : List Cell) (m : PrimResult) → MadeHolds (FitsIn cells) m → MadeFits cells m
 made_fits cells (made.Value x) h = h
 made_fits cells (made.List xs x) h = h
 made_fits cells (made.Vector xs) h = h
@@ -528,6 +528,6 @@ made_fits cells (made.Transformer x) h = h
 made_fits cells (made.Datum d) h = tt
 made_fits cells (made.Temporaries n) h = tt
 
-pub call_fits : (op : ℕ) (args : List Value) (cells : List Cell) (fs : Scope) (m : Made) → Whole cells → Each (FitsIn cells) args → delta op args cells fs ≡ Ok m → MadeFits cells m
+pub call_fits : (op : ℕ) (args : List Value) (cells : List Cell) (fs : Scope) (m : PrimResult) → WholeCells cells → Each (FitsIn cells) args → delta op args cells fs ≡ Ok m → MadeFits cells m
 call_fits op args cells fs m w r e =
     made_fits cells m (call_holds (FitsIn cells) op args cells fs m (record { plain = plain_fits cells; parts = λ n c k. parts_fit cells n c (w.lies n c k) }) r e)

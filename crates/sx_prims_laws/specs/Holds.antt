@@ -5,8 +5,8 @@ use Rattle.sx_value.specs.declared.value.Value.{Value}
 use Rattle.sx_value.specs.declared.value.Value.TheVariants as value
 use Rattle.sx_value.specs.declared.cell.Cell.{Cell}
 use Rattle.sx_value.specs.declared.cell.Cell.TheVariants as cell
-use Rattle.sx_prims.specs.declared.made.Made.{Made}
-use Rattle.sx_prims.specs.declared.made.Made.TheVariants as made
+use Rattle.sx_prims.specs.declared.made.PrimResult.{PrimResult}
+use Rattle.sx_prims.specs.declared.made.PrimResult.TheVariants as made
 
 -- a value that has no place in the cells
 abbrev pub HasNoPlace : Value → Type 0
@@ -32,7 +32,7 @@ module _ (P : Value → Type 0) where
   PartsHold (cell.Transformer x) = Unit {0}
 
   -- the values in what was made
-  abbrev pub MadeHolds : Made → Type 0
+  abbrev pub MadeHolds : PrimResult → Type 0
   MadeHolds (made.Value x) = P x
   MadeHolds (made.List xs x) = Each P xs × P x
   MadeHolds (made.Vector xs) = Each P xs

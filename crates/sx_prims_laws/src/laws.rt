@@ -2,12 +2,12 @@
 
 ghost use Rattle.std.specs.Prelude.{◌≡◌, ℕ, Bool, List, Some, Ok, map};
 ghost use Rattle.sx_frames.specs.Scope.{Scope};
-ghost use Rattle.sx_value.specs.Cells.{Each, FitsIn, Whole};
+ghost use Rattle.sx_value.specs.Cells.{Each, FitsIn, WholeCells};
 ghost use Rattle.sx_value.specs.declared.cell.Cell.{Cell};
 ghost use Rattle.sx_value.specs.declared.value.Value.{Value};
 ghost use Rattle.sx_prims.specs.Delta.{delta};
 ghost use Rattle.sx_prims.specs.Perform.{MadeFits};
-ghost use Rattle.sx_prims.specs.declared.made.Made.{Made};
+ghost use Rattle.sx_prims.specs.declared.made.PrimResult.{PrimResult};
 ghost use Rattle.sx_prims.specs.declared.primitive.lists.TheConstants.{LISTS};
 ghost use Rattle.sx_prims.specs.declared.primitive.numbers.TheConstants.{NUMBERS};
 ghost use Rattle.sx_prims.specs.declared.primitive.texts.TheConstants.{TEXTS};
@@ -17,13 +17,13 @@ ghost use Rattle.sx_prims_laws.specs.Holds.{Passes, HoldsIn, MadeHolds};
 /// A test that all arguments, all values in the cells and all values without a place pass is passed by
 /// each value in what a primitive makes: so a call makes no procedure and no place that wasn't there.
 pub fn what_a_call_makes_was_there()
-    ensures { (test : Value → Bool) (op : ℕ) (args : List Value) (cells : List Cell) (fs : Scope) (m : Made) → HoldsIn (Passes test) cells →
+    ensures { (test : Value → Bool) (op : ℕ) (args : List Value) (cells : List Cell) (fs : Scope) (m : PrimResult) → HoldsIn (Passes test) cells →
         Each (Passes test) args → delta op args cells fs ≡ Ok m → MadeHolds (Passes test) m }
 {}
 
 /// What a primitive makes of values that fit in whole cells fits in them, so that storing it keeps cells whole.
 pub fn what_a_call_makes_fits()
-    ensures { (op : ℕ) (args : List Value) (cells : List Cell) (fs : Scope) (m : Made) → Whole cells → Each (FitsIn cells) args →
+    ensures { (op : ℕ) (args : List Value) (cells : List Cell) (fs : Scope) (m : PrimResult) → WholeCells cells → Each (FitsIn cells) args →
         delta op args cells fs ≡ Ok m → MadeFits cells m }
 {}
 

@@ -7,14 +7,14 @@ use Rattle.sx_base.specs.declared.atom.Atom.{Atom}
 use Rattle.sx_base.specs.declared.fault.Bare.{Bare}
 use Rattle.sx_tree.specs.Tree.{Tree, atom, leaf, pair, vector, is_pair}
 use Rattle.sx_syntax.specs.Opens.{Opens}
-use Rattle.sx_syntax.specs.declared.syn.Opened.TheVariants as opened
+use Rattle.sx_syntax.specs.declared.syn.OpenedTree.TheVariants as opened
 use Rattle.sx_shapes.specs.Lists.{is_nil, elements, tail_of}
 use Rattle.sx_quasi.proofs.Levels.{elements_chain}
 use Rattle.sx_quasi.specs.Words.{inner, reach}
 use Rattle.sx_quasi.specs.Parts.{rest_at, splits, first_word, operand_of}
 use Rattle.sx_quasi.specs.QuasiSyntax.{Looked, then_insert, Element, Tail, forms, no_trees, unchanged, walked, begun_by, begins, finished, flat, escapes, list_made, vector_made, syntax_at, elements_made, tail_made, element, tail_element, forms_begun, flat_list, split_list, vector_at}
 use Rattle.sx_quasi.specs.declared.quasi_syntax.Insert.{Insert}
-use Rattle.sx_quasi.specs.declared.quasi_syntax.Part.{Part}
+use Rattle.sx_quasi.specs.declared.quasi_syntax.QuasiPart.{QuasiPart}
 
 module _ (w : Looked) where
   pub elements_are : (t : Tree) → elements_made w t ≡ map (element w) (elements t)
@@ -62,11 +62,11 @@ module _ (w : Looked) where
         let same : elements_made w d ≡ map (element w) v.items = elements_are d ∙ ap (map (element w)) (ap elements (sym h) ∙ elements_chain v.items) in
         ap (λ (xs : List Element). vector_made w (vector p d) xs n is) same
 
-  abbrev on_split : Tree → List Tree → Tree → ℕ → List Insert → Bool → Result (Part × List Insert) Bare
+  abbrev on_split : Tree → List Tree → Tree → ℕ → List Insert → Bool → Result (QuasiPart × List Insert) Bare
   on_split t ts tail n is b =
       if b then split_list w t (take (length ts - 2) ts) (rest_at (length ts - 2) t) (drop (length ts - 2) ts) tail n is else flat_list w t ts tail n is
 
-  abbrev on_list : Tree → List Tree → Tree → ℕ → List Insert → Bool → Bool → Result (Part × List Insert) Bare
+  abbrev on_list : Tree → List Tree → Tree → ℕ → List Insert → Bool → Bool → Result (QuasiPart × List Insert) Bare
   on_list t ts tail n is e b = if e then Ok (unchanged t, is) else on_split t ts tail n is b
 
   flat_on : (t : Tree) (ts : List Tree) (tail : Tree) → flat w t (map (element w) ts) (tail_element w tail) ≡ flat_list w t ts tail

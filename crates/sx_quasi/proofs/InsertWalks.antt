@@ -8,14 +8,14 @@ use Rattle.sx_base.specs.declared.fault.BareStop.TheVariants as stops
 use Rattle.sx_tree.specs.Tree.{Tree}
 use Rattle.sx_quasi.specs.QuasiSyntax.{Looked, then_insert, element, step, walked}
 use Rattle.sx_quasi.specs.declared.quasi_syntax.Insert.{Insert}
-use Rattle.sx_quasi.specs.declared.quasi_syntax.Row.{Row}
+use Rattle.sx_quasi.specs.declared.quasi_syntax.QuasiRow.{QuasiRow}
 
-module _ (w : Looked) (n : ℕ) (row : Row) (is : List Insert) (left : List Tree) (t : Tree) (ts : List Tree) (total : Result (Row × List Insert) Bare) (first : left ≡ t ∷ ts) where
+module _ (w : Looked) (n : ℕ) (row : QuasiRow) (is : List Insert) (left : List Tree) (t : Tree) (ts : List Tree) (total : Result (QuasiRow × List Insert) Bare) (first : left ≡ t ∷ ts) where
   here : walked w n row (map (element w) left) is ≡ then_insert (step w n row (element w t) is) (λ r. walked w n r (map (element w) ts))
   here = ap (λ us. walked w n row (map (element w) us) is) first
 
   -- an element gave forms: the rest goes on from there
-  pub row_on : (more : Row) (js : List Insert) → step w n row (element w t) is ≡ Ok (more, js) → walked w n row (map (element w) left) is ≡ total
+  pub row_on : (more : QuasiRow) (js : List Insert) → step w n row (element w t) is ≡ Ok (more, js) → walked w n row (map (element w) left) is ≡ total
       → walked w n more (map (element w) ts) js ≡ total
   row_on more js given so_far = sym (here ∙ ap (λ r. then_insert r (λ p. walked w n p (map (element w) ts))) given) ∙ so_far
 

@@ -8,7 +8,7 @@ use Rattle.sx_base.specs.declared.atom.Atom.{Atom}
 use Rattle.sx_base.specs.declared.fault.Bare.{Bare}
 use Rattle.sx_tree.specs.Tree.{Tree, atom, leaf, pair, vector, chain, nil, is_pair}
 use Rattle.sx_syntax.specs.Opens.{Opens}
-use Rattle.sx_syntax.specs.declared.syn.Opened.TheVariants as opened
+use Rattle.sx_syntax.specs.declared.syn.OpenedTree.TheVariants as opened
 use Rattle.sx_shapes.specs.Lists.{is_nil, elements, tail_of}
 use Rattle.sx_quasi.specs.Words.{Words, inner, reach}
 use Rattle.sx_quasi.specs.Parts.{rest_at, splits, first_word, operand_of}

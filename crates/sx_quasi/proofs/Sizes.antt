@@ -3,7 +3,7 @@ use Rattle.std.proofs.Common.{◌≡◌, ℕ, zero, suc, ◌+◌, ◌<◌, ◌�
 use Rattle.std.specs.Prelude.{Bool, true, false, ◌-◌}
 use Rattle.std.specs.declared.alloc.Global.{Global}
 use Rattle.sx_syntax.specs.Opens.{Opens}
-use Rattle.sx_syntax.specs.declared.syn.Opened.TheVariants as opened
+use Rattle.sx_syntax.specs.declared.syn.OpenedTree.TheVariants as opened
 use Rattle.sx_tree.specs.Tree.{Tree, atom, leaf, pair, vector, chain, nil, is_pair}
 use Rattle.sx_tree.specs.Measures.{size, joint}
 use Rattle.sx_tree.proofs.MeasureLaws.{size-some}

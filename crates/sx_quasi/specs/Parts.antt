@@ -5,10 +5,10 @@ use Rattle.sx_base.specs.declared.fault.FaultKind.TheVariants as kind
 use Rattle.sx_tree.specs.Tree.{Tree, atom, leaf, pair, vector}
 use Rattle.sx_shapes.specs.Lists.{proper_elements, if_some}
 use Rattle.sx_quasi.specs.Words.{Words, head_word, counts}
-use Rattle.sx_quasi.specs.declared.word.Word.{Word}
-use Rattle.sx_quasi.specs.declared.word.Word.TheVariants as word
-use Rattle.sx_quasi.specs.declared.parts.Taken.{Taken}
-use Rattle.sx_quasi.specs.declared.parts.Taken.TheVariants as taken
+use Rattle.sx_quasi.specs.declared.word.QuasiWord.{QuasiWord}
+use Rattle.sx_quasi.specs.declared.word.QuasiWord.TheVariants as word
+use Rattle.sx_quasi.specs.declared.parts.QuasiTaken.{QuasiTaken}
+use Rattle.sx_quasi.specs.declared.parts.QuasiTaken.TheVariants as taken
 
 -- a template that the report has no meaning for; it stands at the whole form
 abbrev pub bad : Bare
@@ -38,18 +38,18 @@ behind_head (head ∷ operands) = Some operands
 abbrev pub operands : Tree → Option (List Tree)
 operands t = if_some (proper_elements t) behind_head
 
-abbrev pub taken_by : Word → Option (List Tree) → Taken
+abbrev pub taken_by : QuasiWord → Option (List Tree) → QuasiTaken
 taken_by word.Lower (Some es) = taken.Each es
 taken_by word.Splice (Some es) = taken.Spliced es
 taken_by _ _ = taken.Kept
 
 -- what an element of a list or vector at a level gives: expressions, or a part of its own
-abbrev pub taken_at : Words → ℕ → Tree → Taken
+abbrev pub taken_at : Words → ℕ → Tree → QuasiTaken
 taken_at w zero t = taken_by (head_word w t) (operands t)
 taken_at w (suc n) t = taken.Kept
 
 -- the word of the first of these
-abbrev pub first_word : Words → List Tree → Word
+abbrev pub first_word : Words → List Tree → QuasiWord
 first_word w [] = word.Plain
 first_word w (t ∷ ts) = w t
 

@@ -15,8 +15,8 @@ use Rattle.sx_quasi.specs.Words.{Words, inner, reach}
 use Rattle.sx_quasi.specs.Parts.{bad, rest_at, splits, taken_at, first_word, operand_of}
 use Rattle.sx_quasi.specs.Plan.{PlainQuasi, constant, expression, call, quasis}
 use Rattle.sx_quasi.specs.declared.maker.Maker.TheVariants as maker
-use Rattle.sx_quasi.specs.declared.parts.Taken.{Taken}
-use Rattle.sx_quasi.specs.declared.parts.Taken.TheVariants as taken
+use Rattle.sx_quasi.specs.declared.parts.QuasiTaken.{QuasiTaken}
+use Rattle.sx_quasi.specs.declared.parts.QuasiTaken.TheVariants as taken
 use Rattle.sx_quasi.specs.declared.quasi.Pieces.{Pieces}
 use Rattle.sx_quasi.specs.declared.quasi.Begun.{Begun}
 use Rattle.sx_quasi.specs.declared.quasi.Begun.TheVariants as begun
@@ -85,7 +85,7 @@ abbrev pub forms : List Element → List Tree
 forms [] = []
 forms (x ∷ xs) = x.0 ∷ forms xs
 
-abbrev pub step_by : ℕ → Element → Pieces → Taken → Result Pieces Bare
+abbrev pub step_by : ℕ → Element → Pieces → QuasiTaken → Result Pieces Bare
 step_by n x p (taken.Each es) = Ok (with_each p es)
 step_by n x p (taken.Spliced es) = Ok (with_splices p es)
 step_by n x p taken.Kept = x.1 n >>= λ q. Ok (with_item p q)

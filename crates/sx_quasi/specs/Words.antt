@@ -14,21 +14,21 @@ use Rattle.sx_quasi.specs.declared.word.Family.{Family}
 use Rattle.sx_quasi.specs.declared.word.Family.TheVariants as family
 use Rattle.sx_quasi.specs.declared.word.Reach.{Reach}
 use Rattle.sx_quasi.specs.declared.word.Reach.TheVariants as reached
-use Rattle.sx_quasi.specs.declared.word.Word.{Word}
-use Rattle.sx_quasi.specs.declared.word.Word.TheVariants as word
+use Rattle.sx_quasi.specs.declared.word.QuasiWord.{QuasiWord}
+use Rattle.sx_quasi.specs.declared.word.QuasiWord.TheVariants as word
 
 -- whether a keyword has this number
 abbrev pub is_number : CoreForm → ℕ → Bool
 is_number f n = nat_eq n (number f)
 
-abbrev pub quote_word : ℕ → Word
+abbrev pub quote_word : ℕ → QuasiWord
 quote_word n =
     if is_number form.Quasiquote n then word.Raise
     else if is_number form.Unquote n then word.Lower
     else if is_number form.UnquoteSplicing n then word.Splice
     else word.Plain
 
-abbrev pub syntax_word : ℕ → Word
+abbrev pub syntax_word : ℕ → QuasiWord
 syntax_word n =
     if is_number form.Quasisyntax n then word.Raise
     else if is_number form.Unsyntax n then word.Lower
@@ -36,31 +36,31 @@ syntax_word n =
     else if is_number form.Ellipsis n then word.Escape
     else word.Plain
 
-abbrev pub numbered : Family → ℕ → Word
+abbrev pub numbered : Family → ℕ → QuasiWord
 numbered family.Quote n = quote_word n
 numbered family.Syntax n = syntax_word n
 
-abbrev pub labelled : Family → Option Label → Word
+abbrev pub labelled : Family → Option Label → QuasiWord
 labelled f None = word.Plain
 labelled f (Some l) = if same_library l.0.library library.Core then numbered f l.0.number else word.Plain
 
 -- an identifier is known by what it stands for, and never by its symbol
-abbrev pub word_of : Family → Scope → Tree → Word
+abbrev pub word_of : Family → Scope → Tree → QuasiWord
 word_of f fs t = if is_leaf t then labelled f (stands fs t) else word.Plain
 
 -- which words forms have
 abbrev pub Words : Type 0
-Words = Tree → Word
+Words = Tree → QuasiWord
 
 -- the word of the first element of a list
-abbrev pub head_word : Words → Tree → Word
+abbrev pub head_word : Words → Tree → QuasiWord
 head_word w (atom s a) = word.Plain
 head_word w (leaf s x c) = word.Plain
 head_word w (pair s a d) = w a
 head_word w (vector s d) = word.Plain
 
 -- the level of the elements of a list, from its own
-abbrev pub inner : Word → ℕ → ℕ
+abbrev pub inner : QuasiWord → ℕ → ℕ
 inner word.Raise n = suc n
 inner word.Lower n = n - 1
 inner word.Splice n = n - 1
@@ -68,13 +68,13 @@ inner word.Escape n = n
 inner word.Plain n = n
 
 -- what is reached behind a head: at level 0 behind `unquote` the operand; `unquote-splicing` stands there for elements alone
-abbrev pub reach : Word → ℕ → Reach
+abbrev pub reach : QuasiWord → ℕ → Reach
 reach word.Lower zero = reached.Operand
 reach word.Splice zero = reached.Refused
 reach _ _ = reached.Elements
 
 -- whether a list with this head counts in levels
-abbrev pub counts : Word → Bool
+abbrev pub counts : QuasiWord → Bool
 counts word.Raise = true
 counts word.Lower = true
 counts word.Splice = true

@@ -5,7 +5,7 @@ ghost use Rattle.sx_base.specs.declared.fault.BareStop.TheVariants as stop;
 ghost use Rattle.sx_quasi.specs.Parts.{bad, rest_at, counts_at, splits, operands, taken_by, taken_at, first_word, operand_of};
 ghost use Rattle.sx_quasi.specs.Words.{word_of};
 
-use crate::word::{Family, Word, head_word, word_of};
+use crate::word::{Family, QuasiWord, head_word, word_of};
 use std::alloc::Global;
 use sx_base::fault::{Bare, BareStop, FaultKind};
 use sx_base::items::Items;
@@ -16,7 +16,7 @@ use sx_syntax::syn::Syn;
 
 /// What an element of a list or vector gives.
 #[derive(Drop)]
-pub enum Taken {
+pub enum QuasiTaken {
     /// The value of each of these expressions.
     Each(Items<Syn>),
     /// The elements of the values of these expressions.
@@ -92,19 +92,19 @@ fn operands(alloc: Global, form: &Syn) -> Result<Option<Items<Syn>>, Memory>
     Ok(Some(operands))
 }
 
-fn taken_by(alloc: Global, word: Word, form: &Syn) -> Result<Taken, Memory>
+fn taken_by(alloc: Global, word: QuasiWord, form: &Syn) -> Result<QuasiTaken, Memory>
     ensures { IfOk result (λ x. x ≡ taken_by word (operands form.now)) }
 {
     match word {
-        Word::Lower => match operands(alloc, form)? {
-            Some(operands) => Ok(Taken::Each(operands)),
-            None => Ok(Taken::Kept),
+        QuasiWord::Lower => match operands(alloc, form)? {
+            Some(operands) => Ok(QuasiTaken::Each(operands)),
+            None => Ok(QuasiTaken::Kept),
         },
-        Word::Splice => match operands(alloc, form)? {
-            Some(operands) => Ok(Taken::Spliced(operands)),
-            None => Ok(Taken::Kept),
+        QuasiWord::Splice => match operands(alloc, form)? {
+            Some(operands) => Ok(QuasiTaken::Spliced(operands)),
+            None => Ok(QuasiTaken::Kept),
         },
-        _ => Ok(Taken::Kept),
+        _ => Ok(QuasiTaken::Kept),
     }
 }
 
@@ -115,11 +115,11 @@ pub(crate) fn taken_at(
     form: &Syn,
     level: u64,
     frames: &Frames,
-) -> Result<Taken, Memory>
+) -> Result<QuasiTaken, Memory>
     ensures { IfOk result (λ x. x ≡ taken_at (word_of family frames.now) level form.now) }
 {
     if level > 0 {
-        return Ok(Taken::Kept);
+        return Ok(QuasiTaken::Kept);
     }
     let word = head_word(alloc, family, form, frames)?;
     taken_by(alloc, word, form)
@@ -131,11 +131,11 @@ pub(crate) fn first_word(
     family: Family,
     forms: &[Syn],
     frames: &Frames,
-) -> Result<Word, Memory>
+) -> Result<QuasiWord, Memory>
     ensures { IfOk result (λ w. w ≡ first_word (word_of family frames.now) forms.now) }
 {
     let [head, ..] = forms else {
-        return Ok(Word::Plain);
+        return Ok(QuasiWord::Plain);
     };
     word_of(alloc, family, head, frames)
 }

@@ -9,7 +9,7 @@ ghost use Rattle.sx_quasi.specs.declared.word.Family.TheVariants as family;
 ghost use Rattle.sx_quasi.specs.Quasi.{no_pieces, closed, expressions, with_each, with_splices, is_constant, with_item, is_end, without_splices, made_of, list_joined, vector_joined, element, step, operand_or_bad, quasi_at, forms_begun, forms_walked, flat_list, split_list, vector_at, StopsAt, quasi};
 
 use crate::maker::Maker;
-use crate::parts::{ListParts, Taken, bad, first_word, operand_of, rest_at, splits, taken_at};
+use crate::parts::{ListParts, QuasiTaken, bad, first_word, operand_of, rest_at, splits, taken_at};
 use crate::plan::{Quasi, QuasiNode};
 use crate::word::{Family, Reach};
 use std::alloc::Global;
@@ -21,7 +21,7 @@ use sx_base::span::Span;
 use sx_scope::scope::Frames;
 use sx_shapes::at::place_of;
 use sx_shapes::lists::{is_nil, parts_of};
-use sx_syntax::syn::{Opened, Syn};
+use sx_syntax::syn::{OpenedTree, Syn};
 
 /// What elements give, one behind the other.
 #[derive(Drop)]
@@ -238,16 +238,16 @@ fn quasi_at(alloc: Global, form: &Syn, level: u64, frames: &Frames) -> Result<Qu
     ensures { BareGives (λ q. q) result (quasi_at (word_of family.Quote frames.now) form.now level) }
 {
     match form.open(alloc)? {
-        Opened::Atom(_) => {
+        OpenedTree::Atom(_) => {
             let plan = constant(form)?;
             Ok(plan)
         }
-        Opened::Symbol(_) => {
+        OpenedTree::Symbol(_) => {
             let plan = constant(form)?;
             Ok(plan)
         }
-        Opened::Pair(_, _) => list_at(alloc, form, level, frames),
-        Opened::Vector(forms) => vector_at(alloc, form, &forms, level, frames),
+        OpenedTree::Pair(_, _) => list_at(alloc, form, level, frames),
+        OpenedTree::Vector(forms) => vector_at(alloc, form, &forms, level, frames),
     }
 }
 
@@ -397,15 +397,15 @@ fn step(
     ensures { BareGives (λ p. p) result (step (word_of family.Quote frames.now) level pieces (element (word_of family.Quote frames.now) form.now)) }
 {
     match taken_at(alloc, Family::Quote, form, level, frames)? {
-        Taken::Each(forms) => {
+        QuasiTaken::Each(forms) => {
             let pieces = pieces.with_each(forms)?;
             Ok(pieces)
         }
-        Taken::Spliced(forms) => {
+        QuasiTaken::Spliced(forms) => {
             let pieces = pieces.with_splices(alloc, forms)?;
             Ok(pieces)
         }
-        Taken::Kept => {
+        QuasiTaken::Kept => {
             let item = quasi_at(alloc, form, level, frames)?;
             let pieces = pieces.with_item(item)?;
             Ok(pieces)

@@ -6,9 +6,9 @@ ghost use Rattle.sx_tree.specs.Tree.{is_pair, span_of, spanned, list_of, vector_
 ghost use Rattle.sx_tree.specs.Measures.{within};
 ghost use Rattle.sx_quasi.specs.QuasiSyntax.{seen, insert_leaf, insert, no_trees, leaves, spliced, as_row, with_part, unchanged, rebuilt, list_joined, vector_joined, element, step, leaf_part, operand_or_bad, escapes, syntax_at, forms_begun, forms_walked, flat_list, split_list, vector_at, quasi_syntax};
 
-use crate::parts::{ListParts, Taken, bad, first_word, operand_of, rest_at, splits, taken_at};
+use crate::parts::{ListParts, QuasiTaken, bad, first_word, operand_of, rest_at, splits, taken_at};
 use crate::quasi::at_form;
-use crate::word::{Family, Reach, Word};
+use crate::word::{Family, Reach, QuasiWord};
 use std::alloc::Global;
 use std::rc::Rc;
 use sx_base::fault::{BareStop, Stop};
@@ -20,7 +20,7 @@ use sx_base::span::Span;
 use sx_base::symbol::Symbol;
 use sx_scope::scope::Frames;
 use sx_shapes::lists::{is_nil, parts_of};
-use sx_syntax::syn::{Opened, Syn};
+use sx_syntax::syn::{OpenedTree, Syn};
 
 /// What templates of `quasisyntax` are read with.
 #[derive(Drop)]
@@ -51,7 +51,7 @@ pub struct QuasiSyntax {
 
 /// What a form comes to.
 #[derive(Drop)]
-pub struct Part {
+pub struct QuasiPart {
     /// Whether it is another form than it was.
     pub changed: bool,
     pub tree: Syn,
@@ -59,7 +59,7 @@ pub struct Part {
 
 /// What elements come to, one behind the other.
 #[derive(Drop)]
-pub struct Row {
+pub struct QuasiRow {
     pub changed: bool,
     pub trees: Items<Syn>,
 }
@@ -68,8 +68,8 @@ pub struct Row {
 #[derive(Drop)]
 pub enum Begun {
     /// The list comes to this.
-    Whole(Part),
-    Trees(Row),
+    Whole(QuasiPart),
+    Trees(QuasiRow),
 }
 
 /// Adds an insert, and gives another owner of its leaf.
@@ -137,11 +137,11 @@ fn push_spliced(
     Ok(())
 }
 
-impl Row {
-    fn none(alloc: Global) -> Row
+impl QuasiRow {
+    fn none(alloc: Global) -> QuasiRow
         ensures { result ≡ no_trees }
     {
-        Row {
+        QuasiRow {
             changed: false,
             trees: Items::new(alloc),
         }
@@ -153,12 +153,12 @@ impl Row {
         alloc: Global,
         forms: &[Syn],
         inserts: &mut Items<Insert>,
-    ) -> Result<Row, Memory>
+    ) -> Result<QuasiRow, Memory>
         ensures { IfOk result (λ r. (r, inserts.new) ≡ as_row (leaves self.trees forms.now inserts.old)) }
     {
         let mut trees = self.trees;
         push_leaves(alloc, &mut trees, forms, inserts)?;
-        Ok(Row {
+        Ok(QuasiRow {
             changed: true,
             trees,
         })
@@ -171,39 +171,39 @@ impl Row {
         forms: &[Syn],
         dots: &Syn,
         inserts: &mut Items<Insert>,
-    ) -> Result<Row, Memory>
+    ) -> Result<QuasiRow, Memory>
         ensures { IfOk result (λ r. (r, inserts.new) ≡ as_row (spliced dots.now self.trees forms.now inserts.old)) }
     {
         let mut trees = self.trees;
         push_spliced(alloc, &mut trees, forms, dots, inserts)?;
-        Ok(Row {
+        Ok(QuasiRow {
             changed: true,
             trees,
         })
     }
 
-    fn with_part(self, part: Part) -> Result<Row, Memory>
+    fn with_part(self, part: QuasiPart) -> Result<QuasiRow, Memory>
         ensures { IfOk result (λ r. r ≡ with_part self part) }
     {
-        let Row { changed, mut trees } = self;
+        let QuasiRow { changed, mut trees } = self;
         let changed = changed || part.changed;
         trees.push(part.tree)?;
-        Ok(Row { changed, trees })
+        Ok(QuasiRow { changed, trees })
     }
 }
 
-fn unchanged(form: &Syn) -> Result<Part, Memory>
+fn unchanged(form: &Syn) -> Result<QuasiPart, Memory>
     ensures { IfOk result (λ p. p ≡ unchanged form.now) }
 {
     let tree = form.share()?;
-    Ok(Part {
+    Ok(QuasiPart {
         changed: false,
         tree,
     })
 }
 
 /// A form with other parts, with the span that it had.
-fn changed(alloc: Global, form: &Syn, tree: &Syn) -> Result<Part, Memory>
+fn changed(alloc: Global, form: &Syn, tree: &Syn) -> Result<QuasiPart, Memory>
     ensures { IfOk result (λ p. p ≡ leaf_part (spanned (span_of form.now) tree.now)) }
 {
     let span = match form.span() {
@@ -211,14 +211,14 @@ fn changed(alloc: Global, form: &Syn, tree: &Syn) -> Result<Part, Memory>
         Some(span) => Some(span.share()?),
     };
     let tree = tree.spanned(alloc, span)?;
-    Ok(Part {
+    Ok(QuasiPart {
         changed: true,
         tree,
     })
 }
 
 /// What a list comes to, from what its elements and its tail come to.
-fn list_joined(alloc: Global, form: &Syn, row: Row, tail: Part) -> Result<Part, BareStop>
+fn list_joined(alloc: Global, form: &Syn, row: QuasiRow, tail: QuasiPart) -> Result<QuasiPart, BareStop>
     ensures { BareGives (λ p. p) result (list_joined form.now row tail) }
 {
     if row.changed || tail.changed {
@@ -231,7 +231,7 @@ fn list_joined(alloc: Global, form: &Syn, row: Row, tail: Part) -> Result<Part, 
 }
 
 /// What a vector comes to, from what its elements come to.
-fn vector_joined(alloc: Global, form: &Syn, row: Row) -> Result<Part, BareStop>
+fn vector_joined(alloc: Global, form: &Syn, row: QuasiRow) -> Result<QuasiPart, BareStop>
     ensures { BareGives (λ p. p) result (vector_joined form.now row) }
 {
     if row.changed {
@@ -255,7 +255,7 @@ fn operand_or_bad(
         None => Err(bad(alloc)),
         Some(operand) => {
             let tree = new_insert(alloc, inserts, operand, 0)?;
-            Ok(Begun::Whole(Part {
+            Ok(Begun::Whole(QuasiPart {
                 changed: true,
                 tree,
             }))
@@ -264,10 +264,10 @@ fn operand_or_bad(
 }
 
 /// Whether a list is an ellipsis and the template that it escapes.
-fn escapes(head: Word, ends: bool, forms: &[Syn]) -> bool
+fn escapes(head: QuasiWord, ends: bool, forms: &[Syn]) -> bool
     ensures { result ≡ escapes head ends forms.now }
 {
-    if head == Word::Escape && ends {
+    if head == QuasiWord::Escape && ends {
         return matches!(forms, [_, _]);
     }
     false
@@ -280,20 +280,20 @@ fn syntax_at(
     form: &Syn,
     level: u64,
     inserts: &mut Items<Insert>,
-) -> Result<Part, BareStop>
+) -> Result<QuasiPart, BareStop>
     ensures { BareGives (λ p. (p, inserts.new)) result (syntax_at (seen context.now) form.now level inserts.old) }
 {
     match form.open(context.alloc)? {
-        Opened::Atom(_) => {
+        OpenedTree::Atom(_) => {
             let part = unchanged(form)?;
             Ok(part)
         }
-        Opened::Symbol(_) => {
+        OpenedTree::Symbol(_) => {
             let part = unchanged(form)?;
             Ok(part)
         }
-        Opened::Pair(_, _) => list_at(context, form, level, inserts),
-        Opened::Vector(forms) => vector_at(context, form, &forms, level, inserts),
+        OpenedTree::Pair(_, _) => list_at(context, form, level, inserts),
+        OpenedTree::Vector(forms) => vector_at(context, form, &forms, level, inserts),
     }
 }
 
@@ -304,7 +304,7 @@ fn vector_at(
     forms: &[Syn],
     level: u64,
     inserts: &mut Items<Insert>,
-) -> Result<Part, BareStop>
+) -> Result<QuasiPart, BareStop>
     ensures { BareGives (λ p. (p, inserts.new)) result (vector_at (seen context.now) form.now forms.now level inserts.old) }
 {
     let row = walked(context, forms, level, inserts)?;
@@ -318,7 +318,7 @@ fn list_at(
     form: &Syn,
     level: u64,
     inserts: &mut Items<Insert>,
-) -> Result<Part, BareStop>
+) -> Result<QuasiPart, BareStop>
     requires { is_pair form.now ≡ true }
     ensures { BareGives (λ p. (p, inserts.new)) result (syntax_at (seen context.now) form.now level inserts.old) }
 {
@@ -362,7 +362,7 @@ fn split_list(
     last: &ListParts,
     level: u64,
     inserts: &mut Items<Insert>,
-) -> Result<Part, BareStop>
+) -> Result<QuasiPart, BareStop>
     requires { 0 < length last.now.elements.now }
     ensures { BareGives (λ p. (p, inserts.new)) result (split_list (seen context.now) front.now.form.now front.now.elements.now last.now.form.now last.now.elements.now last.now.tail.now level inserts.old) }
 {
@@ -382,7 +382,7 @@ fn flat_list(
     list: &ListParts,
     level: u64,
     inserts: &mut Items<Insert>,
-) -> Result<Part, BareStop>
+) -> Result<QuasiPart, BareStop>
     requires { 0 < length list.now.elements.now }
     ensures { BareGives (λ p. (p, inserts.new)) result (flat_list (seen context.now) list.now.form.now list.now.elements.now list.now.tail.now level inserts.old) }
 {
@@ -427,10 +427,10 @@ fn walked(
     forms: &[Syn],
     level: u64,
     inserts: &mut Items<Insert>,
-) -> Result<Row, BareStop>
+) -> Result<QuasiRow, BareStop>
     ensures { BareGives (λ r. (r, inserts.new)) result (forms_walked (seen context.now) level forms.now inserts.old) }
 {
-    let mut row = Row::none(context.alloc);
+    let mut row = QuasiRow::none(context.alloc);
     let mut left = forms;
     while let Some((form, behind)) = left.split_first() {
         row = step(context, row, form, level, inserts)?;
@@ -443,23 +443,23 @@ fn walked(
 #[cycle(quasi_syntax)]
 fn step(
     context: &QuasiContext,
-    row: Row,
+    row: QuasiRow,
     form: &Syn,
     level: u64,
     inserts: &mut Items<Insert>,
-) -> Result<Row, BareStop>
+) -> Result<QuasiRow, BareStop>
     ensures { BareGives (λ r. (r, inserts.new)) result (step (seen context.now) level row (element (seen context.now) form.now) inserts.old) }
 {
     match taken_at(context.alloc, Family::Syntax, form, level, context.frames)? {
-        Taken::Each(forms) => {
+        QuasiTaken::Each(forms) => {
             let row = row.with_each(context.alloc, forms.as_slice(), inserts)?;
             Ok(row)
         }
-        Taken::Spliced(forms) => {
+        QuasiTaken::Spliced(forms) => {
             let row = row.with_splices(context.alloc, forms.as_slice(), context.dots, inserts)?;
             Ok(row)
         }
-        Taken::Kept => {
+        QuasiTaken::Kept => {
             let part = syntax_at(context, form, level, inserts)?;
             let row = row.with_part(part)?;
             Ok(row)

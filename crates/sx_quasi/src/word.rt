@@ -23,7 +23,7 @@ pub enum Family {
 
 /// What an identifier does as the head of a list.
 #[derive(Clone, Copy, PartialEq, Eq)]
-pub enum Word {
+pub enum QuasiWord {
     /// `quasiquote`, `quasisyntax`: the elements are one level further in.
     Raise,
     /// `unquote`, `unsyntax`: the elements are one level further out; at level 0 they are expressions.
@@ -47,7 +47,7 @@ pub enum Reach {
     Elements,
 }
 
-impl Word {
+impl QuasiWord {
     /// What is reached behind this head, in a list at this level.
     pub(crate) fn reach(self, level: u64) -> Reach
         ensures { result ≡ reach self level }
@@ -56,8 +56,8 @@ impl Word {
             return Reach::Elements;
         }
         match self {
-            Word::Lower => Reach::Operand,
-            Word::Splice => Reach::Refused,
+            QuasiWord::Lower => Reach::Operand,
+            QuasiWord::Splice => Reach::Refused,
             _ => Reach::Elements,
         }
     }
@@ -67,14 +67,14 @@ impl Word {
         ensures { IfOk result (λ n. n ≡ inner self level) }
     {
         match self {
-            Word::Raise => match level.checked_add(1) {
+            QuasiWord::Raise => match level.checked_add(1) {
                 Some(raised) => Ok(raised),
                 None => Err(Memory),
             },
-            Word::Lower => Ok(level.saturating_sub(1)),
-            Word::Splice => Ok(level.saturating_sub(1)),
-            Word::Escape => Ok(level),
-            Word::Plain => Ok(level),
+            QuasiWord::Lower => Ok(level.saturating_sub(1)),
+            QuasiWord::Splice => Ok(level.saturating_sub(1)),
+            QuasiWord::Escape => Ok(level),
+            QuasiWord::Plain => Ok(level),
         }
     }
 
@@ -83,11 +83,11 @@ impl Word {
         ensures { result ≡ counts self }
     {
         match self {
-            Word::Raise => true,
-            Word::Lower => true,
-            Word::Splice => true,
-            Word::Escape => false,
-            Word::Plain => false,
+            QuasiWord::Raise => true,
+            QuasiWord::Lower => true,
+            QuasiWord::Splice => true,
+            QuasiWord::Escape => false,
+            QuasiWord::Plain => false,
         }
     }
 }
@@ -98,40 +98,40 @@ fn is_number(form: CoreForm, number: u64) -> bool
     number == u64::from(form.number())
 }
 
-fn quote_word(number: u64) -> Word
+fn quote_word(number: u64) -> QuasiWord
     ensures { result ≡ quote_word number }
 {
     if is_number(CoreForm::Quasiquote, number) {
-        return Word::Raise;
+        return QuasiWord::Raise;
     }
     if is_number(CoreForm::Unquote, number) {
-        return Word::Lower;
+        return QuasiWord::Lower;
     }
     if is_number(CoreForm::UnquoteSplicing, number) {
-        return Word::Splice;
+        return QuasiWord::Splice;
     }
-    Word::Plain
+    QuasiWord::Plain
 }
 
-fn syntax_word(number: u64) -> Word
+fn syntax_word(number: u64) -> QuasiWord
     ensures { result ≡ syntax_word number }
 {
     if is_number(CoreForm::Quasisyntax, number) {
-        return Word::Raise;
+        return QuasiWord::Raise;
     }
     if is_number(CoreForm::Unsyntax, number) {
-        return Word::Lower;
+        return QuasiWord::Lower;
     }
     if is_number(CoreForm::UnsyntaxSplicing, number) {
-        return Word::Splice;
+        return QuasiWord::Splice;
     }
     if is_number(CoreForm::Ellipsis, number) {
-        return Word::Escape;
+        return QuasiWord::Escape;
     }
-    Word::Plain
+    QuasiWord::Plain
 }
 
-fn numbered(family: Family, number: u64) -> Word
+fn numbered(family: Family, number: u64) -> QuasiWord
     ensures { result ≡ numbered family number }
 {
     match family {
@@ -140,16 +140,16 @@ fn numbered(family: Family, number: u64) -> Word
     }
 }
 
-fn labelled(family: Family, label: &Option<Label>) -> Word
+fn labelled(family: Family, label: &Option<Label>) -> QuasiWord
     ensures { result ≡ labelled family label.now }
 {
     match label {
-        None => Word::Plain,
+        None => QuasiWord::Plain,
         Some(label) => {
             if *label.0.library == LibName::Core {
                 numbered(family, label.0.number)
             } else {
-                Word::Plain
+                QuasiWord::Plain
             }
         }
     }
@@ -161,11 +161,11 @@ pub(crate) fn word_of(
     family: Family,
     form: &Syn,
     frames: &Frames,
-) -> Result<Word, Memory>
+) -> Result<QuasiWord, Memory>
     ensures { IfOk result (λ w. w ≡ word_of family frames.now form.now) }
 {
     if !is_id(alloc, form)? {
-        return Ok(Word::Plain);
+        return Ok(QuasiWord::Plain);
     }
     let label = frames.stands(form)?;
     Ok(labelled(family, &label))
@@ -177,11 +177,11 @@ pub(crate) fn head_word(
     family: Family,
     form: &Syn,
     frames: &Frames,
-) -> Result<Word, Memory>
+) -> Result<QuasiWord, Memory>
     ensures { IfOk result (λ w. w ≡ head_word (word_of family frames.now) form.now) }
 {
     let Some(parts) = split_first(alloc, form)? else {
-        return Ok(Word::Plain);
+        return Ok(QuasiWord::Plain);
     };
     word_of(alloc, family, &parts.first, frames)
 }

@@ -9,13 +9,13 @@ use Rattle.sx_tree.specs.Tree.{Tree}
 use Rattle.sx_quasi_code.specs.Filled.{op_of, call_of, called, filled, all_filled}
 use Rattle.sx_quasi_code.specs.Inserted.{listed, pattern_under}
 use Rattle.sx_quasi_code.specs.Parts.{quasi_parts, all_quasi_parts}
-use Rattle.sx_quasi_code.specs.declared.parts.Part.{Part}
+use Rattle.sx_quasi_code.specs.declared.parts.PartForm.{PartForm}
 
 next_drop : (qs : List PlainQuasi) (i : ℕ) (q : PlainQuasi) → i < length qs → q ≡ get_or qs i q → drop i qs ≡ q ∷ drop (i + 1) qs
 next_drop qs i q h e = rw add-one (drop-cons qs i q h ∙ ap (λ x. x ∷ drop (suc i) qs) (sym e))
 
 -- the parts of one more
-pub parts_on : (t : Tree) (depth : ℕ) (qs : List PlainQuasi) (i : ℕ) (q : PlainQuasi) (done new total : List Part) → i < length qs → q ≡ get_or qs i q → new ≡ quasi_parts t depth done q
+pub parts_on : (t : Tree) (depth : ℕ) (qs : List PlainQuasi) (i : ℕ) (q : PlainQuasi) (done new total : List PartForm) → i < length qs → q ≡ get_or qs i q → new ≡ quasi_parts t depth done q
     → all_quasi_parts t depth done (quasis (drop i qs)) ≡ total → all_quasi_parts t depth new (quasis (drop (i + 1) qs)) ≡ total
 parts_on t depth qs i q done new total h e is so_far =
     ap (λ ps. all_quasi_parts t depth ps (quasis (drop (i + 1) qs))) is

@@ -18,7 +18,7 @@ use Rattle.sx_quasi_code.specs.Inserted.{dots, syntax_code, stamps_of}
 use Rattle.sx_quasi_code.specs.Parts.{quasi_parts, inserts_parts}
 use Rattle.sx_quasi_code.specs.declared.form.QuasiForm.{QuasiForm}
 use Rattle.sx_quasi_code.specs.declared.form.QuasiForm.TheVariants as forms
-use Rattle.sx_quasi_code.specs.declared.parts.Part.{Part}
+use Rattle.sx_quasi_code.specs.declared.parts.PartForm.{PartForm}
 
 abbrev pub quote_by : Result PlainQuasi Fault → Does QuasiForm
 quote_by (Err f) s = Err f
@@ -34,7 +34,7 @@ form_of place t family.Quote template s = quote_by (quasi (word_of family.Quote 
 form_of place t family.Syntax template s = syntax_by (quasi_syntax (record { words = word_of family.Syntax s.frames; dots = dots }) template t place) s
 
 -- what is to be expanded of the form t, at a depth
-abbrev pub parts_of : Tree → ℕ → QuasiForm → List Part
+abbrev pub parts_of : Tree → ℕ → QuasiForm → List PartForm
 parts_of t depth (forms.Quote q) = quasi_parts t depth [] q
 parts_of t depth (forms.Syntax q) = inserts_parts t depth q.inserts
 

@@ -5,30 +5,30 @@ use Rattle.sx_tree.specs.Tree.{Tree}
 use Rattle.sx_heads.specs.Depth.{deeper, most_round}
 use Rattle.sx_quasi.specs.Plan.{PlainQuasi, PlainQuasis, constant, expression, call, none, more}
 use Rattle.sx_quasi.specs.declared.quasi_syntax.Insert.{Insert}
-use Rattle.sx_quasi_code.specs.declared.parts.Part.{Part}
+use Rattle.sx_quasi_code.specs.declared.parts.PartForm.{PartForm}
 
-abbrev pub part : Tree → ℕ → Part
+abbrev pub part : Tree → ℕ → PartForm
 part t depth = record { form = t; depth = depth }
 
 -- a form that is made at this depth: it is no part, but where it is too deep the quasi form is
-abbrev pub with_made : Tree → ℕ → List Part → List Part
+abbrev pub with_made : Tree → ℕ → List PartForm → List PartForm
 with_made t depth done = if nat_lt most_round depth then done ++ part t depth ∷ [] else done
 
 -- of the plan of a `quasiquote` form t, at a depth; the operator of a call is one deeper than the call
 abbrev mutual
-  pub quasi_parts : Tree → ℕ → List Part → PlainQuasi → List Part
+  pub quasi_parts : Tree → ℕ → List PartForm → PlainQuasi → List PartForm
   quasi_parts t depth done (constant c) = with_made t depth done
   quasi_parts t depth done (expression e) = done ++ part e depth ∷ []
   quasi_parts t depth done (call m qs) = all_quasi_parts t (deeper depth) (with_made t (deeper depth) done) qs
 
-  pub all_quasi_parts : Tree → ℕ → List Part → PlainQuasis → List Part
+  pub all_quasi_parts : Tree → ℕ → List PartForm → PlainQuasis → List PartForm
   all_quasi_parts t depth done none = done
   all_quasi_parts t depth done (more q qs) = all_quasi_parts t depth (quasi_parts t depth done q) qs
 
-abbrev pub insert_part : ℕ → Insert → Part
+abbrev pub insert_part : ℕ → Insert → PartForm
 insert_part depth i = part i.expression depth
 
 -- Of a `quasisyntax` form t: with inserts it is `(syntax-case (list e ...) () ((p ...) (syntax template)))`, without `(syntax template)`.
-abbrev pub inserts_parts : Tree → ℕ → List Insert → List Part
+abbrev pub inserts_parts : Tree → ℕ → List Insert → List PartForm
 inserts_parts t depth [] = with_made t depth []
 inserts_parts t depth (i ∷ is) = with_made t (deeper (deeper depth)) [] ++ map (insert_part (deeper (deeper depth))) (i ∷ is)

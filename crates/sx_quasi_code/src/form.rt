@@ -8,7 +8,7 @@ ghost use Rattle.sx_quasi_code.specs.Inserted.{syntax_code, stamps_of};
 
 use crate::filled::plan_code;
 use crate::inserted::{dots, inserted, plain_instance};
-use crate::parts::{Part, inserts_parts, push_quasi};
+use crate::parts::{PartForm, inserts_parts, push_quasi};
 use std::alloc::Global;
 use std::sync::ledger::Ledger;
 use sx_base::fault::Stop;
@@ -87,7 +87,7 @@ pub fn parts_of(
     form: &Syn,
     quasi: &QuasiForm,
     depth: u16,
-) -> Result<Items<Part>, Memory>
+) -> Result<Items<PartForm>, Memory>
     ensures { IfOk result (λ ps. ps ≡ parts_of form.now depth quasi.now) }
 {
     match quasi {

@@ -14,21 +14,21 @@ use sx_syntax::syn::Syn;
 
 /// A form that is to be expanded.
 #[derive(Drop)]
-pub struct Part {
+pub struct PartForm {
     pub form: Syn,
     /// The number of core forms and applications round it.
     pub depth: u16,
 }
 
-fn push_part(form: &Syn, depth: u16, parts: &mut Items<Part>) -> Result<(), Memory>
+fn push_part(form: &Syn, depth: u16, parts: &mut Items<PartForm>) -> Result<(), Memory>
     ensures { OnOk result (parts.new ≡ parts.old ++ part form.now depth ∷ []) }
 {
     let form = form.share()?;
-    parts.push(Part { form, depth })
+    parts.push(PartForm { form, depth })
 }
 
 /// A form that is made at this depth: where it is too deep, the quasi form stands for it.
-fn push_made(form: &Syn, depth: u16, parts: &mut Items<Part>) -> Result<(), Memory>
+fn push_made(form: &Syn, depth: u16, parts: &mut Items<PartForm>) -> Result<(), Memory>
     ensures { OnOk result (parts.new ≡ with_made form.now depth parts.old) }
 {
     if depth > MOST_ROUND {
@@ -43,7 +43,7 @@ pub(crate) fn push_quasi(
     form: &Syn,
     quasi: &Quasi,
     depth: u16,
-    parts: &mut Items<Part>,
+    parts: &mut Items<PartForm>,
 ) -> Result<(), Memory>
     ensures { OnOk result (parts.new ≡ quasi_parts form.now depth parts.old quasi.now) }
 {
@@ -64,7 +64,7 @@ fn push_all_quasi(
     form: &Syn,
     list: &[Quasi],
     depth: u16,
-    parts: &mut Items<Part>,
+    parts: &mut Items<PartForm>,
 ) -> Result<(), Memory>
     ensures { OnOk result (parts.new ≡ all_quasi_parts form.now depth parts.old (quasis list.now)) }
 {
@@ -74,7 +74,7 @@ fn push_all_quasi(
     Ok(())
 }
 
-fn push_inserts(inserts: &[Insert], depth: u16, parts: &mut Items<Part>) -> Result<(), Memory>
+fn push_inserts(inserts: &[Insert], depth: u16, parts: &mut Items<PartForm>) -> Result<(), Memory>
     ensures { OnOk result (parts.new ≡ parts.old ++ map (insert_part depth) inserts.now) }
 {
     for insert in inserts {
@@ -89,7 +89,7 @@ pub(crate) fn inserts_parts(
     form: &Syn,
     inserts: &[Insert],
     depth: u16,
-) -> Result<Items<Part>, Memory>
+) -> Result<Items<PartForm>, Memory>
     ensures { IfOk result (λ ps. ps ≡ inserts_parts form.now depth inserts.now) }
 {
     let mut parts = Items::new(alloc);

@@ -14,7 +14,7 @@ use Rattle.sx_prims.specs.Delta.{delta, row_answer}
 use Rattle.sx_prims.specs.Each.{if_some, before_last, last_of}
 use Rattle.sx_prims.specs.Lists.{nil, ended_by, of_elements, gathered_made, list_made, elements_joined, last_or_nil, appended_made}
 use Rattle.sx_prims.specs.Primitives.{primitive_of}
-use Rattle.sx_prims.specs.declared.made.Made.TheVariants as made
+use Rattle.sx_prims.specs.declared.made.PrimResult.TheVariants as made
 
 before_added : (args : List Value) (x : Value) → before_last (args ++ x ∷ []) ≡ args
 before_added args x =

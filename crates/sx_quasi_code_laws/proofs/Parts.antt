@@ -9,10 +9,10 @@ use Rattle.sx_quasi.specs.Plan.{PlainQuasi, PlainQuasis, constant, expression, c
 use Rattle.sx_quasi.specs.declared.maker.Maker.{Maker}
 use Rattle.sx_quasi.specs.declared.maker.Maker.TheVariants as maker
 use Rattle.sx_quasi_code.specs.Parts.{part, with_made, quasi_parts, all_quasi_parts}
-use Rattle.sx_quasi_code.specs.declared.parts.Part.{Part}
+use Rattle.sx_quasi_code.specs.declared.parts.PartForm.{PartForm}
 use Rattle.sx_quasi_code_laws.specs.Wants.{Want, is_before, wants_as, all_wants, append_wants, wants, expressions, forms_of, nesting, all_nesting}
 
-forms_joined : (ps qs : List Part) → forms_of (ps ++ qs) ≡ forms_of ps ++ forms_of qs
+forms_joined : (ps qs : List PartForm) → forms_of (ps ++ qs) ≡ forms_of ps ++ forms_of qs
 forms_joined [] qs = refl
 forms_joined (p ∷ ps) qs = ap (λ ts. p.form ∷ ts) (forms_joined ps qs)
 
@@ -41,14 +41,14 @@ of_call maker.Append qs = appended qs
 of_call maker.ListToVector qs = refl
 
 module _ (form : Tree) where
-  made_is : (depth : ℕ) (done : List Part) → depth ≤ most_round → with_made form depth done ≡ done
+  made_is : (depth : ℕ) (done : List PartForm) → depth ≤ most_round → with_made form depth done ≡ done
   made_is depth done h = ap (λ b. if b then done ++ part form depth ∷ [] else done) (le-ltb most_round depth h)
 
   deeper_is : (depth : ℕ) → depth ≤ most_round → deeper depth ≡ depth + 1
   deeper_is depth h = ap (λ b. if b then depth else depth + 1) (le-ltb most_round depth h)
 
   mutual
-    pub parts_are : (q : PlainQuasi) (depth : ℕ) (done : List Part) → depth + nesting q ≤ most_round → forms_of (quasi_parts form depth done q) ≡ forms_of done ++ expressions (wants q)
+    pub parts_are : (q : PlainQuasi) (depth : ℕ) (done : List PartForm) → depth + nesting q ≤ most_round → forms_of (quasi_parts form depth done q) ≡ forms_of done ++ expressions (wants q)
     parts_are (constant t) depth done h = ap forms_of (made_is depth done (omega (arith, h))) ∙ sym (append-nil (forms_of done))
     parts_are (expression e) depth done h = forms_joined done (part e depth ∷ [])
     parts_are (call m qs) depth done h =
@@ -57,7 +57,7 @@ module _ (form : Tree) where
         ∙ all_are qs (depth + 1) done (omega (arith, h))
         ∙ ap (λ ts. forms_of done ++ ts) (sym (of_call m qs))
 
-    all_are : (qs : PlainQuasis) (depth : ℕ) (done : List Part) → depth + all_nesting qs ≤ most_round → forms_of (all_quasi_parts form depth done qs) ≡ forms_of done ++ expressions (all_wants qs)
+    all_are : (qs : PlainQuasis) (depth : ℕ) (done : List PartForm) → depth + all_nesting qs ≤ most_round → forms_of (all_quasi_parts form depth done qs) ≡ forms_of done ++ expressions (all_wants qs)
     all_are none depth done h = sym (append-nil (forms_of done))
     all_are (more q qs) depth done h =
         all_are qs depth (quasi_parts form depth done q) (omega (arith, h))

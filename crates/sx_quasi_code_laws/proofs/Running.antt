@@ -30,14 +30,14 @@ use Rattle.sx_prims.specs.Chains.{list_elements}
 use Rattle.sx_prims.specs.Each.{if_some}
 use Rattle.sx_prims.specs.Lists.{elements_joined}
 use Rattle.sx_prims.specs.Lists as lists
-use Rattle.sx_prims.specs.declared.made.Made.TheVariants as made
+use Rattle.sx_prims.specs.declared.made.PrimResult.TheVariants as made
 use Rattle.sx_eval.specs.Meaning.{eval_of, applied, quoted_value}
 use Rattle.sx_eval.specs.Procedures.{has_text}
 use Rattle.sx_eval.specs.Quoted.{datum_cost}
 use Rattle.sx_eval.specs.Setting.{PlainSetting}
-use Rattle.sx_eval.specs.State.{State, done, store}
+use Rattle.sx_eval.specs.State.{WorldState, done, store}
 use Rattle.sx_eval.specs.State as states
-use Rattle.sx_eval_laws.specs.Kept.{Later, EndsLater}
+use Rattle.sx_eval_laws.specs.Kept.{LaterWorld, EndsLater}
 use Rattle.sx_eval_laws.proofs.Keeping.{keeps-eval_of}
 use Rattle.sx_list_laws.specs.Runs.{Runs}
 use Rattle.sx_list_laws.proofs.RunLemmas.{runs_still, stored_runs}
@@ -58,17 +58,17 @@ use Rattle.sx_quasi_code_laws.proofs.Codes.{codes_of, codes_are}
 use Rattle.sx_quasi_code_laws.proofs.Showing.{Listed, listed_elements, elements_listed, shows_still, each_still, each_both, run_shows, stored_shows}
 use Rattle.sx_quasi_code_laws.proofs.WellMade.{IsSome, EndsInNil, IsPlan, ArePlans, IsArgument, AreJoined, IsWhole, argument_plan, well_made}
 
--- Later states.
+-- LaterWorld states.
 
-later-cells : (s t : State) → Later s t → length s.cells ≤ length t.cells
+later-cells : (s t : WorldState) → LaterWorld s t → length s.cells ≤ length t.cells
 later-cells s t h =
     let e : length (take (length s.cells) t.cells) ≡ length s.cells = ap (λ (cs : List Cell). length cs) h.cells in
     omega (arith, e, length-take (length s.cells) t.cells)
 
-listed_later : (s t : State) → Later s t → (xs : List Value) (x : Value) → Listed s.cells xs x → Listed t.cells xs x
+listed_later : (s t : WorldState) → LaterWorld s t → (xs : List Value) (x : Value) → Listed s.cells xs x → Listed t.cells xs x
 listed_later s t h xs x k = record { runs = runs_still s.cells t.cells (later-stay s t h) k.runs; short = omega (arith, k.short, later-cells s t h) }
 
-gives-later : (w : PlainSetting) (c : PlainCore) (scope : Place) (s : State) (v : Value) (t : State) → Evaluates w c scope s v t → Later s t
+gives-later : (w : PlainSetting) (c : PlainCore) (scope : Place) (s : WorldState) (v : Value) (t : WorldState) → Evaluates w c scope s v t → LaterWorld s t
 gives-later w c scope s v t g = subst (EndsLater s) (g.1 0) (keeps-eval_of w c scope s (0 + g.0))
 
 -- What is made.
@@ -158,50 +158,50 @@ module _ (given : List (Tree × Value)) (cells : List Cell) where
       }
 
 module _ (w : PlainSetting) (scope : Place) (given : List (Tree × Value)) (f : Given) where
-  abbrev Ready : List Want → List PlainCore → State → Type 0
+  abbrev Ready : List Want → List PlainCore → WorldState → Type 0
   Ready xs cs s = AllGive w scope given f xs cs s
 
   -- an expression gives a value that shows this tree, and the rest can be evaluated
-  record Ran (c : PlainCore) (t : Tree) (rest : List Want) (cs : List PlainCore) (s : State) : Type 0 where
+  record Ran (c : PlainCore) (t : Tree) (rest : List Want) (cs : List PlainCore) (s : WorldState) : Type 0 where
     value : Value
-    state : State
+    state : WorldState
     evaluated : Evaluates w c scope s value state
     shown : Shows given state.cells t value
     left : Ready rest cs state
-    later : Later s state
+    later : LaterWorld s state
 
   -- likewise, a list
-  record RanList (c : PlainCore) (t : Tree) (rest : List Want) (cs : List PlainCore) (s : State) : Type 0 where
+  record RanList (c : PlainCore) (t : Tree) (rest : List Want) (cs : List PlainCore) (s : WorldState) : Type 0 where
     value : Value
-    state : State
+    state : WorldState
     evaluated : Evaluates w c scope s value state
     elements_of : List Value
     listed : Listed state.cells elements_of value
     each : ShowsEach given state.cells (chain (elements t) nil) elements_of
     left : Ready rest cs state
-    later : Later s state
+    later : LaterWorld s state
 
   -- operands, before a call of what stands before them
-  record RanAll (codes : List PlainCore) (ts : List Tree) (rest : List Want) (cs : List PlainCore) (s : State) : Type 0 where
+  record RanAll (codes : List PlainCore) (ts : List Tree) (rest : List Want) (cs : List PlainCore) (s : WorldState) : Type 0 where
     values_of : List Value
-    state : State
-    operands : (vs : List Value) (v : Value) (u : State) → Gives (applied w (eval_of w) (vs ++ values_of) state) v u → Operands w (cores codes) scope vs s v u
+    state : WorldState
+    operands : (vs : List Value) (v : Value) (u : WorldState) → Gives (applied w (eval_of w) (vs ++ values_of) state) v u → Operands w (cores codes) scope vs s v u
     each : ShowsEach given state.cells (chain ts nil) values_of
     left : Ready rest cs state
-    later : Later s state
+    later : LaterWorld s state
 
-  record RanJoined (qs : PlainQuasis) (rest : List Want) (cs : List PlainCore) (s : State) : Type 0 where
+  record RanJoined (qs : PlainQuasis) (rest : List Want) (cs : List PlainCore) (s : WorldState) : Type 0 where
     values_of : List Value
-    state : State
-    operands : (vs : List Value) (v : Value) (u : State) → Gives (applied w (eval_of w) (vs ++ values_of) state) v u → Operands w (cores (codes_of qs cs).0) scope vs s v u
+    state : WorldState
+    operands : (vs : List Value) (v : Value) (u : WorldState) → Gives (applied w (eval_of w) (vs ++ values_of) state) v u → Operands w (cores (codes_of qs cs).0) scope vs s v u
     parts : Joined given state.cells (values f qs) values_of
     nil_end : EndsInNil qs → parts.end ≡ nil
     left : Ready rest (codes_of qs cs).1 state
-    later : Later s state
+    later : LaterWorld s state
 
   -- Constants.
 
-  quoted_gives : (t : Tree) (s : State) → Evaluates w (quoted (strip t)) scope s (stored (strip t) s.cells).0 (store (stored (strip t) s.cells).1 s.names)
+  quoted_gives : (t : Tree) (s : WorldState) → Evaluates w (quoted (strip t)) scope s (stored (strip t) s.cells).0 (store (stored (strip t) s.cells).1 s.names)
   unfolding quoted_value
   quoted_gives t s =
       evaluates-step w (quoted (strip t)) scope s v u (gives-charged (datum_cost (strip t)) s (λ n. states.made s.names (stored (strip t) s.cells) n) v u (gives-done v u))
@@ -209,18 +209,18 @@ module _ (w : PlainSetting) (scope : Place) (given : List (Tree × Value)) (f : 
       v : Value
       v = (stored (strip t) s.cells).0
 
-      u : State
+      u : WorldState
       u = store (stored (strip t) s.cells).1 s.names
 
-  stored_later : (t : Tree) (s : State) → Later s (store (stored (strip t) s.cells).1 s.names)
+  stored_later : (t : Tree) (s : WorldState) → LaterWorld s (store (stored (strip t) s.cells).1 s.names)
   stored_later t s = record { cells = stored_keeps (strip t) s.cells; library = refl; names = omega arith }
 
-  ready_later : (xs : List Want) (cs : List PlainCore) (s t : State) → Later s t → Ready xs cs s → Ready xs cs t
+  ready_later : (xs : List Want) (cs : List PlainCore) (s t : WorldState) → LaterWorld s t → Ready xs cs s → Ready xs cs t
   ready_later [] cs s t h g = tt
   ready_later (x ∷ xs) [] s t h g = g
   ready_later (x ∷ xs) (c ∷ cs) s t h g = λ u k. g u (later-then s t u h k)
 
-  run_constant : (t : Tree) (rest : List Want) (cs : List PlainCore) (s : State) → Ready rest cs s → Ran (quoted (strip t)) (plain t) rest cs s
+  run_constant : (t : Tree) (rest : List Want) (cs : List PlainCore) (s : WorldState) → Ready rest cs s → Ran (quoted (strip t)) (plain t) rest cs s
   run_constant t rest cs s g = record {
     value = (stored (strip t) s.cells).0;
     state = store (stored (strip t) s.cells).1 s.names;
@@ -232,32 +232,32 @@ module _ (w : PlainSetting) (scope : Place) (given : List (Tree × Value)) (f : 
 
   -- Calls.
 
-  module _ (rest : List Want) (cs : List PlainCore) (s : State) where
-    call_gives : (op : Op) (codes : List PlainCore) (vs : List Value) (t u : State) (v : Value)
-        → ((us : List Value) (x : Value) (q : State) → Gives (applied w (eval_of w) (us ++ vs) t) x q → Operands w (cores codes) scope us s x q)
+  module _ (rest : List Want) (cs : List PlainCore) (s : WorldState) where
+    call_gives : (op : Op) (codes : List PlainCore) (vs : List Value) (t u : WorldState) (v : Value)
+        → ((us : List Value) (x : Value) (q : WorldState) → Gives (applied w (eval_of w) (us ++ vs) t) x q → Operands w (cores codes) scope us s x q)
         → Calls w (value.Prim op) vs t v u → Evaluates w (call_of op codes) scope s v u
     call_gives op codes vs t u v operands h =
         call-is w (primitive op) (cores codes) scope s s u (value.Prim op) v (primitive-is w op scope s) (operands (value.Prim op ∷ []) v u h)
 
     -- new pairs of these before a rest
-    pairs_called : (op : ℕ) (vs xs : List Value) (end : Value) (t : State) → Calls w (value.Prim (record { 0 = op })) vs t (pairs_stored xs (end, t.cells)).0 (store (pairs_stored xs (end, t.cells)).1 t.names)
-        → Later t (store (pairs_stored xs (end, t.cells)).1 t.names)
+    pairs_called : (op : ℕ) (vs xs : List Value) (end : Value) (t : WorldState) → Calls w (value.Prim (record { 0 = op })) vs t (pairs_stored xs (end, t.cells)).0 (store (pairs_stored xs (end, t.cells)).1 t.names)
+        → LaterWorld t (store (pairs_stored xs (end, t.cells)).1 t.names)
     pairs_called op vs xs end t h = calls-later w (value.Prim (record { 0 = op })) vs t (pairs_stored xs (end, t.cells)).0 (store (pairs_stored xs (end, t.cells)).1 t.names) h
 
-    list_called : (vs : List Value) (t : State) → Calls w (value.Prim (op_of maker.List)) vs t (pairs_stored vs (lists.nil, t.cells)).0 (store (pairs_stored vs (lists.nil, t.cells)).1 t.names)
+    list_called : (vs : List Value) (t : WorldState) → Calls w (value.Prim (op_of maker.List)) vs t (pairs_stored vs (lists.nil, t.cells)).0 (store (pairs_stored vs (lists.nil, t.cells)).1 t.names)
     unfolding has_text
     list_called vs t = plain-called w (op_of maker.List) vs t (made.List vs lists.nil) refl refl refl (list_answer t.cells w.frames vs)
 
-    star_called : (xs : List Value) (end : Value) (t : State) → Calls w (value.Prim (op_of maker.ConsStar)) (xs ++ end ∷ []) t (pairs_stored xs (end, t.cells)).0 (store (pairs_stored xs (end, t.cells)).1 t.names)
+    star_called : (xs : List Value) (end : Value) (t : WorldState) → Calls w (value.Prim (op_of maker.ConsStar)) (xs ++ end ∷ []) t (pairs_stored xs (end, t.cells)).0 (store (pairs_stored xs (end, t.cells)).1 t.names)
     unfolding has_text
     star_called xs end t = plain-called w (op_of maker.ConsStar) (xs ++ end ∷ []) t (made.List xs end) refl refl refl (star_answer t.cells w.frames xs end)
 
-    append_called : (xs ys : List Value) (end : Value) (t : State) → elements_joined t.cells [] xs ≡ Some ys
+    append_called : (xs ys : List Value) (end : Value) (t : WorldState) → elements_joined t.cells [] xs ≡ Some ys
         → Calls w (value.Prim (op_of maker.Append)) (xs ++ end ∷ []) t (pairs_stored ys (end, t.cells)).0 (store (pairs_stored ys (end, t.cells)).1 t.names)
     unfolding has_text
     append_called xs ys end t e = plain-called w (op_of maker.Append) (xs ++ end ∷ []) t (made.List ys end) refl refl refl (append_answer t.cells w.frames xs ys end e)
 
-    vector_called : (x : Value) (xs : List Value) (t : State) → list_elements t.cells x ≡ Some xs
+    vector_called : (x : Value) (xs : List Value) (t : WorldState) → list_elements t.cells x ≡ Some xs
         → Calls w (value.Prim (op_of maker.ListToVector)) (x ∷ []) t (value.Vector (record { 0 = length t.cells })) (store (t.cells ++ cell.Vector xs ∷ []) t.names)
     unfolding has_text
     vector_called x xs t e = plain-called w (op_of maker.ListToVector) (x ∷ []) t (made.Vector xs) refl refl refl (vector_answer t.cells w.frames x xs e)
@@ -325,7 +325,7 @@ module _ (w : PlainSetting) (scope : Place) (given : List (Tree × Value)) (f : 
       abbrev joined_to : Value × List Cell
       joined_to = pairs_stored r.parts.joined (r.parts.last, r.state.cells)
 
-      abbrev joined_state : State
+      abbrev joined_state : WorldState
       joined_state = store joined_to.1 r.state.names
 
       joined_call : Calls w (value.Prim (op_of maker.Append)) r.values_of r.state joined_to.0 joined_state
@@ -333,7 +333,7 @@ module _ (w : PlainSetting) (scope : Place) (given : List (Tree × Value)) (f : 
           subst (λ (vs : List Value). Calls w (value.Prim (op_of maker.Append)) vs r.state joined_to.0 joined_state) (sym r.parts.are)
           (append_called r.parts.fronts r.parts.joined r.parts.last r.state (r.parts.join []))
 
-      joined_later : Later r.state joined_state
+      joined_later : LaterWorld r.state joined_state
       joined_later = pairs_called names.APPEND r.values_of r.parts.joined r.parts.last r.state joined_call
 
       joined_given : Evaluates w (call_of (op_of maker.Append) (codes_of qs cs).0) scope s joined_to.0 joined_state
@@ -392,14 +392,14 @@ module _ (w : PlainSetting) (scope : Place) (given : List (Tree × Value)) (f : 
 
   -- Plans.
 
-  regroup : (xs ys rest : List Want) (cs : List PlainCore) (s : State) → Ready ((xs ++ ys) ++ rest) cs s → Ready (xs ++ (ys ++ rest)) cs s
+  regroup : (xs ys rest : List Want) (cs : List PlainCore) (s : WorldState) → Ready ((xs ++ ys) ++ rest) cs s → Ready (xs ++ (ys ++ rest)) cs s
   regroup xs ys rest cs s g = subst (λ (ws : List Want). Ready ws cs s) (append_assoc xs ys rest) g
 
   -- the code of a call, by the codes of its parts
   called_is : (P : PlainCore → List PlainCore → Type 0) (m : Maker) (qs : PlainQuasis) (cs : List PlainCore) → P (call_of (op_of m) (codes_of qs cs).0) (codes_of qs cs).1 → P (filled (plan.call m qs) cs).0 (filled (plan.call m qs) cs).1
   called_is P m qs cs h = subst (λ (p : List PlainCore × List PlainCore). P (call_of (op_of m) p.0) p.1) (sym (codes_are qs cs)) h
 
-  none_run : (rest : List Want) (cs : List PlainCore) (s : State) → Ready rest cs s → RanAll [] [] rest cs s
+  none_run : (rest : List Want) (cs : List PlainCore) (s : WorldState) → Ready rest cs s → RanAll [] [] rest cs s
   none_run rest cs s g = record {
     values_of = [];
     state = s;
@@ -409,7 +409,7 @@ module _ (w : PlainSetting) (scope : Place) (given : List (Tree × Value)) (f : 
     later = later-refl s;
   }
 
-  more_run : (c : PlainCore) (t : Tree) (codes : List PlainCore) (ts : List Tree) (ws rest : List Want) (cs ds : List PlainCore) (s : State) (a : Ran c t ws cs s) → RanAll codes ts rest ds a.state → RanAll (c ∷ codes) (t ∷ ts) rest ds s
+  more_run : (c : PlainCore) (t : Tree) (codes : List PlainCore) (ts : List Tree) (ws rest : List Want) (cs ds : List PlainCore) (s : WorldState) (a : Ran c t ws cs s) → RanAll codes ts rest ds a.state → RanAll (c ∷ codes) (t ∷ ts) rest ds s
   more_run c t codes ts ws rest cs ds s a b = record {
     values_of = a.value ∷ b.values_of;
     state = b.state;
@@ -420,7 +420,7 @@ module _ (w : PlainSetting) (scope : Place) (given : List (Tree × Value)) (f : 
     later = later-then s a.state b.state a.later b.later;
   }
 
-  last_joined : (q : PlainQuasi) (rest : List Want) (cs : List PlainCore) (s : State) → Ran (filled q cs).0 (makes f q) rest (filled q cs).1 s → RanJoined (more q none) rest cs s
+  last_joined : (q : PlainQuasi) (rest : List Want) (cs : List PlainCore) (s : WorldState) → Ran (filled q cs).0 (makes f q) rest (filled q cs).1 s → RanJoined (more q none) rest cs s
   unfolding joined_one
   last_joined q rest cs s a = record {
     values_of = a.value ∷ [];
@@ -432,7 +432,7 @@ module _ (w : PlainSetting) (scope : Place) (given : List (Tree × Value)) (f : 
     later = a.later;
   }
 
-  more_joined : (q r : PlainQuasi) (qs : PlainQuasis) (ws rest : List Want) (cs : List PlainCore) (s : State) (a : RanList (filled q cs).0 (makes f q) ws (filled q cs).1 s) → RanJoined (more r qs) rest (filled q cs).1 a.state
+  more_joined : (q r : PlainQuasi) (qs : PlainQuasis) (ws rest : List Want) (cs : List PlainCore) (s : WorldState) (a : RanList (filled q cs).0 (makes f q) ws (filled q cs).1 s) → RanJoined (more r qs) rest (filled q cs).1 a.state
       → RanJoined (more q (more r qs)) rest cs s
   unfolding joined_more
   more_joined q r qs ws rest cs s a b =
@@ -450,7 +450,7 @@ module _ (w : PlainSetting) (scope : Place) (given : List (Tree × Value)) (f : 
       }
 
   -- an expression that is spliced
-  spliced_run : (e : Tree) (rest : List Want) (cs : List PlainCore) (s : State) → Ready (wants_as true (expression e) ++ rest) cs s → RanList (filled (expression e) cs).0 (f e) rest (filled (expression e) cs).1 s
+  spliced_run : (e : Tree) (rest : List Want) (cs : List PlainCore) (s : WorldState) → Ready (wants_as true (expression e) ++ rest) cs s → RanList (filled (expression e) cs).0 (f e) rest (filled (expression e) cs).1 s
   spliced_run e rest [] s g = absurd g
   spliced_run e rest (c ∷ cs) s g =
       let r = g s (later-refl s) in record {
@@ -464,13 +464,13 @@ module _ (w : PlainSetting) (scope : Place) (given : List (Tree × Value)) (f : 
         later = gives-later w c scope s r.0 r.1 r.2;
       }
 
-  expression_run : (e : Tree) (rest : List Want) (cs : List PlainCore) (s : State) → Ready (wants_as false (expression e) ++ rest) cs s → Ran (filled (expression e) cs).0 (f e) rest (filled (expression e) cs).1 s
+  expression_run : (e : Tree) (rest : List Want) (cs : List PlainCore) (s : WorldState) → Ready (wants_as false (expression e) ++ rest) cs s → Ran (filled (expression e) cs).0 (f e) rest (filled (expression e) cs).1 s
   expression_run e rest [] s g = absurd g
   expression_run e rest (c ∷ cs) s g =
       let r = g s (later-refl s) in record { value = r.0; state = r.1; evaluated = r.2; shown = r.3; left = r.4; later = gives-later w c scope s r.0 r.1 r.2 }
 
   mutual
-    run : (q : PlainQuasi) → IsPlan q → (rest : List Want) (cs : List PlainCore) (s : State) → Ready (wants q ++ rest) cs s → Ran (filled q cs).0 (makes f q) rest (filled q cs).1 s
+    run : (q : PlainQuasi) → IsPlan q → (rest : List Want) (cs : List PlainCore) (s : WorldState) → Ready (wants q ++ rest) cs s → Ran (filled q cs).0 (makes f q) rest (filled q cs).1 s
     run (constant t) p rest cs s g = run_constant t rest cs s g
     run (expression e) p rest cs s g = expression_run e rest cs s g
     run (plan.call maker.List qs) p rest cs s g =
@@ -488,20 +488,20 @@ module _ (w : PlainSetting) (scope : Place) (given : List (Tree × Value)) (f : 
         (vector_ran rest cs s (filled q cs).0 (makes f q) (filled q cs).1 (whole-run q p rest cs s (regroup (wants q) [] rest cs s g)))
     run (plan.call maker.ListToVector (more q (more r qs))) p rest cs s g = absurd p
 
-    all-run : (qs : PlainQuasis) → ArePlans qs → (rest : List Want) (cs : List PlainCore) (s : State) → Ready (all_wants qs ++ rest) cs s → RanAll (codes_of qs cs).0 (values f qs) rest (codes_of qs cs).1 s
+    all-run : (qs : PlainQuasis) → ArePlans qs → (rest : List Want) (cs : List PlainCore) (s : WorldState) → Ready (all_wants qs ++ rest) cs s → RanAll (codes_of qs cs).0 (values f qs) rest (codes_of qs cs).1 s
     all-run none p rest cs s g = none_run rest cs s g
     all-run (more q qs) p rest cs s g =
         let a = run q p.0 (all_wants qs ++ rest) cs s (regroup (wants q) (all_wants qs) rest cs s g) in
         more_run (filled q cs).0 (makes f q) (codes_of qs (filled q cs).1).0 (values f qs) (all_wants qs ++ rest) rest (filled q cs).1 (codes_of qs (filled q cs).1).1 s a (all-run qs p.1 rest (filled q cs).1 a.state a.left)
 
-    joined-run : (qs : PlainQuasis) → IsSome qs → AreJoined qs → (rest : List Want) (cs : List PlainCore) (s : State) → Ready (append_wants qs ++ rest) cs s → RanJoined qs rest cs s
+    joined-run : (qs : PlainQuasis) → IsSome qs → AreJoined qs → (rest : List Want) (cs : List PlainCore) (s : WorldState) → Ready (append_wants qs ++ rest) cs s → RanJoined qs rest cs s
     joined-run none some p rest cs s g = absurd some
     joined-run (more q none) some p rest cs s g = last_joined q rest cs s (run q (argument_plan q p.0) rest cs s (regroup (wants q) [] rest cs s g))
     joined-run (more q (more r qs)) some p rest cs s g =
         let a = front-run q p.0 (append_wants (more r qs) ++ rest) cs s (regroup (wants_as true q) (append_wants (more r qs)) rest cs s g) in
         more_joined q r qs (append_wants (more r qs) ++ rest) rest cs s a (joined-run (more r qs) tt p.1 rest (filled q cs).1 a.state a.left)
 
-    front-run : (q : PlainQuasi) → IsArgument true q → (rest : List Want) (cs : List PlainCore) (s : State) → Ready (wants_as true q ++ rest) cs s → RanList (filled q cs).0 (makes f q) rest (filled q cs).1 s
+    front-run : (q : PlainQuasi) → IsArgument true q → (rest : List Want) (cs : List PlainCore) (s : WorldState) → Ready (wants_as true q ++ rest) cs s → RanList (filled q cs).0 (makes f q) rest (filled q cs).1 s
     front-run (constant t) p rest cs s g = absurd p
     front-run (expression e) p rest cs s g = spliced_run e rest cs s g
     front-run (plan.call maker.List qs) p rest cs s g =
@@ -510,7 +510,7 @@ module _ (w : PlainSetting) (scope : Place) (given : List (Tree × Value)) (f : 
     front-run (plan.call maker.Append qs) p rest cs s g = absurd p
     front-run (plan.call maker.ListToVector qs) p rest cs s g = absurd p
 
-    whole-run : (q : PlainQuasi) → IsWhole q → (rest : List Want) (cs : List PlainCore) (s : State) → Ready (wants q ++ rest) cs s → RanList (filled q cs).0 (makes f q) rest (filled q cs).1 s
+    whole-run : (q : PlainQuasi) → IsWhole q → (rest : List Want) (cs : List PlainCore) (s : WorldState) → Ready (wants q ++ rest) cs s → RanList (filled q cs).0 (makes f q) rest (filled q cs).1 s
     whole-run (constant t) p rest cs s g = absurd p
     whole-run (expression e) p rest cs s g = absurd p
     whole-run (plan.call maker.List qs) p rest cs s g =
@@ -526,7 +526,7 @@ module _ (w : PlainSetting) (scope : Place) (given : List (Tree × Value)) (f : 
   ok_of form place (Ok y) x h = let same : y ≡ x = cc in ap Ok same
   ok_of form place (Err e) x h = absurd (cc)
 
-  pub code-gives : (words : Words) (t form : Tree) (place : Span) (q : PlainQuasi) (cs : List PlainCore) (s : State)
+  pub code-gives : (words : Words) (t form : Tree) (place : Span) (q : PlainQuasi) (cs : List PlainCore) (s : WorldState)
       → quasi words t form place ≡ Ok q → Ready (wants q) cs s → GivesShown w scope given (filled q cs).0 s (template.filled words f t 0)
   code-gives words t form place q cs s e g =
       let k = ok_of form place (quasi_at words t 0) q e in

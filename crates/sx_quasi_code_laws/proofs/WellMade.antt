@@ -10,8 +10,8 @@ use Rattle.sx_quasi.specs.Parts.{taken_at, rest_at, splits, first_word, operand_
 use Rattle.sx_quasi.specs.Plan.{PlainQuasi, PlainQuasis, constant, expression, call, none, more, quasis}
 use Rattle.sx_quasi.specs.Quasi.{no_pieces, closed, expressions, with_each, with_splices, is_constant, with_item, is_end, without_splices, made_of, list_joined, vector_joined, Element, forms, step_by, step, walked, operand_or_bad, begun_by, begins, Tail, finished, flat, split_tail, list_made, vector_made, quasi_at, elements_made, tail_made}
 use Rattle.sx_quasi.specs.declared.maker.Maker.TheVariants as maker
-use Rattle.sx_quasi.specs.declared.parts.Taken.{Taken}
-use Rattle.sx_quasi.specs.declared.parts.Taken.TheVariants as taken
+use Rattle.sx_quasi.specs.declared.parts.QuasiTaken.{QuasiTaken}
+use Rattle.sx_quasi.specs.declared.parts.QuasiTaken.TheVariants as taken
 use Rattle.sx_quasi.specs.declared.quasi.Begun.{Begun}
 use Rattle.sx_quasi.specs.declared.quasi.Begun.TheVariants as begun
 use Rattle.sx_quasi.specs.declared.quasi.Pieces.{Pieces}
@@ -212,7 +212,7 @@ BegunWell (begun.Whole e) = Unit {0}
 BegunWell (begun.Parts p) = Well p
 
 module _ (w : Words) where
-  step_well : (n : ℕ) (x : Element) (p : Pieces) (u : Taken) → ((n : ℕ) → OkIs IsPlan (x.1 n)) → Well p → OkIs Well (step_by n x p u)
+  step_well : (n : ℕ) (x : Element) (p : Pieces) (u : QuasiTaken) → ((n : ℕ) → OkIs IsPlan (x.1 n)) → Well p → OkIs Well (step_by n x p u)
   step_well n x p (taken.Each es) h k = each_well p es k
   step_well n x p (taken.Spliced es) h k = splices_well p es k
   step_well n x p taken.Kept h k = then_is IsPlan Well (x.1 n) (λ q. Ok (with_item p q)) (h n) (λ q j. item_well p q k j)

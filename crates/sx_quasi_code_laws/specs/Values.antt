@@ -10,8 +10,8 @@ use Rattle.sx_value.specs.declared.cell.Cell.{Cell}
 use Rattle.sx_prims.specs.Chains.{list_elements}
 use Rattle.sx_eval.specs.Meaning.{eval_of}
 use Rattle.sx_eval.specs.Setting.{PlainSetting}
-use Rattle.sx_eval.specs.State.{State}
-use Rattle.sx_eval_laws.specs.Kept.{Later}
+use Rattle.sx_eval.specs.State.{WorldState}
+use Rattle.sx_eval_laws.specs.Kept.{LaterWorld}
 use Rattle.sx_given_laws.specs.Calls.{Gives}
 use Rattle.sx_quasi.specs.Plan.{PlainQuasi}
 use Rattle.sx_quasi.specs.Quasi.{quasi}
@@ -34,21 +34,21 @@ SuitsAs true given cells t v = ShowsList given cells (elements t) v
 SuitsAs false given cells t v = Shows given cells t v
 
 -- The code of each expression gives a value that suits, whatever cells were added before it.
-abbrev pub AllGive : PlainSetting → Place → List (Tree × Value) → Given → List Want → List PlainCore → State → Type 0
+abbrev pub AllGive : PlainSetting → Place → List (Tree × Value) → Given → List Want → List PlainCore → WorldState → Type 0
 AllGive w scope given f [] cs s = Unit {0}
 AllGive w scope given f (x ∷ xs) [] s = ⊥
 AllGive w scope given f (x ∷ xs) (c ∷ cs) s =
-    (t : State) → Later s t → (v : Value) × (u : State) × Gives (eval_of w c scope t) v u × SuitsAs x.spliced given u.cells (f x.expression) v × AllGive w scope given f xs cs u
+    (t : WorldState) → LaterWorld s t → (v : Value) × (u : WorldState) × Gives (eval_of w c scope t) v u × SuitsAs x.spliced given u.cells (f x.expression) v × AllGive w scope given f xs cs u
 
 -- Evaluation gives a value that shows this.
-pub record GivesShown (w : PlainSetting) (scope : Place) (given : List (Tree × Value)) (c : PlainCore) (s : State) (t : Tree) : Type 0 where
+pub record GivesShown (w : PlainSetting) (scope : Place) (given : List (Tree × Value)) (c : PlainCore) (s : WorldState) (t : Tree) : Type 0 where
   pub value : Value
-  pub state : State
+  pub state : WorldState
   pub evaluated : Gives (eval_of w c scope s) value state
   pub shown : Shows given state.cells t value
 
 -- Where the code of each expression of a `quasiquote` form gives a value that suits, so does the code of the form: its value shows the template with these in
 -- their places.
 abbrev pub CodeGivesTheTemplate : Type 0
-CodeGivesTheTemplate = (w : PlainSetting) (words : Words) (t form : Tree) (place : Span) (q : PlainQuasi) (scope : Place) (given : List (Tree × Value)) (f : Given) (cs : List PlainCore) (s : State)
+CodeGivesTheTemplate = (w : PlainSetting) (words : Words) (t form : Tree) (place : Span) (q : PlainQuasi) (scope : Place) (given : List (Tree × Value)) (f : Given) (cs : List PlainCore) (s : WorldState)
     → quasi words t form place ≡ Ok q → AllGive w scope given f (wants q) cs s → GivesShown w scope given (code.filled q cs).0 s (template.filled words f t 0)

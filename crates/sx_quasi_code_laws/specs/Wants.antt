@@ -4,7 +4,7 @@ use Rattle.sx_tree.specs.Tree.{Tree}
 use Rattle.sx_quasi.specs.Plan.{PlainQuasi, PlainQuasis, constant, expression, call, none, more}
 use Rattle.sx_quasi.specs.declared.maker.Maker.TheVariants as maker
 use Rattle.sx_quasi_code.specs.Parts.{quasi_parts}
-use Rattle.sx_quasi_code.specs.declared.parts.Part.{Part}
+use Rattle.sx_quasi_code.specs.declared.parts.PartForm.{PartForm}
 use Rattle.sx_heads.specs.Depth.{most_round}
 
 -- an expression, and whether `append` is called on its value, which then must be a list
@@ -42,7 +42,7 @@ expressions [] = []
 expressions (x ∷ xs) = x.expression ∷ expressions xs
 
 -- the forms of parts
-abbrev pub forms_of : List Part → List Tree
+abbrev pub forms_of : List PartForm → List Tree
 forms_of [] = []
 forms_of (p ∷ ps) = p.form ∷ forms_of ps
 

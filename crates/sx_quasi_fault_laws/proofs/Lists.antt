@@ -5,8 +5,8 @@ use Rattle.sx_tree.specs.Tree.{Tree, atom, leaf, pair, vector}
 use Rattle.sx_shapes.specs.Lists.{is_nil, elements, tail_of}
 use Rattle.sx_quasi.specs.Words.{Words, counts, inner}
 use Rattle.sx_quasi.specs.Parts.{rest_at}
-use Rattle.sx_quasi.specs.declared.word.Word.{Word}
-use Rattle.sx_quasi.specs.declared.word.Word.TheVariants as word
+use Rattle.sx_quasi.specs.declared.word.QuasiWord.{QuasiWord}
+use Rattle.sx_quasi.specs.declared.word.QuasiWord.TheVariants as word
 use Rattle.sx_quasi_laws.specs.Filled as report
 use Rattle.sx_quasi_laws.specs.Filled.{level_behind, only}
 use Rattle.sx_quasi_laws.proofs.Same.{tail_words}
@@ -22,7 +22,7 @@ neither : (a b : Bool) → (if a then true else b) ≡ false → (a ≡ false) �
 neither true b h = absurd (cc)
 neither false b h = (refl, h)
 
-pub inner-is : (x : Word) (n : ℕ) → inner x n ≡ level_behind x n
+pub inner-is : (x : QuasiWord) (n : ℕ) → inner x n ≡ level_behind x n
 inner-is word.Raise n = refl
 inner-is word.Lower zero = refl
 inner-is word.Lower (suc n) = omega arith
@@ -45,7 +45,7 @@ tail-many w (pair s e (pair r x d)) h = refl
 tail-many w (pair s e (vector r d)) h = refl
 tail-many w (vector s d) h = refl
 
-module _ (stays : Word → Bool) (w : Words) where
+module _ (stays : QuasiWord → Bool) (w : Words) where
   -- all elements at a level
   abbrev pub all_formed : ℕ → List Tree → Bool
   all_formed m [] = true

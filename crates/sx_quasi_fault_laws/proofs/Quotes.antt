@@ -14,8 +14,8 @@ use Rattle.sx_quasi.specs.Plan.{PlainQuasi}
 use Rattle.sx_quasi.specs.Quasi.{Element, Tail, no_pieces, with_item, step_by, step, walked, operand_or_bad, begun_by, finished, flat, split_tail, list_joined, vector_joined, list_made, vector_made, quasi_at, tail_made, element, fault_of, at_form}
 use Rattle.sx_quasi.specs.declared.quasi.Begun.TheVariants as begun
 use Rattle.sx_quasi.specs.declared.quasi.Pieces.{Pieces}
-use Rattle.sx_quasi.specs.declared.word.Word.{Word}
-use Rattle.sx_quasi.specs.declared.word.Word.TheVariants as word
+use Rattle.sx_quasi.specs.declared.word.QuasiWord.{QuasiWord}
+use Rattle.sx_quasi.specs.declared.word.QuasiWord.TheVariants as word
 use Rattle.sx_quasi.proofs.Levels.{elements_are, tail_is, forms_are}
 use Rattle.sx_quasi_laws.specs.Filled.{level_behind, only}
 use Rattle.sx_quasi_laws.proofs.Tails.{has_tail, cut, IsTail, splits_is, cut_is, tail_no_tail, cut_length, only_is, elements_at, tail_at}
@@ -79,7 +79,7 @@ module _ (w : Words) where
   kept-told : (m : ℕ) (t : Tree) (p : Pieces) → Told t → Tells (formed t m) (quasi_at w t m >>= λ q. Ok (with_item p q))
   kept-told m t p told = then-ok (formed t m) (quasi_at w t m) (with_item p) (told m)
 
-  form-told : (s : Option Span) (h d : Tree) (p : Pieces) → Told (pair s h d) → (x : Word) (b : Bool)
+  form-told : (s : Option Span) (h d : Tree) (p : Pieces) → Told (pair s h d) → (x : QuasiWord) (b : Bool)
       → Tells (stands_for_operands x b || formed (pair s h d) 0) (step_by 0 (element w (pair s h d)) p (taken_by x (if_some (if b then Some (h ∷ elements d) else None) behind_head)))
   form-told s h d p told word.Lower true = refl
   form-told s h d p told word.Splice true = refl
@@ -109,14 +109,14 @@ module _ (w : Words) where
 
   -- a list of a first element and others, before what ends it
   module _ (t a d : Tree) (ts : List Tree) (tail : Tail) where
-    abbrev Given : ℕ → Bool → Word → Type 0
+    abbrev Given : ℕ → Bool → QuasiWord → Type 0
     Given n c x = rest_is_formed none_stays w d n (level_behind x n) ≡ (all-are (level_behind x n) ts && c)
 
     operand-told : (n : ℕ) (o : Option Tree) → Tells (is_some o) (operand_or_bad o >>= finished t tail n)
     operand-told n None = (refl, refl)
     operand-told n (Some e) = refl
 
-    walked-told : (n : ℕ) → AllTold (a ∷ ts) → (c : Bool) → Tells c (tail.made n) → (x : Word) → Given n c x
+    walked-told : (n : ℕ) → AllTold (a ∷ ts) → (c : Bool) → Tells c (tail.made n) → (x : QuasiWord) → Given n c x
         → Tells (element_formed w (level_behind x n) a (formed a (level_behind x n)) && rest_is_formed none_stays w d n (level_behind x n))
         ((walked w (inner x n) no_pieces (map (element w) (a ∷ ts)) >>= λ p. Ok (begun.Parts p)) >>= finished t tail n)
     walked-told n all c last x given =
@@ -127,7 +127,7 @@ module _ (w : Words) where
         (parts-told t tail n (all-are (level_behind x n) (a ∷ ts)) c (walked w (inner x n) no_pieces (map (element w) (a ∷ ts)))
         (subst (λ m. Tells (all-are (level_behind x n) (a ∷ ts)) (walked w m no_pieces (map (element w) (a ∷ ts)))) (sym (inner-is x n)) (walk-told (a ∷ ts) all (level_behind x n) no_pieces)) last)
 
-    list-by : (n : ℕ) → AllTold (a ∷ ts) → (c : Bool) → Tells c (tail.made n) → operand_of tail.ends (a ∷ ts) ≡ only d → (x : Word) → Given n c x
+    list-by : (n : ℕ) → AllTold (a ∷ ts) → (c : Bool) → Tells c (tail.made n) → operand_of tail.ends (a ∷ ts) ≡ only d → (x : QuasiWord) → Given n c x
         → Tells (list_formed w n a d (formed a) (rest_is_formed none_stays w d) x)
         (begun_by (operand_of tail.ends (a ∷ ts)) (walked w (inner x n) no_pieces (map (element w) (a ∷ ts))) (reach x n) >>= finished t tail n)
     list-by zero all c last e word.Lower given = subst (λ o. Tells (is_some o) (operand_or_bad (operand_of tail.ends (a ∷ ts)) >>= finished t tail 0)) e (operand-told 0 (operand_of tail.ends (a ∷ ts)))

@@ -15,10 +15,10 @@ use Rattle.sx_quasi.specs.Quasi.{fault_of, at_form}
 use Rattle.sx_quasi.specs.QuasiSyntax.{Looked, Inserts, then_insert, no_trees, with_part, unchanged, rebuilt, list_joined, vector_joined, joined, Element, step_by, step, walked, operand_or_bad, begun_by, Tail, finished, flat, split_tail, escapes, list_made, vector_made, syntax_at, tail_made, element, answer}
 use Rattle.sx_quasi.specs.declared.quasi_syntax.Begun.TheVariants as begun
 use Rattle.sx_quasi.specs.declared.quasi_syntax.Insert.{Insert}
-use Rattle.sx_quasi.specs.declared.quasi_syntax.Part.{Part}
-use Rattle.sx_quasi.specs.declared.quasi_syntax.Row.{Row}
-use Rattle.sx_quasi.specs.declared.word.Word.{Word}
-use Rattle.sx_quasi.specs.declared.word.Word.TheVariants as word
+use Rattle.sx_quasi.specs.declared.quasi_syntax.QuasiPart.{QuasiPart}
+use Rattle.sx_quasi.specs.declared.quasi_syntax.QuasiRow.{QuasiRow}
+use Rattle.sx_quasi.specs.declared.word.QuasiWord.{QuasiWord}
+use Rattle.sx_quasi.specs.declared.word.QuasiWord.TheVariants as word
 use Rattle.sx_quasi.proofs.InsertLevels.{elements_are, tail_is, forms_are}
 use Rattle.sx_quasi_laws.specs.Filled.{level_behind, only}
 use Rattle.sx_quasi_laws.proofs.Tails.{has_tail, cut, IsTail, splits_is, cut_is, tail_no_tail, cut_length, only_is, elements_at, tail_at}
@@ -47,7 +47,7 @@ then-still b (Ok p) k h next = subst (λ d. Tells d (k p.0 p.1)) (sym h) (next p
 then-still b (Err f) k h next = h
 
 -- what is built again may be too deep
-built-told : (t u : Tree) (v : Part) (b : Bool) (is : List Insert) → Tells true (joined (if b then rebuilt t (within u) else Ok v) is)
+built-told : (t u : Tree) (v : QuasiPart) (b : Bool) (is : List Insert) → Tells true (joined (if b then rebuilt t (within u) else Ok v) is)
 unfolding within
 built-told t u v true is = by (fits u)
   where
@@ -96,10 +96,10 @@ module _ (w : Looked) where
 
   -- Elements.
 
-  kept-told : (m : ℕ) (t : Tree) (row : Row) (is : List Insert) → Told t → Tells (formed t m) (then_insert (syntax_at w t m is) (λ p js. Ok (with_part row p, js)))
+  kept-told : (m : ℕ) (t : Tree) (row : QuasiRow) (is : List Insert) → Told t → Tells (formed t m) (then_insert (syntax_at w t m is) (λ p js. Ok (with_part row p, js)))
   kept-told m t row is told = then-still (formed t m) (syntax_at w t m is) (λ p js. Ok (with_part row p, js)) (told m is) (λ p js. refl)
 
-  form-told : (s : Option Span) (h d : Tree) (row : Row) (is : List Insert) → Told (pair s h d) → (x : Word) (b : Bool)
+  form-told : (s : Option Span) (h d : Tree) (row : QuasiRow) (is : List Insert) → Told (pair s h d) → (x : QuasiWord) (b : Bool)
       → Tells (stands_for_operands x b || formed (pair s h d) 0) (step_by w 0 (element w (pair s h d)) row (taken_by x (if_some (if b then Some (h ∷ elements d) else None) behind_head)) is)
   form-told s h d row is told word.Lower true = refl
   form-told s h d row is told word.Splice true = refl
@@ -109,14 +109,14 @@ module _ (w : Looked) where
   form-told s h d row is told word.Escape b = kept-told 0 (pair s h d) row is told
   form-told s h d row is told word.Plain b = kept-told 0 (pair s h d) row is told
 
-  element-told : (m : ℕ) (t : Tree) (row : Row) (is : List Insert) → Told t → Tells (element_formed w.words m t (formed t m)) (step w m row (element w t) is)
+  element-told : (m : ℕ) (t : Tree) (row : QuasiRow) (is : List Insert) → Told t → Tells (element_formed w.words m t (formed t m)) (step w m row (element w t) is)
   element-told (suc m) t row is told = kept-told (suc m) t row is told
   element-told zero (atom s a) row is told = kept-told 0 (atom s a) row is told
   element-told zero (leaf s x c) row is told = kept-told 0 (leaf s x c) row is told
   element-told zero (pair s h d) row is told = form-told s h d row is told (w.words h) (is_nil (tail_of d))
   element-told zero (vector s d) row is told = kept-told 0 (vector s d) row is told
 
-  walk-told : (ts : List Tree) → AllTold ts → (m : ℕ) (row : Row) (is : List Insert) → Tells (all-are m ts) (walked w m row (map (element w) ts) is)
+  walk-told : (ts : List Tree) → AllTold ts → (m : ℕ) (row : QuasiRow) (is : List Insert) → Tells (all-are m ts) (walked w m row (map (element w) ts) is)
   walk-told [] h m row is = refl
   walk-told (t ∷ ts) h m row is =
       then-tells (element_formed w.words m t (formed t m)) (all-are m ts) (step w m row (element w t) is) (λ q js. walked w m q (map (element w) ts) js) (element-told m t row is h.0)
@@ -124,25 +124,25 @@ module _ (w : Looked) where
 
   -- Lists.
 
-  finish-told : (t : Tree) (tail : Tail) (n : ℕ) (c : Bool) (row : Row) (is : List Insert) → Tells c (tail.made n is) → Tells c (finished t tail n (begun.Trees row) is)
+  finish-told : (t : Tree) (tail : Tail) (n : ℕ) (c : Bool) (row : QuasiRow) (is : List Insert) → Tells c (tail.made n is) → Tells c (finished t tail n (begun.Trees row) is)
   finish-told t tail n c row is last =
       then-still c (tail.made n is) (λ q. joined (list_joined t row q)) last (λ q js. built-told t (list_of row.trees (Some q.tree)) (unchanged t) (row.changed || q.changed) js)
 
-  parts-told : (t : Tree) (tail : Tail) (n : ℕ) (b c : Bool) (x : Result (Row × List Insert) Bare) → Tells b x → ((is : List Insert) → Tells c (tail.made n is))
+  parts-told : (t : Tree) (tail : Tail) (n : ℕ) (b c : Bool) (x : Result (QuasiRow × List Insert) Bare) → Tells b x → ((is : List Insert) → Tells c (tail.made n is))
       → Tells (b && c) (then_insert (then_insert x (λ row js. Ok (begun.Trees row, js))) (finished t tail n))
   parts-told t tail n b c (Ok p) h last = subst (λ d. Tells (d && c) (finished t tail n (begun.Trees p.0) p.1)) (sym h) (finish-told t tail n c p.0 p.1 (last p.1))
   parts-told t tail n b c (Err f) h last = wrong-before b c f h
 
   -- a list of a first element and others, before what ends it
   module _ (t a d : Tree) (ts : List Tree) (tail : Tail) where
-    abbrev Given : ℕ → Bool → Word → Type 0
+    abbrev Given : ℕ → Bool → QuasiWord → Type 0
     Given n c x = rest_is_formed ellipsis_stays w.words d n (level_behind x n) ≡ (all-are (level_behind x n) ts && c)
 
     operand-told : (n : ℕ) (o : Option Tree) (is : List Insert) → Tells (is_some o) (then_insert (operand_or_bad o is) (finished t tail n))
     operand-told n None is = inl (refl, refl)
     operand-told n (Some e) is = refl
 
-    walked-told : (n : ℕ) → AllTold (a ∷ ts) → (c : Bool) → ((is : List Insert) → Tells c (tail.made n is)) → (x : Word) → Given n c x → (is : List Insert)
+    walked-told : (n : ℕ) → AllTold (a ∷ ts) → (c : Bool) → ((is : List Insert) → Tells c (tail.made n is)) → (x : QuasiWord) → Given n c x → (is : List Insert)
         → Tells (element_formed w.words (level_behind x n) a (formed a (level_behind x n)) && rest_is_formed ellipsis_stays w.words d n (level_behind x n))
         (then_insert (then_insert (walked w (inner x n) no_trees (map (element w) (a ∷ ts)) is) (λ row js. Ok (begun.Trees row, js))) (finished t tail n))
     walked-told n all c last x given is =
@@ -153,7 +153,7 @@ module _ (w : Looked) where
         (parts-told t tail n (all-are (level_behind x n) (a ∷ ts)) c (walked w (inner x n) no_trees (map (element w) (a ∷ ts)) is)
         (subst (λ m. Tells (all-are (level_behind x n) (a ∷ ts)) (walked w m no_trees (map (element w) (a ∷ ts)) is)) (sym (inner-is x n)) (walk-told (a ∷ ts) all (level_behind x n) no_trees is)) last)
 
-    list-by : (n : ℕ) → AllTold (a ∷ ts) → (c : Bool) → ((is : List Insert) → Tells c (tail.made n is)) → operand_of tail.ends (a ∷ ts) ≡ only d → (x : Word) → Given n c x → (is : List Insert)
+    list-by : (n : ℕ) → AllTold (a ∷ ts) → (c : Bool) → ((is : List Insert) → Tells c (tail.made n is)) → operand_of tail.ends (a ∷ ts) ≡ only d → (x : QuasiWord) → Given n c x → (is : List Insert)
         → Tells (list_formed w.words n a d (formed a) (rest_is_formed ellipsis_stays w.words d) x)
         (then_insert (begun_by (operand_of tail.ends (a ∷ ts)) (walked w (inner x n) no_trees (map (element w) (a ∷ ts))) (reach x n) is) (finished t tail n))
     list-by zero all c last e word.Lower given is = subst (λ o. Tells (is_some o) (then_insert (operand_or_bad (operand_of tail.ends (a ∷ ts)) is) (finished t tail 0))) e (operand-told 0 (operand_of tail.ends (a ∷ ts)) is)
@@ -203,7 +203,7 @@ module _ (w : Looked) where
       (sym (tail-many w.words d h)) (rest-split ellipsis_stays w.words d n (level_behind (w.words a) n) h) is
 
   -- an ellipsis before one operand
-  stays-is : (x : Word) (b : Bool) (a : Tree) (ts : List Tree) → (ellipsis_stays x && is_some (operand_of b (a ∷ ts))) ≡ escapes x b (a ∷ ts)
+  stays-is : (x : QuasiWord) (b : Bool) (a : Tree) (ts : List Tree) → (ellipsis_stays x && is_some (operand_of b (a ∷ ts))) ≡ escapes x b (a ∷ ts)
   stays-is word.Raise b a ts = refl
   stays-is word.Lower b a ts = refl
   stays-is word.Splice b a ts = refl
@@ -268,7 +268,7 @@ module _ (w : Looked) where
     told (leaf s x c) n is = refl
     told (pair s a d) n is =
         subst (λ (xs : List Element). Tells (formed (pair s a d) n) (list_made w (pair s a d) ((a, syntax_at w a) ∷ xs) (record { ends = is_nil (tail_of d); made = tail_made w d }) n is)) (sym (elements_are w d))
-        (subst (λ (go : ℕ → Inserts Part). Tells (formed (pair s a d) n) (list_made w (pair s a d) (map (element w) (a ∷ elements d)) (record { ends = is_nil (tail_of d); made = go }) n is)) (sym (tail_is w d))
+        (subst (λ (go : ℕ → Inserts QuasiPart). Tells (formed (pair s a d) n) (list_made w (pair s a d) (map (element w) (a ∷ elements d)) (record { ends = is_nil (tail_of d); made = go }) n is)) (sym (tail_is w d))
         (pair-told s a d (told a, all-told d) (tail-told-of d) n is))
     told (vector s d) n is = subst (λ (xs : List Element). Tells (items_are_formed ellipsis_stays w.words d n) (vector_made w (vector s d) xs n is)) (sym (elements_are w d)) (vector-told s d (all-told d) n is)
 
@@ -287,7 +287,7 @@ module _ (w : Looked) where
 pub syntaxes-are-decided : SyntaxesAreDecided
 syntaxes-are-decided w t form place = by (syntax_at w t 0 []) (told w t 0 [])
   where
-    by : (x : Result (Part × List Insert) Bare) → Tells (is_formed ellipsis_stays w.words t 0) x
+    by : (x : Result (QuasiPart × List Insert) Bare) → Tells (is_formed ellipsis_stays w.words t 0) x
         → SyntaxIs (is_formed ellipsis_stays w.words t 0) (fault_at kind.BadForm form place []) (fault_at kind.TooDeep form place []) (at_form form place x >>= λ p. Ok (answer p))
     by (Ok p) h = h
     by (Err f) (inl h) = inl (h.0, ap (fault_of form place) h.1)

@@ -3,20 +3,20 @@ use Rattle.std.specs.Prelude.{ℕ, zero, Bool, true, false, ◌&&◌, ◌||◌, 
 use Rattle.sx_tree.specs.Tree.{Tree, atom, leaf, pair, vector}
 use Rattle.sx_shapes.specs.Lists.{is_nil, tail_of}
 use Rattle.sx_quasi.specs.Words.{Words}
-use Rattle.sx_quasi.specs.declared.word.Word.{Word}
-use Rattle.sx_quasi.specs.declared.word.Word.TheVariants as word
+use Rattle.sx_quasi.specs.declared.word.QuasiWord.{QuasiWord}
+use Rattle.sx_quasi.specs.declared.word.QuasiWord.TheVariants as word
 use Rattle.sx_quasi_laws.specs.Filled.{level_behind, only, is_tail}
 
 -- Where an ellipsis escapes a template of `quasisyntax`, the list stays as it is. In a template of `quasiquote` none does.
-abbrev pub none_stays : Word → Bool
+abbrev pub none_stays : QuasiWord → Bool
 none_stays x = false
 
-abbrev pub ellipsis_stays : Word → Bool
+abbrev pub ellipsis_stays : QuasiWord → Bool
 ellipsis_stays word.Escape = true
 ellipsis_stays x = false
 
 -- whether `(word e ...)` stands for its operands: it must end in the empty list
-abbrev pub stands_for_operands : Word → Bool → Bool
+abbrev pub stands_for_operands : QuasiWord → Bool → Bool
 stands_for_operands word.Lower ends = ends
 stands_for_operands word.Splice ends = ends
 stands_for_operands word.Raise ends = false
@@ -31,21 +31,21 @@ element_formed w n t formed = formed
 
 -- A list of a head and a rest, by the word of its head: at level 0 `(unquote e)` has one operand, and nothing else stands there behind
 -- `unquote` or `unquote-splicing`.
-abbrev pub list_formed : Words → ℕ → Tree → Tree → (ℕ → Bool) → (ℕ → ℕ → Bool) → Word → Bool
+abbrev pub list_formed : Words → ℕ → Tree → Tree → (ℕ → Bool) → (ℕ → ℕ → Bool) → QuasiWord → Bool
 list_formed w zero a d head rest word.Lower = is_some (only d)
 list_formed w zero a d head rest word.Splice = false
 list_formed w n a d head rest x = element_formed w (level_behind x n) a (head (level_behind x n)) && rest n (level_behind x n)
 
 abbrev mutual
   -- a template at a level
-  pub is_formed : (Word → Bool) → Words → Tree → ℕ → Bool
+  pub is_formed : (QuasiWord → Bool) → Words → Tree → ℕ → Bool
   is_formed stays w (atom s a) n = true
   is_formed stays w (leaf s x c) n = true
   is_formed stays w (pair s a d) n = (stays (w a) && is_some (only d)) || list_formed w n a d (is_formed stays w a) (rest_is_formed stays w d) (w a)
   is_formed stays w (vector s d) n = items_are_formed stays w d n
 
   -- the rest of a list at the first of these levels, whose elements are at the second: `(1 . (unquote x))` is read as `(1 unquote x)`
-  pub rest_is_formed : (Word → Bool) → Words → Tree → ℕ → ℕ → Bool
+  pub rest_is_formed : (QuasiWord → Bool) → Words → Tree → ℕ → ℕ → Bool
   rest_is_formed stays w (atom s a) n m = true
   rest_is_formed stays w (leaf s x c) n m = true
   rest_is_formed stays w (pair s a d) n m =
@@ -54,7 +54,7 @@ abbrev mutual
   rest_is_formed stays w (vector s d) n m = items_are_formed stays w d n
 
   -- the elements of a vector
-  pub items_are_formed : (Word → Bool) → Words → Tree → ℕ → Bool
+  pub items_are_formed : (QuasiWord → Bool) → Words → Tree → ℕ → Bool
   items_are_formed stays w (atom s a) n = true
   items_are_formed stays w (leaf s x c) n = true
   items_are_formed stays w (pair s a d) n = element_formed w n a (is_formed stays w a n) && items_are_formed stays w d n

@@ -3,8 +3,8 @@ use Rattle.std.proofs.Common.{◌≡◌, ℕ, zero, suc, Bool, true, false, refl
 use Rattle.std.specs.Prelude.{◌&&◌, if◌then◌else◌}
 use Rattle.sx_tree.specs.Tree.{Tree, pair, nil}
 use Rattle.sx_quasi.specs.Words.{Words}
-use Rattle.sx_quasi.specs.declared.word.Word.{Word}
-use Rattle.sx_quasi.specs.declared.word.Word.TheVariants as word
+use Rattle.sx_quasi.specs.declared.word.QuasiWord.{QuasiWord}
+use Rattle.sx_quasi.specs.declared.word.QuasiWord.TheVariants as word
 use Rattle.sx_quasi_laws.specs.Makes.{Given}
 use Rattle.sx_quasi_laws.specs.Filled.{is_tail_word, filled, rest_filled, put, list_by, list_filled, form_of}
 
@@ -18,7 +18,7 @@ module _ (w : Words) (f : Given) (head t : Tree) where
       go false = refl
 
   -- what the form is, by the word of its head
-  abbrev by : ℕ → Word → Tree
+  abbrev by : ℕ → QuasiWord → Tree
   by n x = list_by w f n head (pair None t nil) (filled w f head) (rest_filled w f (pair None t nil)) x
 
   pub raised : (n : ℕ) → w head ≡ word.Raise → filled w f (form_of head t) n ≡ form_of (filled w f head (suc n)) (filled w f t (suc n))

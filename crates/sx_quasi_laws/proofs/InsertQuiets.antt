@@ -11,8 +11,8 @@ use Rattle.sx_quasi.specs.Parts.{rest_at, splits, first_word, operand_of}
 use Rattle.sx_quasi.specs.QuasiSyntax.{Looked, then_insert, Tail, no_trees, unchanged, with_part, rebuilt, list_joined, vector_joined, joined, step, step_by, walked, begun_by, finished, escapes, vector_made, syntax_at, element, tail_element, forms_walked, forms_begun, flat_list}
 use Rattle.sx_quasi.specs.declared.quasi_syntax.Begun.TheVariants as begun
 use Rattle.sx_quasi.specs.declared.quasi_syntax.Insert.{Insert}
-use Rattle.sx_quasi.specs.declared.quasi_syntax.Part.{Part}
-use Rattle.sx_quasi.specs.declared.quasi_syntax.Row.{Row}
+use Rattle.sx_quasi.specs.declared.quasi_syntax.QuasiPart.{QuasiPart}
+use Rattle.sx_quasi.specs.declared.quasi_syntax.QuasiRow.{QuasiRow}
 use Rattle.sx_quasi.proofs.InsertLevels.{elements_are, list_escaped, list_split, list_flat}
 use Rattle.sx_quasi.proofs.Sizes.{forms_size, parts_within, split_size, tree_size}
 use Rattle.sx_quasi_laws.specs.Quiet.{is_quiet}
@@ -20,20 +20,20 @@ use Rattle.sx_quasi_laws.proofs.Quiets.{are_quiet, quiet_elements, quiet_tail, q
 
 module _ (w : Looked) where
   -- a template that stays as it is, whatever was inserted before
-  abbrev Stays : Tree → (List Insert → Result (Part × List Insert) Bare) → Type 0
+  abbrev Stays : Tree → (List Insert → Result (QuasiPart × List Insert) Bare) → Type 0
   Stays t go = (is : List Insert) → go is ≡ Ok (unchanged t, is)
 
   -- trees that are the forms themselves, and no insert more
-  abbrev Same : List Insert → Result (Row × List Insert) Bare → Type 0
+  abbrev Same : List Insert → Result (QuasiRow × List Insert) Bare → Type 0
   Same is (Ok p) = (p.0.changed ≡ false) × (p.1 ≡ is)
   Same is (Err e) = ⊥
 
   module _ (k : ℕ) (ih : (t : Tree) (n : ℕ) → size t < k → is_quiet w.words t ≡ true → Stays t (syntax_at w t n)) where
-    step_stays : (m : ℕ) (r : Row) (t : Tree) (is : List Insert) → size t < k → is_quiet w.words t ≡ true → step w m r (element w t) is ≡ Ok (with_part r (unchanged t), is)
+    step_stays : (m : ℕ) (r : QuasiRow) (t : Tree) (is : List Insert) → size t < k → is_quiet w.words t ≡ true → step w m r (element w t) is ≡ Ok (with_part r (unchanged t), is)
     step_stays m r t is b h =
         ap (λ x. step_by w m (element w t) r x is) (quiet_kept w.words m t h) ∙ ap (λ q. then_insert q (λ p js. Ok (with_part r p, js))) (ih t m b h is)
 
-    walk_stays : (ts : List Tree) (m : ℕ) (r : Row) (is : List Insert) → forms_size ts < k → are_quiet w.words ts ≡ true → r.changed ≡ false → Same is (walked w m r (map (element w) ts) is)
+    walk_stays : (ts : List Tree) (m : ℕ) (r : QuasiRow) (is : List Insert) → forms_size ts < k → are_quiet w.words ts ≡ true → r.changed ≡ false → Same is (walked w m r (map (element w) ts) is)
     walk_stays [] m r is b h e = (e, refl)
     walk_stays (t ∷ ts) m r is b h e =
         subst (λ q. Same is (then_insert q (λ s js. walked w m s (map (element w) ts) js))) (sym (step_stays m r t is (omega (arith, b)) (quiet_one w.words t ts h)))
@@ -45,7 +45,7 @@ module _ (w : Looked) where
         ap (λ x. then_insert (begun_by (operand_of tl.ends ts) (forms_walked w (inner (first_word w.words ts) n) ts) x is) (finished t tl n)) (quiet_first w.words n ts h)
         ∙ go (forms_walked w (inner (first_word w.words ts) n) ts is) (walk_stays ts (inner (first_word w.words ts) n) no_trees is b h refl)
       where
-        go : (q : Result (Row × List Insert) Bare) → Same is q → then_insert (then_insert q (λ r js. Ok (begun.Trees r, js))) (finished t tl n) ≡ Ok (unchanged t, is)
+        go : (q : Result (QuasiRow × List Insert) Bare) → Same is q → then_insert (then_insert q (λ r js. Ok (begun.Trees r, js))) (finished t tl n) ≡ Ok (unchanged t, is)
         go (Err f) x = absurd x
         go (Ok p) x =
             ap (λ q. then_insert q (λ u. joined (list_joined t p.0 u))) (made p.1)
@@ -91,7 +91,7 @@ module _ (w : Looked) where
         ap (λ xs. vector_made w (vector s d) xs n is) (elements_are w d)
         ∙ go (forms_walked w n (elements d) is) (walk_stays (elements d) n no_trees is (omega (arith, b, parts_within d, tree_size (tail_of d))) (quiet_elements w.words d h) refl)
       where
-        go : (q : Result (Row × List Insert) Bare) → Same is q → then_insert q (λ r. joined (vector_joined (vector s d) r)) ≡ Ok (unchanged (vector s d), is)
+        go : (q : Result (QuasiRow × List Insert) Bare) → Same is q → then_insert q (λ r. joined (vector_joined (vector s d) r)) ≡ Ok (unchanged (vector s d), is)
         go (Err f) x = absurd x
         go (Ok p) x =
             ap (λ c. joined (if c then rebuilt (vector s d) (within (vector_of p.0.trees)) else Ok (unchanged (vector s d))) p.1) x.0 ∙ ap (λ js. Ok (unchanged (vector s d), js)) x.1

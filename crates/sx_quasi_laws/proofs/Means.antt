@@ -12,8 +12,8 @@ use Rattle.sx_quasi.specs.Parts.{rest_at, taken_at, first_word, operand_of}
 use Rattle.sx_quasi.specs.Plan.{PlainQuasi, constant, call, quasis}
 use Rattle.sx_quasi.specs.declared.maker.Maker.TheVariants as maker
 use Rattle.sx_quasi.specs.Quasi.{Tail, no_pieces, with_item, is_constant, step_by, step, walked, operand_or_bad, begun_by, finished, made_of, list_joined, vector_joined, vector_made, quasi_at, element, tail_element, forms_walked, forms_begun, flat_list, split_list}
-use Rattle.sx_quasi.specs.declared.parts.Taken.{Taken}
-use Rattle.sx_quasi.specs.declared.parts.Taken.TheVariants as taken
+use Rattle.sx_quasi.specs.declared.parts.QuasiTaken.{QuasiTaken}
+use Rattle.sx_quasi.specs.declared.parts.QuasiTaken.TheVariants as taken
 use Rattle.sx_quasi.specs.declared.quasi.Pieces.{Pieces}
 use Rattle.sx_quasi.specs.declared.word.Reach.{Reach}
 use Rattle.sx_quasi.specs.declared.word.Reach.TheVariants as reached
@@ -80,7 +80,7 @@ module _ (w : Words) (f : Given) where
             mean.fixed_are two.0 (pair None (filled w f t m) r) ∙ ap (λ v. h (pair None v r)) (sym k.0 ∙ ap (makes f) (k.1 two.1));
       }
 
-      go : (x : Taken) → Puts (λ r. g (put_by f (filled w f t m) r x)) (λ r. h (pair None (plain t) r)) (step_by m (element w t) p x)
+      go : (x : QuasiTaken) → Puts (λ r. g (put_by f (filled w f t m) r x)) (λ r. h (pair None (plain t) r)) (step_by m (element w t) p x)
       go (taken.Each es) = record {
         puts_are = λ r. each_put f p es r ∙ mean.puts_are (chain (map f es) r);
         fixed_are = λ b r. absurd (cc);
@@ -247,7 +247,7 @@ module _ (w : Words) (f : Given) where
     items_are (pair s a d) n = ap (put w f n a (filled w f a n)) (items_are d n)
     items_are (vector s d) n = refl
 
-    put_elements : (x : Taken) (v r : Tree) → chain (elements r) nil ≡ r → chain (elements (put_by f v r x)) nil ≡ put_by f v r x
+    put_elements : (x : QuasiTaken) (v r : Tree) → chain (elements r) nil ≡ r → chain (elements (put_by f v r x)) nil ≡ put_by f v r x
     put_elements (taken.Each es) v r h = chain_elements (map f es) r h
     put_elements (taken.Spliced es) v r h = go es
       where

@@ -11,13 +11,13 @@ use Rattle.sx_quasi.specs.QuasiSyntax.{Looked, Inserts, then_insert, insert_leaf
 use Rattle.sx_base.specs.Gives.{◌>>=◌}
 use Rattle.sx_quasi.specs.Quasi.{at_form}
 use Rattle.sx_quasi.specs.declared.quasi_syntax.QuasiSyntax.{QuasiSyntax}
-use Rattle.sx_quasi.specs.declared.parts.Taken.{Taken}
-use Rattle.sx_quasi.specs.declared.parts.Taken.TheVariants as taken
+use Rattle.sx_quasi.specs.declared.parts.QuasiTaken.{QuasiTaken}
+use Rattle.sx_quasi.specs.declared.parts.QuasiTaken.TheVariants as taken
 use Rattle.sx_quasi.specs.declared.quasi_syntax.Begun.{Begun}
 use Rattle.sx_quasi.specs.declared.quasi_syntax.Begun.TheVariants as begun
 use Rattle.sx_quasi.specs.declared.quasi_syntax.Insert.{Insert}
-use Rattle.sx_quasi.specs.declared.quasi_syntax.Part.{Part}
-use Rattle.sx_quasi.specs.declared.quasi_syntax.Row.{Row}
+use Rattle.sx_quasi.specs.declared.quasi_syntax.QuasiPart.{QuasiPart}
+use Rattle.sx_quasi.specs.declared.quasi_syntax.QuasiRow.{QuasiRow}
 use Rattle.sx_quasi.specs.declared.word.Reach.{Reach}
 use Rattle.sx_quasi.specs.declared.word.Reach.TheVariants as reached
 use Rattle.sx_quasi_laws.specs.Numbered.{IsNumbered}
@@ -69,12 +69,12 @@ keep_drop (suc k) [] h = tt
 keep_drop (suc k) (x ∷ xs) h = keep_drop k xs h.1
 
 module _ (w : Looked) where
-  step_keeps : (n : ℕ) (r : Row) (x : Element) → ((m : ℕ) → Keeps (x.1 m)) → (k : Taken) → Keeps (step_by w n x r k)
+  step_keeps : (n : ℕ) (r : QuasiRow) (x : Element) → ((m : ℕ) → Keeps (x.1 m)) → (k : QuasiTaken) → Keeps (step_by w n x r k)
   step_keeps n r x g (taken.Each es) is h = leaves_numbered r.trees es is h
   step_keeps n r x g (taken.Spliced es) is h = spliced_numbered w.dots r.trees es is h
   step_keeps n r x g taken.Kept is h = then_keeps (x.1 n is) (λ p js. Ok (with_part r p, js)) (g n is h) (λ p js k. k)
 
-  walk_keeps : (n : ℕ) (xs : List Element) (r : Row) → AllKeep xs → Keeps (walked w n r xs)
+  walk_keeps : (n : ℕ) (xs : List Element) (r : QuasiRow) → AllKeep xs → Keeps (walked w n r xs)
   walk_keeps n [] r g is h = h
   walk_keeps n (x ∷ xs) r g is h =
       then_keeps (step w n r x is) (λ q js. walked w n q xs js) (step_keeps n r x g.0 (taken_at w.words n x.0) is h) (λ q. walk_keeps n xs q g.1)
@@ -83,7 +83,7 @@ module _ (w : Looked) where
   operand_keeps None is h = tt
   operand_keeps (Some e) is h = one_more 0 e is h
 
-  begun_keeps : (o : Option Tree) (row : Inserts Row) (x : Reach) → Keeps row → Keeps (begun_by o row x)
+  begun_keeps : (o : Option Tree) (row : Inserts QuasiRow) (x : Reach) → Keeps row → Keeps (begun_by o row x)
   begun_keeps o row reached.Operand g is h = operand_keeps o is h
   begun_keeps o row reached.Refused g is h = tt
   begun_keeps o row reached.Elements g is h = then_keeps (row is) (λ r js. Ok (begun.Trees r, js)) (g is h) (λ r js k. k)
@@ -137,7 +137,7 @@ module _ (w : Looked) where
   pub all_numbered : (t form : Tree) (place : Span) (q : QuasiSyntax) → quasi_syntax w t form place ≡ Ok q → IsNumbered 0 q.inserts
   all_numbered t form place q = go (syntax_at w t 0 []) (keeps t 0 [] tt)
     where
-      go : (r : Result (Part × List Insert) Bare) → Kept r → (at_form form place r >>= λ p. Ok (answer p)) ≡ Ok q → IsNumbered 0 q.inserts
+      go : (r : Result (QuasiPart × List Insert) Bare) → Kept r → (at_form form place r >>= λ p. Ok (answer p)) ≡ Ok q → IsNumbered 0 q.inserts
       go (Ok p) h e =
           let is : answer p ≡ q = cc in
           subst (λ (x : QuasiSyntax). IsNumbered 0 x.inserts) is h

@@ -12,11 +12,11 @@ use Rattle.sx_quasi.specs.Parts.{rest_at, splits, taken_at, taken_by, first_word
 use Rattle.sx_quasi.specs.Plan.{constant, call, quasis}
 use Rattle.sx_quasi.specs.Quasi.{Tail, no_pieces, with_item, step, step_by, walked, begun_by, finished, made_of, list_joined, vector_joined, vector_made, quasi_at, element, tail_element, forms_walked, forms_begun, flat_list}
 use Rattle.sx_quasi.specs.declared.maker.Maker.TheVariants as maker
-use Rattle.sx_quasi.specs.declared.parts.Taken.TheVariants as taken
+use Rattle.sx_quasi.specs.declared.parts.QuasiTaken.TheVariants as taken
 use Rattle.sx_quasi.specs.declared.quasi.Pieces.{Pieces}
 use Rattle.sx_quasi.specs.declared.word.Reach.TheVariants as reached
-use Rattle.sx_quasi.specs.declared.word.Word.{Word}
-use Rattle.sx_quasi.specs.declared.word.Word.TheVariants as word
+use Rattle.sx_quasi.specs.declared.word.QuasiWord.{QuasiWord}
+use Rattle.sx_quasi.specs.declared.word.QuasiWord.TheVariants as word
 use Rattle.sx_quasi.proofs.Levels.{elements_are, list_split, list_flat}
 use Rattle.sx_quasi.proofs.Sizes.{forms_size, parts_within, split_size, tree_size}
 use Rattle.sx_quasi_laws.specs.Quiet.{is_quiet_word, is_quiet}
@@ -29,14 +29,14 @@ second_true : (a b : Bool) → (a && b) ≡ true → b ≡ true
 second_true true b h = h
 second_true false b h = absurd (cc)
 
-quiet_taken : (x : Word) (o : Option (List Tree)) → is_quiet_word x ≡ true → taken_by x o ≡ taken.Kept
+quiet_taken : (x : QuasiWord) (o : Option (List Tree)) → is_quiet_word x ≡ true → taken_by x o ≡ taken.Kept
 quiet_taken word.Raise o h = refl
 quiet_taken word.Lower o h = absurd (cc)
 quiet_taken word.Splice o h = absurd (cc)
 quiet_taken word.Escape o h = refl
 quiet_taken word.Plain o h = refl
 
-pub quiet_reach : (x : Word) (n : ℕ) → is_quiet_word x ≡ true → reach x n ≡ reached.Elements
+pub quiet_reach : (x : QuasiWord) (n : ℕ) → is_quiet_word x ≡ true → reach x n ≡ reached.Elements
 quiet_reach word.Raise n h = refl
 quiet_reach word.Lower n h = absurd (cc)
 quiet_reach word.Splice n h = absurd (cc)

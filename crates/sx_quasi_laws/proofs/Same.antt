@@ -7,13 +7,13 @@ use Rattle.sx_quasi.specs.Words.{Words, inner, reach, counts}
 use Rattle.sx_quasi.specs.Parts.{behind_head, taken_by}
 use Rattle.sx_quasi.specs.declared.word.Reach.{Reach}
 use Rattle.sx_quasi.specs.declared.word.Reach.TheVariants as reached
-use Rattle.sx_quasi.specs.declared.word.Word.{Word}
-use Rattle.sx_quasi.specs.declared.word.Word.TheVariants as word
+use Rattle.sx_quasi.specs.declared.word.QuasiWord.{QuasiWord}
+use Rattle.sx_quasi.specs.declared.word.QuasiWord.TheVariants as word
 use Rattle.sx_quasi_laws.specs.Makes.{Given}
 use Rattle.sx_quasi_laws.specs.Filled.{is_tail_word, only, value_of, put_form, put, is_tail, list_by, list_filled, filled, rest_filled, items_filled}
 use Rattle.sx_quasi_laws.proofs.Walked as walked
 
-pub tail_words : (x : Word) → is_tail_word x ≡ counts x
+pub tail_words : (x : QuasiWord) → is_tail_word x ≡ counts x
 tail_words word.Raise = refl
 tail_words word.Lower = refl
 tail_words word.Splice = refl
@@ -21,7 +21,7 @@ tail_words word.Escape = refl
 tail_words word.Plain = refl
 
 module _ (w : Words) (f : Given) where
-  form_same : (x : Word) (b : Bool) (h : Tree) (es : List Tree) (made r : Tree)
+  form_same : (x : QuasiWord) (b : Bool) (h : Tree) (es : List Tree) (made r : Tree)
       → put_form f x b es made r ≡ walked.put_by f made r (taken_by x (if_some (if b then Some (h ∷ es) else None) behind_head))
   form_same word.Lower true h es made r = refl
   form_same word.Splice true h es made r = refl
@@ -49,7 +49,7 @@ module _ (w : Words) (f : Given) where
     put_on : (n m : ℕ) → put w f m a (made m) (rest n m) ≡ walked.put w f m a (old m) (before n m)
     put_on n m = (λ i. put w f m a (h m i) (k n m i)) ∙ put_same m a (old m) (before n m)
 
-    abbrev old_by : ℕ → Word → Reach → Tree
+    abbrev old_by : ℕ → QuasiWord → Reach → Tree
     old_by n x reached.Operand = value_of f (only d)
     old_by n x reached.Refused = nil
     old_by n x reached.Elements = walked.put w f (inner x n) a (old (inner x n)) (before n (inner x n))
@@ -59,7 +59,7 @@ module _ (w : Words) (f : Given) where
         let e : n ≡ suc n - 1 = omega arith in
         ap (λ m. walked.put w f m a (old m) (before (suc n) m)) e
 
-    by_same : (n : ℕ) (x : Word) → list_by w f n a d made rest x ≡ old_by n x (reach x n)
+    by_same : (n : ℕ) (x : QuasiWord) → list_by w f n a d made rest x ≡ old_by n x (reach x n)
     by_same zero word.Lower = refl
     by_same zero word.Splice = refl
     by_same zero word.Raise = put_on zero (suc zero)

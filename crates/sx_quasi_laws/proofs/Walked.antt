@@ -3,14 +3,14 @@ use Rattle.std.specs.Prelude.{ℕ, Bool, ◌&&◌, map, None, is_some, if◌then
 use Rattle.sx_tree.specs.Tree.{Tree, atom, leaf, pair, vector, nil, chain}
 use Rattle.sx_quasi.specs.Words.{Words, inner, reach, counts}
 use Rattle.sx_quasi.specs.Parts.{taken_at}
-use Rattle.sx_quasi.specs.declared.parts.Taken.{Taken}
-use Rattle.sx_quasi.specs.declared.parts.Taken.TheVariants as taken
+use Rattle.sx_quasi.specs.declared.parts.QuasiTaken.{QuasiTaken}
+use Rattle.sx_quasi.specs.declared.parts.QuasiTaken.TheVariants as taken
 use Rattle.sx_quasi.specs.declared.word.Reach.{Reach}
 use Rattle.sx_quasi.specs.declared.word.Reach.TheVariants as reached
 use Rattle.sx_quasi_laws.specs.Makes.{Given}
 use Rattle.sx_quasi_laws.specs.Filled.{only, value_of, spliced}
 
-abbrev pub put_by : Given → Tree → Tree → Taken → Tree
+abbrev pub put_by : Given → Tree → Tree → QuasiTaken → Tree
 put_by f made r (taken.Each es) = chain (map f es) r
 put_by f made r (taken.Spliced es) = spliced f es r
 put_by f made r taken.Kept = pair None made r

@@ -3,19 +3,19 @@ use Rattle.std.specs.Prelude.{ℕ, zero, suc, Bool, true, false, ◌&&◌, List,
 use Rattle.sx_tree.specs.Tree.{Tree, atom, leaf, pair, vector, nil, chain}
 use Rattle.sx_shapes.specs.Lists.{is_nil, elements, tail_of}
 use Rattle.sx_quasi.specs.Words.{Words}
-use Rattle.sx_quasi.specs.declared.word.Word.{Word}
-use Rattle.sx_quasi.specs.declared.word.Word.TheVariants as word
+use Rattle.sx_quasi.specs.declared.word.QuasiWord.{QuasiWord}
+use Rattle.sx_quasi.specs.declared.word.QuasiWord.TheVariants as word
 use Rattle.sx_quasi_laws.specs.Makes.{Given}
 
 -- `quasiquote` adds a level for what stands behind it, and `unquote` and `unquote-splicing` take one away
-abbrev pub level_behind : Word → ℕ → ℕ
+abbrev pub level_behind : QuasiWord → ℕ → ℕ
 level_behind word.Raise n = suc n
 level_behind word.Lower (suc n) = n
 level_behind word.Splice (suc n) = n
 level_behind x n = n
 
 -- whether `(word x)` in the place of a tail is the form that it looks like: `(1 . ,x)` is read as `(1 unquote x)`
-abbrev pub is_tail_word : Word → Bool
+abbrev pub is_tail_word : QuasiWord → Bool
 is_tail_word word.Raise = true
 is_tail_word word.Lower = true
 is_tail_word word.Splice = true
@@ -39,7 +39,7 @@ spliced f [] r = r
 spliced f (e ∷ es) r = chain (elements (f e)) (spliced f es r)
 
 -- an element that is a list of a head and operands, ended by Nil or not: `(unquote e ...)` and `(unquote-splicing e ...)`
-abbrev pub put_form : Given → Word → Bool → List Tree → Tree → Tree → Tree
+abbrev pub put_form : Given → QuasiWord → Bool → List Tree → Tree → Tree → Tree
 put_form f word.Lower true es made r = chain (map f es) r
 put_form f word.Splice true es made r = spliced f es r
 put_form f x ends es made r = pair None made r
@@ -54,7 +54,7 @@ abbrev pub is_tail : Words → Tree → Tree → Bool
 is_tail w a d = is_tail_word (w a) && is_some (only d)
 
 -- At level 0 `(unquote e)` is the value of e; nothing else may stand there behind `unquote` or `unquote-splicing`.
-abbrev pub list_by : Words → Given → ℕ → Tree → Tree → (ℕ → Tree) → (ℕ → ℕ → Tree) → Word → Tree
+abbrev pub list_by : Words → Given → ℕ → Tree → Tree → (ℕ → Tree) → (ℕ → ℕ → Tree) → QuasiWord → Tree
 list_by w f zero a d made rest word.Lower = value_of f (only d)
 list_by w f zero a d made rest word.Splice = nil
 list_by w f n a d made rest x = put w f (level_behind x n) a (made (level_behind x n)) (rest n (level_behind x n))

@@ -2,10 +2,10 @@
 use Rattle.std.specs.Prelude.{Bool, true, false, ◌&&◌}
 use Rattle.sx_tree.specs.Tree.{Tree, atom, leaf, pair, vector}
 use Rattle.sx_quasi.specs.Words.{Words}
-use Rattle.sx_quasi.specs.declared.word.Word.{Word}
-use Rattle.sx_quasi.specs.declared.word.Word.TheVariants as word
+use Rattle.sx_quasi.specs.declared.word.QuasiWord.{QuasiWord}
+use Rattle.sx_quasi.specs.declared.word.QuasiWord.TheVariants as word
 
-abbrev pub is_quiet_word : Word → Bool
+abbrev pub is_quiet_word : QuasiWord → Bool
 is_quiet_word word.Raise = true
 is_quiet_word word.Lower = false
 is_quiet_word word.Splice = false

@@ -8,7 +8,7 @@ ghost use Rattle.sx_quasi.specs.Plan.{PlainQuasi, constant};
 ghost use Rattle.sx_quasi.specs.Quasi.{quasi_at};
 ghost use Rattle.sx_quasi.specs.QuasiSyntax.{Looked, quasi_syntax};
 ghost use Rattle.sx_quasi.specs.declared.quasi_syntax.QuasiSyntax.{QuasiSyntax};
-ghost use Rattle.sx_quasi.specs.declared.word.Word.TheVariants as word;
+ghost use Rattle.sx_quasi.specs.declared.word.QuasiWord.TheVariants as word;
 ghost use Rattle.sx_quasi_laws.specs.Makes.{Given, makes};
 ghost use Rattle.sx_quasi_laws.specs.Filled.{filled, put, form_of};
 ghost use Rattle.sx_quasi_laws.specs.Numbered.{IsNumbered};

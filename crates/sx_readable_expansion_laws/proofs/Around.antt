@@ -1,7 +1,7 @@
 -- The law of what is done with forms round others.
 use Rattle.std.proofs.Common.{◌≡◌, ℕ, zero, suc, List, Result, Ok, Err, refl, subst}
 use Rattle.sx_base.specs.declared.fault.Fault.{Fault}
-use Rattle.sx_core.specs.declared.record.LibRecord.{LibRecord}
+use Rattle.sx_core.specs.declared.record.CompiledLibrary.{CompiledLibrary}
 use Rattle.sx_standing.specs.State.{State}
 use Rattle.sx_expand.specs.Body.{item}
 use Rattle.sx_expand.specs.Expression.{lambda_case, form_at, inside}
@@ -11,10 +11,10 @@ use Rattle.sx_readable_expansion_laws.specs.Keeping.{KeepsReadable, around, Read
 use Rattle.sx_readable_expansion_laws.specs.States.{ReadableIn}
 use Rattle.sx_invariant_expansion_laws.proofs.Forms as core_forms
 use Rattle.sx_invariant_expansion_laws.proofs.Items as items
-use Rattle.sx_invariant_expansion_laws.proofs.Settled as settled
+use Rattle.sx_invariant_expansion_laws.proofs.PlannedForm as settled
 use Rattle.sx_readable_laws.specs.Readable.{readable}
 use Rattle.sx_readable_expansion_laws.proofs.Kept.{readable-kept}
-use Rattle.sx_readable_expansion_laws.proofs.Settled.{Keeps, inside-keeps}
+use Rattle.sx_readable_expansion_laws.proofs.PlannedForm.{Keeps, inside-keeps}
 use Rattle.sx_readable_expansion_laws.proofs.Standing.{C, Gave}
 
 -- what was given is told by the account
@@ -40,12 +40,12 @@ around-keeps go keeps = record {
   item = λ at depth d d' t s u h rs k g e. told (items.TakenAt readable readable-kept) u d' (item go at depth d t s) (settled.item-holds readable readable-kept go (as-given go keeps rs) at depth d t s h k g) e;
 }
 
-earlier : (records : List LibRecord) (room : ℕ) → ReadableRecords (inside records room).earlier → ReadableRecords records
+earlier : (records : List CompiledLibrary) (room : ℕ) → ReadableRecords (inside records room).earlier → ReadableRecords records
 unfolding inside
 earlier records zero rs = rs
 earlier records (suc room) rs = rs
 
-each-inside : (records : List LibRecord) (room : ℕ) → KeepsReadable (inside records room)
+each-inside : (records : List CompiledLibrary) (room : ℕ) → KeepsReadable (inside records room)
 each-inside records room = record {
   form = λ place level depth t s u c h rs g e. told C u c ((inside records room).form place level depth t s) ((inside-keeps records room (earlier records room rs)).form place level depth t s h g) e;
   procedure = λ place level depth t ids forms s u c h rs k g e.

@@ -3,7 +3,7 @@ use Rattle.std.proofs.Common.{[], ◌∷◌, refl, arith}
 use Rattle.std.specs.Prelude.{codes}
 use Rattle.sx_records.specs.Names.{record_uid}
 use Rattle.sx_round.specs.Readable.{IsName}
-use Rattle.sx_invariant_expansion_laws.specs.Kept.{IsBuilt, IsKept}
+use Rattle.sx_invariant_expansion_laws.specs.Kept.{IsBuilt, IsKeptByExpansion}
 use Rattle.sx_readable_laws.specs.Readable.{readable}
 use Rattle.sx_readable_laws.proofs.Steady.{readable-closed, readable-steady}
 use Rattle.sx_readable_laws.proofs.Texts.{small_text}
@@ -26,7 +26,7 @@ readable-built = record {
   symbols = λ s x c h. h;
 }
 
-pub readable-kept : IsKept readable
+pub readable-kept : IsKeptByExpansion readable
 readable-kept = record {
   built = readable-built;
   steady = readable-steady;

@@ -2,6 +2,6 @@ pub mod Shapes
 pub mod Records
 pub mod Kept
 pub mod Standing
-pub mod Settled
+pub mod PlannedForm
 pub mod Recorded
 pub mod Around

@@ -2,7 +2,7 @@
 use Rattle.std.proofs.Common.{ℕ, List}
 use Rattle.sx_base.specs.declared.library.LibName.{LibName}
 use Rattle.sx_base.specs.declared.name.Label.{Label}
-use Rattle.sx_core.specs.declared.record.LibRecord.{LibRecord}
+use Rattle.sx_core.specs.declared.record.CompiledLibrary.{CompiledLibrary}
 use Rattle.sx_eval.specs.Codes.{Codes}
 use Rattle.sx_standing.specs.Start.{started}
 use Rattle.sx_value.specs.Cells.{Each}
@@ -12,7 +12,7 @@ use Rattle.sx_readable_expansion_laws.specs.Records.{ReadableRecord, RecordsStay
 use Rattle.sx_readable_expansion_laws.specs.States.{ReadableIn}
 use Rattle.sx_readable_expansion_laws.proofs.Kept.{readable-kept}
 
-pub started-holds : (own : LibName) (records : List LibRecord) (imports : List (List ℕ × Label)) (codes : Codes) → Each ReadableRecord records → ReadableCodes codes → ReadableIn (started own records imports codes)
+pub started-holds : (own : LibName) (records : List CompiledLibrary) (imports : List (List ℕ × Label)) (codes : Codes) → Each ReadableRecord records → ReadableCodes codes → ReadableIn (started own records imports codes)
 started-holds own records imports codes before texts = recorded.started-holds readable readable-kept own records imports codes before texts
 
 pub records-stay : RecordsStayReadable

@@ -4,7 +4,7 @@ use Rattle.sx_base.specs.declared.span.Span.{Span}
 use Rattle.sx_tree.specs.Tree.{Tree}
 use Rattle.sx_core.specs.Core.{PlainCore}
 use Rattle.sx_core.specs.declared.code.Lambda.{Lambda}
-use Rattle.sx_core.specs.declared.record.LibRecord.{LibRecord}
+use Rattle.sx_core.specs.declared.record.CompiledLibrary.{CompiledLibrary}
 use Rattle.sx_shapes.specs.declared.shape.FormalIds.{FormalIds}
 use Rattle.sx_standing.specs.State.{State}
 use Rattle.sx_heads.specs.declared.taken.BodyAt.{BodyAt}
@@ -32,4 +32,4 @@ around go = record { earlier = go.earlier; form = form_at go; procedure = lambda
 -- It is kept by what is done with forms round others, whatever is done with these that keeps it; so it is kept however deep forms nest.
 pub record ReadablesStayIn : Type 0 where
   pub around_keeps : (go : Inside) → KeepsReadable go → KeepsReadable (around go)
-  pub inside_keeps : (records : List LibRecord) (room : ℕ) → KeepsReadable (inside records room)
+  pub inside_keeps : (records : List CompiledLibrary) (room : ℕ) → KeepsReadable (inside records room)

@@ -14,4 +14,4 @@ abbrev pub ReadableBindings : List (Label × Binding) → Type 0
 ReadableBindings = states.BindingsHold readable
 
 abbrev pub ReadableIn : State → Type 0
-ReadableIn = states.HoldsIn readable
+ReadableIn = states.StateHoldsIn readable

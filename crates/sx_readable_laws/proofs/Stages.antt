@@ -6,9 +6,9 @@ use Rattle.sx_base.specs.declared.name.Label.{Label}
 use Rattle.sx_base.specs.declared.span.Span.{Span}
 use Rattle.sx_tree.specs.Tree.{Tree}
 use Rattle.sx_core.specs.Core.{PlainCore}
-use Rattle.sx_core.specs.declared.record.LibRecord.{LibRecord}
+use Rattle.sx_core.specs.declared.record.CompiledLibrary.{CompiledLibrary}
 use Rattle.sx_stage.specs.Stage.{PlainStage}
-use Rattle.sx_stage.specs.Transformers.{begin_keyword, finish_keyword, is_variable_transformer}
+use Rattle.sx_stage.specs.Transformers.{begin_keyword, evaluate_transformer, is_variable_transformer}
 use Rattle.sx_stage.specs.Uses.{used}
 use Rattle.sx_invariant_laws.proofs.Steady as steady
 use Rattle.sx_readable_laws.specs.Readable.{ReadableTree, ReadableCore, readable}
@@ -29,13 +29,13 @@ Told x = Unit {0}
 pub begin-holds : (l : Label) (place : Span) (g : PlainStage) → ReadableStage g → GaveStage Done (begin_keyword l place g)
 begin-holds l place g h = steady.begin-holds readable readable-steady l place g h
 
-pub finish-holds : (place : Span) (rs : List LibRecord) (l : Label) (c : PlainCore) (g : PlainStage) → ReadableStage g → ReadableRecords rs → ReadableCore c → GaveStage Done (finish_keyword place rs l c g)
+pub finish-holds : (place : Span) (rs : List CompiledLibrary) (l : Label) (c : PlainCore) (g : PlainStage) → ReadableStage g → ReadableRecords rs → ReadableCore c → GaveStage Done (evaluate_transformer place rs l c g)
 finish-holds place rs l c g h k j = steady.finish-holds readable readable-steady place rs l c g h k j
 
-pub asks-holds : (place : Span) (rs : List LibRecord) (l : Label) (e : Option PlainCore) (g : PlainStage) → ReadableStage g → ReadableRecords rs → ReadableExpression e → GaveStage Told (is_variable_transformer place rs l e g)
+pub asks-holds : (place : Span) (rs : List CompiledLibrary) (l : Label) (e : Option PlainCore) (g : PlainStage) → ReadableStage g → ReadableRecords rs → ReadableExpression e → GaveStage Told (is_variable_transformer place rs l e g)
 asks-holds place rs l e g h k j = steady.asks-holds readable readable-steady place rs l e g h k j
 
-pub used-holds : (place : Span) (rs : List LibRecord) (t : Tree) (l : Label) (e : Option PlainCore) (f : Option FrameNo) (g : PlainStage) → ReadableStage g → ReadableRecords rs → ReadableExpression e → ReadableTree t
+pub used-holds : (place : Span) (rs : List CompiledLibrary) (t : Tree) (l : Label) (e : Option PlainCore) (f : Option FrameNo) (g : PlainStage) → ReadableStage g → ReadableRecords rs → ReadableExpression e → ReadableTree t
     → GaveStage ReadableTree (used place rs t l e f g)
 used-holds place rs t l e f g h k j i = steady.used-holds readable readable-steady place rs t l e f g h k j i
 

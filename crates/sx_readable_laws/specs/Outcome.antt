@@ -1,6 +1,6 @@
 -- Settings, states and outcomes of an evaluation in which all can be written and read back.
 use Rattle.sx_eval.specs.Setting.{PlainSetting}
-use Rattle.sx_eval.specs.State.{State, Outcome}
+use Rattle.sx_eval.specs.State.{WorldState, Outcome}
 use Rattle.sx_invariant_laws.specs.Outcome.{SettingHolds}
 use Rattle.sx_invariant_laws.specs.Steady.{SteadyState, SteadyOutcome}
 use Rattle.sx_readable_laws.specs.Readable.{readable}
@@ -9,7 +9,7 @@ use Rattle.sx_readable_laws.specs.Readable.{readable}
 abbrev pub ReadableSetting : PlainSetting → Type 0
 ReadableSetting = SettingHolds readable
 
-abbrev pub ReadableState : State → Type 0
+abbrev pub ReadableState : WorldState → Type 0
 ReadableState = SteadyState readable
 
 -- a value and the cells then

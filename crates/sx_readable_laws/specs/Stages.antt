@@ -5,9 +5,9 @@ use Rattle.sx_base.specs.declared.name.Label.{Label}
 use Rattle.sx_base.specs.declared.span.Span.{Span}
 use Rattle.sx_tree.specs.Tree.{Tree}
 use Rattle.sx_core.specs.Core.{PlainCore}
-use Rattle.sx_core.specs.declared.record.LibRecord.{LibRecord}
+use Rattle.sx_core.specs.declared.record.CompiledLibrary.{CompiledLibrary}
 use Rattle.sx_stage.specs.Stage.{PlainStage}
-use Rattle.sx_stage.specs.Transformers.{finish_keyword}
+use Rattle.sx_stage.specs.Transformers.{evaluate_transformer}
 use Rattle.sx_stage.specs.Uses.{used}
 use Rattle.sx_stage.specs.declared.keyword.Keyword.{Keyword}
 use Rattle.sx_invariant_laws.specs.Stages as stages
@@ -22,7 +22,7 @@ abbrev pub ReadableKeyword : Keyword → Type 0
 ReadableKeyword = stages.KeywordHolds readable
 
 -- the lines of libraries, which are evaluated on demand
-abbrev pub ReadableRecords : List LibRecord → Type 0
+abbrev pub ReadableRecords : List CompiledLibrary → Type 0
 ReadableRecords = stages.RecordsHold readable
 
 -- all cells, codes, variables and keywords of a stage
@@ -32,6 +32,6 @@ ReadableStage = SteadyStage readable
 -- So it is when a keyword was used, and the form that its transformer gives can be read; and so it is when a keyword's expression was
 -- evaluated.
 pub record UsesMakeReadables : Type 0 where
-  pub uses : (place : Span) (rs : List LibRecord) (t : Tree) (l : Label) (e : Option PlainCore) (f : Option FrameNo) (g h : PlainStage) (u : Tree) → ReadableStage g → ReadableRecords rs → ReadableExpression e → ReadableTree t
+  pub uses : (place : Span) (rs : List CompiledLibrary) (t : Tree) (l : Label) (e : Option PlainCore) (f : Option FrameNo) (g h : PlainStage) (u : Tree) → ReadableStage g → ReadableRecords rs → ReadableExpression e → ReadableTree t
       → used place rs t l e f g ≡ Ok (u, h) → ReadableTree u × ReadableStage h
-  pub definitions : (place : Span) (rs : List LibRecord) (l : Label) (c : PlainCore) (g h : PlainStage) → ReadableStage g → ReadableRecords rs → ReadableCore c → finish_keyword place rs l c g ≡ Ok (tt, h) → ReadableStage h
+  pub definitions : (place : Span) (rs : List CompiledLibrary) (l : Label) (c : PlainCore) (g h : PlainStage) → ReadableStage g → ReadableRecords rs → ReadableCore c → evaluate_transformer place rs l c g ≡ Ok (tt, h) → ReadableStage h

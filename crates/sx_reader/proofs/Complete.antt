@@ -11,15 +11,15 @@ use Rattle.sx_lexer.specs.declared.token.Bracket.TheVariants as bracket
 use Rattle.sx_lexer.specs.declared.token.Lexeme.{Lexeme}
 use Rattle.sx_lexer.specs.declared.token.Token.TheVariants as t
 use Rattle.sx_machine.specs.declared.extent.Extent.{Extent}
-use Rattle.sx_machine.specs.declared.partial.Tail.TheVariants as tail
-use Rattle.sx_machine.specs.declared.partial.Parts.{Parts}
-use Rattle.sx_machine.specs.declared.partial.Parts.TheVariants as parts
+use Rattle.sx_machine.specs.declared.partial.OpenTail.TheVariants as tail
+use Rattle.sx_machine.specs.declared.partial.OpenParts.{OpenParts}
+use Rattle.sx_machine.specs.declared.partial.OpenParts.TheVariants as parts
 use Rattle.sx_machine.specs.declared.partial.Partial.{Partial}
-use Rattle.sx_machine.specs.declared.partial.State.{State}
+use Rattle.sx_machine.specs.declared.partial.ReaderState.{ReaderState}
 use Rattle.sx_machine.specs.Partial.{room_in, misplaced}
 use Rattle.sx_machine.specs.Step.{state, deliver, nested, opened, same_bracket}
 use Rattle.sx_reader.specs.Read.{run}
-use Rattle.sx_reader.specs.Partial.{partial, opening_of, room_round, Fits, Inside, in_list as open_list, behind_dot, behind_tail, in_vector as open_vector, in_bytes, behind_prefix, behind_skip, ComesTo, at_top, within}
+use Rattle.sx_reader.specs.Partial.{partial, opening_of, room_round, Fits, InsideForm, in_list as open_list, behind_dot, behind_tail, in_vector as open_vector, in_bytes, behind_prefix, behind_skip, ComesTo, at_top, within}
 use Rattle.sx_reader.proofs.Sound.{room}
 use Rattle.sx_reader.specs.Grammar.{lexeme, IsDatum, IsNext, AreItems, AreBytes, constant, name, list, dotted, elements, bytes, abbreviation, here, past, no_items, item, skipped, no_bytes, byte, skipped_there}
 
@@ -29,7 +29,7 @@ data Taker : Type 0 where
   in_list : Bracket → Extent → ℕ → List PlainDatum → List Partial → List PlainDatum → Taker
   in_vector : Extent → ℕ → List PlainDatum → List Partial → List PlainDatum → Taker
 
-abbrev at : Taker → State
+abbrev at : Taker → ReaderState
 at (top found) = state [] found
 at (in_list b x n ds fs found) = state (partial x n (parts.List b ds tail.Absent) ∷ fs) found
 at (in_vector x n ds fs found) = state (partial x n (parts.Vector ds) ∷ fs) found
@@ -85,16 +85,16 @@ module _ (file : List ℕ) (nesting : ℕ) where
   delivers (in_vector y n ds fs found) d x = refl
 
   -- a form is opened where there is room
-  opens : (s : State) (p : Parts) (x : Extent) (n : ℕ) → room_in nesting s.stack ≡ suc n → nested file nesting s p x ≡ Ok (state (partial x n p ∷ s.stack) s.done)
+  opens : (s : ReaderState) (p : OpenParts) (x : Extent) (n : ℕ) → room_in nesting s.stack ≡ suc n → nested file nesting s p x ≡ Ok (state (partial x n p ∷ s.stack) s.done)
   opens s p x n e = rw (e, some_is n, less_one n) refl
 
-  opens_form : (s : State) (p : Parts) (x : Extent) (n : ℕ) → room_in nesting s.stack ≡ suc n → misplaced s.stack x ≡ None
+  opens_form : (s : ReaderState) (p : OpenParts) (x : Extent) (n : ℕ) → room_in nesting s.stack ≡ suc n → misplaced s.stack x ≡ None
       → opened file nesting s p x ≡ Ok (state (partial x n p ∷ s.stack) s.done)
   opens_form s p x n e m = rw m (opens s p x n e)
 
   module _ (g : Option Fault) where
     -- what is read from a state, and then the rest
-    abbrev behind : Result State Fault → List Lexeme → Result (List PlainDatum) Fault
+    abbrev behind : Result ReaderState Fault → List Lexeme → Result (List PlainDatum) Fault
     behind r ls = r >>= λ s. run file nesting s ls g
 
     abbrev Takes : List Partial → Type 0
@@ -169,14 +169,14 @@ module _ (file : List ℕ) (nesting : ℕ) where
   reads_all {ls} {ds} items = rw (append-nil ls) at (reads_items None items (top []) [] refl)
 
   -- an opening without parts
-  abbrev fresh : Parts → Parts
+  abbrev fresh : OpenParts → OpenParts
   fresh (parts.List b ds last) = parts.List b [] tail.Absent
   fresh (parts.Vector ds) = parts.Vector []
   fresh (parts.Bytes ns) = parts.Bytes []
   fresh (parts.Abbreviation k) = parts.Abbreviation k
   fresh parts.Skipped = parts.Skipped
 
-  starts : (p : Parts) (x : Extent) (n : ℕ) (fs : List Partial) (found : List PlainDatum) (rest : List Lexeme) (g : Option Fault) → room_in nesting fs ≡ room_round p n → Fits p x fs
+  starts : (p : OpenParts) (x : Extent) (n : ℕ) (fs : List Partial) (found : List PlainDatum) (rest : List Lexeme) (g : Option Fault) → room_in nesting fs ≡ room_round p n → Fits p x fs
       → run file nesting (state fs found) (lexeme (opening_of p) x ∷ rest) g ≡ run file nesting (state (partial x n (fresh p) ∷ fs) found) rest g
   unfolding run
   starts (parts.List b ds last) x n fs found rest g h fits = rw (opens_form (state fs found) (parts.List b [] tail.Absent) x n h fits) refl
@@ -185,7 +185,7 @@ module _ (file : List ℕ) (nesting : ℕ) where
   starts (parts.Abbreviation k) x n fs found rest g h fits = rw (opens_form (state fs found) (parts.Abbreviation k) x n h fits) refl
   starts parts.Skipped x n fs found rest g h fits = rw (opens (state fs found) parts.Skipped x n h) refl
 
-  inside_read : {n : ℕ} {ms : List Lexeme} {p : Parts} → Inside file n ms p → (x : Extent) (fs : List Partial) (found : List PlainDatum) (rest : List Lexeme) (g : Option Fault)
+  inside_read : {n : ℕ} {ms : List Lexeme} {p : OpenParts} → InsideForm file n ms p → (x : Extent) (fs : List Partial) (found : List PlainDatum) (rest : List Lexeme) (g : Option Fault)
       → run file nesting (state (partial x n (fresh p) ∷ fs) found) (ms ++ rest) g ≡ run file nesting (state (partial x n p ∷ fs) found) rest g
   unfolding run
   inside_read {n} (open_list b items) x fs found rest g = reads_items g items (in_list b x n [] fs found) rest refl

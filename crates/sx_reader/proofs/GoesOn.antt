@@ -8,10 +8,10 @@ use Rattle.sx_lexer.specs.declared.token.Bracket.TheVariants as bracket
 use Rattle.sx_lexer.specs.declared.token.Lexeme.{Lexeme}
 use Rattle.sx_lexer.specs.declared.token.Token.TheVariants as t
 use Rattle.sx_machine.specs.declared.extent.Extent.{Extent}
-use Rattle.sx_machine.specs.declared.partial.Tail.TheVariants as tail
-use Rattle.sx_machine.specs.declared.partial.Parts.TheVariants as parts
+use Rattle.sx_machine.specs.declared.partial.OpenTail.TheVariants as tail
+use Rattle.sx_machine.specs.declared.partial.OpenParts.TheVariants as parts
 use Rattle.sx_machine.specs.declared.partial.Partial.{Partial}
-use Rattle.sx_machine.specs.declared.partial.State.{State}
+use Rattle.sx_machine.specs.declared.partial.ReaderState.{ReaderState}
 use Rattle.sx_machine.specs.Extent.{span_at, through}
 use Rattle.sx_machine.specs.Form.{joined, abbreviated}
 use Rattle.sx_machine.specs.Partial.{misplaced}
@@ -32,8 +32,8 @@ same-bracket bracket.Square = refl
 
 module _ (file : List ℕ) (nesting : ℕ) where
   -- a call that succeeds with a stack that isn't higher
-  pub record Shrinks (r : Result State Fault) (height : ℕ) : Type 0 where
-    pub next : State
+  pub record Shrinks (r : Result ReaderState Fault) (height : ℕ) : Type 0 where
+    pub next : ReaderState
     pub same : r ≡ Ok next
     pub lower : length next.stack ≤ height
 
@@ -56,12 +56,12 @@ module _ (file : List ℕ) (nesting : ℕ) where
       record { next = state fs found; same = refl; lower = omega arith }
 
   -- some lexemes lead from this state to data
-  pub record Finishes (s : State) : Type 0 where
+  pub record Finishes (s : ReaderState) : Type 0 where
     pub others : List Lexeme
     pub data_there : List PlainDatum
     pub same : run file nesting s others None ≡ Ok data_there
 
-  one : (s next : State) (l : Lexeme) → step file nesting s l ≡ Ok next → Finishes next → Finishes s
+  one : (s next : ReaderState) (l : Lexeme) → step file nesting s l ≡ Ok next → Finishes next → Finishes s
   unfolding run
   one s next l e f = record { others = l ∷ f.others; data_there = f.data_there; same = rw e f.same }
 
@@ -77,11 +77,11 @@ module _ (file : List ℕ) (nesting : ℕ) where
   abbrev any : Lexeme
   any = lexeme (t.Atom a.Nil) nowhere
 
-  module _ (k : ℕ) (goes_on : (next : State) (seen : List Lexeme) → Holds file nesting seen next → length next.stack ≤ k → Finishes next) where
-    by_one : {seen : List Lexeme} (s : State) (l : Lexeme) → Holds file nesting seen s → Shrinks (step file nesting s l) k → Finishes s
+  module _ (k : ℕ) (goes_on : (next : ReaderState) (seen : List Lexeme) → Holds file nesting seen next → length next.stack ≤ k → Finishes next) where
+    by_one : {seen : List Lexeme} (s : ReaderState) (l : Lexeme) → Holds file nesting seen s → Shrinks (step file nesting s l) k → Finishes s
     by_one {seen} s l h r = one s r.next l r.same (goes_on r.next (seen ++ l ∷ []) (stepped file nesting s r.next l h r.same) r.lower)
 
-    lowered : {r : Result State Fault} (q : Result State Fault) (i : ℕ) → q ≡ r → i ≤ k → Shrinks r i → Shrinks q k
+    lowered : {r : Result ReaderState Fault} (q : Result ReaderState Fault) (i : ℕ) → q ≡ r → i ≤ k → Shrinks r i → Shrinks q k
     lowered q i e le r = record { next = r.next; same = e ∙ r.same; lower = let l = r.lower in omega arith }
 
     finishes_from : {n : ℕ} {seen : List Lexeme} {fs : List Partial} {found : List PlainDatum} → ComesTo file nesting n seen fs found → length fs ≤ suc k → Finishes (state fs found)
@@ -115,12 +115,12 @@ module _ (file : List ℕ) (nesting : ℕ) where
   only_top (at_top {ds = ds} r items) le = none ds
   only_top (within z h at_z inside) le = absurd (omega arith)
 
-  finishes : (k : ℕ) (s : State) (seen : List Lexeme) → Holds file nesting seen s → length s.stack ≤ k → Finishes s
+  finishes : (k : ℕ) (s : ReaderState) (seen : List Lexeme) → Holds file nesting seen s → length s.stack ≤ k → Finishes s
   finishes zero s seen h le = only_top h.1 le
   finishes (suc k) s seen h le = finishes_from k (λ next seen' h' le'. finishes k next seen' h' le') h.1 le
 
   -- lexemes that are taken begin some data
-  pub can_go_on : (seen : List Lexeme) (s : State) → Holds file nesting seen s → CanGoOn file nesting seen
+  pub can_go_on : (seen : List Lexeme) (s : ReaderState) → Holds file nesting seen s → CanGoOn file nesting seen
   can_go_on seen s h =
       let f = finishes (length s.stack) s seen h (omega arith) in
       record { others = f.others; data_there = f.data_there; items = (ran file nesting seen f.others s None f.data_there h f.same).1 }

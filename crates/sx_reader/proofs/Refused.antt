@@ -13,11 +13,11 @@ use Rattle.sx_lexer.specs.declared.token.Token.{Token}
 use Rattle.sx_lexer.specs.declared.token.Token.TheVariants as t
 use Rattle.sx_machine.specs.declared.extent.Extent.{Extent}
 use Rattle.sx_machine.specs.declared.extent.Misplaced.{Misplaced}
-use Rattle.sx_machine.specs.declared.partial.Tail.TheVariants as tail
-use Rattle.sx_machine.specs.declared.partial.Parts.{Parts}
-use Rattle.sx_machine.specs.declared.partial.Parts.TheVariants as parts
+use Rattle.sx_machine.specs.declared.partial.OpenTail.TheVariants as tail
+use Rattle.sx_machine.specs.declared.partial.OpenParts.{OpenParts}
+use Rattle.sx_machine.specs.declared.partial.OpenParts.TheVariants as parts
 use Rattle.sx_machine.specs.declared.partial.Partial.{Partial}
-use Rattle.sx_machine.specs.declared.partial.State.{State}
+use Rattle.sx_machine.specs.declared.partial.ReaderState.{ReaderState}
 use Rattle.sx_machine.specs.Extent.{span_at, fault_at, through}
 use Rattle.sx_machine.specs.Form.{byte_of}
 use Rattle.sx_machine.specs.Partial.{room_in, misplaced}
@@ -38,7 +38,7 @@ not_true false h = refl
 module _ (file : List ℕ) (nesting : ℕ) where
   -- lexemes that can go on lead to a state
   pub record Leads (seen : List Lexeme) : Type 0 where
-    pub there : State
+    pub there : ReaderState
     pub holds : Holds file nesting seen there
     pub same : (rest : List Lexeme) (g : Option Fault) → run file nesting (state [] []) (seen ++ rest) g ≡ run file nesting there rest g
 
@@ -59,10 +59,10 @@ module _ (file : List ℕ) (nesting : ℕ) where
   leads ls goes = leads_on [] ls goes.others goes.data_there (record { there = state [] []; holds = holds_none file nesting; same = λ rest g. refl }) (reads_all file nesting goes.items)
 
   -- where a token can't follow, the machine refuses it
-  refused : (s : State) (ls : List Lexeme) (l : Lexeme) → Holds file nesting ls s → (CanGoOn file nesting (ls ++ l ∷ []) → ⊥) → (next : State) → step file nesting s l ≡ Ok next → ⊥
+  refused : (s : ReaderState) (ls : List Lexeme) (l : Lexeme) → Holds file nesting ls s → (CanGoOn file nesting (ls ++ l ∷ []) → ⊥) → (next : ReaderState) → step file nesting s l ≡ Ok next → ⊥
   refused s ls l h never next e = never (can_go_on file nesting (ls ++ l ∷ []) next (stepped file nesting s next l h e))
 
-  stray : (p : Parts) (b : Bracket) (at all : Extent) → is_stray b p ≡ true → form_ended file p b at all ≡ Err (fault_at file fault.StrayClose at)
+  stray : (p : OpenParts) (b : Bracket) (at all : Extent) → is_stray b p ≡ true → form_ended file p b at all ≡ Err (fault_at file fault.StrayClose at)
   stray (parts.List c ds tail.Absent) b at all h = rw (not_true (same_bracket b c) h) refl
   stray (parts.List c ds (tail.Dotted dot)) b at all h = cc
   stray (parts.List c ds (tail.Given dot e)) b at all h = rw (not_true (same_bracket b c) h) refl
@@ -71,7 +71,7 @@ module _ (file : List ℕ) (nesting : ℕ) where
   stray (parts.Abbreviation k) b at all h = refl
   stray parts.Skipped b at all h = refl
 
-  no_dot : (p : Parts) (x y : Extent) (n : ℕ) (fs : List Partial) (ds : List PlainDatum) → has_no_dot p ≡ true → dots file (partial x n p ∷ fs) ds y ≡ Err (fault_at file fault.BadDot y)
+  no_dot : (p : OpenParts) (x y : Extent) (n : ℕ) (fs : List Partial) (ds : List PlainDatum) → has_no_dot p ≡ true → dots file (partial x n p ∷ fs) ds y ≡ Err (fault_at file fault.BadDot y)
   no_dot (parts.List b [] tail.Absent) x y n fs ds h = refl
   no_dot (parts.List b (d ∷ es) tail.Absent) x y n fs ds h = cc
   no_dot (parts.List b es (tail.Dotted dot)) x y n fs ds h = cc
@@ -106,7 +106,7 @@ module _ (file : List ℕ) (nesting : ℕ) where
   much b es e dot x y n fs ds (t.Symbol w) h = refl
 
   no_number : (ns : List ℕ) (x y : Extent) (n : ℕ) (fs : List Partial) (ds : List PlainDatum) (k : Token) → IsTrue (begins_datum k)
-      → ((next : State) → step file nesting (state (partial x n (parts.Bytes ns) ∷ fs) ds) (lexeme k y) ≡ Ok next → ⊥)
+      → ((next : ReaderState) → step file nesting (state (partial x n (parts.Bytes ns) ∷ fs) ds) (lexeme k y) ≡ Ok next → ⊥)
       → step file nesting (state (partial x n (parts.Bytes ns) ∷ fs) ds) (lexeme k y) ≡ Err (fault_at file fault.BadNumber y)
   no_number ns x y n fs ds (t.Open c) h never = refl
   no_number ns x y n fs ds (t.Close c) h never = cc
@@ -122,8 +122,8 @@ module _ (file : List ℕ) (nesting : ℕ) where
   no_number ns x y n fs ds (t.Symbol w) h never = refl
 
   -- with more room the token can follow
-  roomy_step : (s : State) (ls : List Lexeme) (l : Lexeme) → Holds file nesting ls s → CanGoOn file (suc nesting) (ls ++ l ∷ [])
-      → (next : State) × (step file (suc nesting) (state (roomier s.stack) s.done) l ≡ Ok next)
+  roomy_step : (s : ReaderState) (ls : List Lexeme) (l : Lexeme) → Holds file nesting ls s → CanGoOn file (suc nesting) (ls ++ l ∷ [])
+      → (next : ReaderState) × (step file (suc nesting) (state (roomier s.stack) s.done) l ≡ Ok next)
   unfolding run
   roomy_step s ls l h goes =
       let whole = rw (append_assoc ls (l ∷ []) goes.others) at (reads_all file (suc nesting) goes.items) in
@@ -131,22 +131,22 @@ module _ (file : List ℕ) (nesting : ℕ) where
       let next = bind_ok (step file (suc nesting) (state (roomier s.stack) s.done) l) (λ u. run file (suc nesting) u goes.others None) goes.data_there here in
       (next.0, next.1)
 
-  no_room : (s : State) (p : Parts) (y : Extent) → ((next : State) → nested file nesting s p y ≡ Ok next → ⊥) → nested file nesting s p y ≡ Err (fault_at file fault.TooNested y)
+  no_room : (s : ReaderState) (p : OpenParts) (y : Extent) → ((next : ReaderState) → nested file nesting s p y ≡ Ok next → ⊥) → nested file nesting s p y ≡ Err (fault_at file fault.TooNested y)
   no_room s p y never = tested (room_in nesting s.stack == 0) refl where
     tested : (full : Bool) → room_in nesting s.stack == 0 ≡ full → nested file nesting s p y ≡ Err (fault_at file fault.TooNested y)
     tested true is = rw is refl
     tested false is = absurd (never (state (partial y (room_in nesting s.stack - 1) p ∷ s.stack) s.done) (rw is refl))
 
-  no_room_for_form : (s : State) (p : Parts) (y : Extent) → ((next : State) → unless file (misplaced s.stack y) (nested file nesting s p y) ≡ Ok next → ⊥)
-      → (next : State) → unless file (misplaced (roomier s.stack) y) (nested file (suc nesting) (state (roomier s.stack) s.done) p y) ≡ Ok next
+  no_room_for_form : (s : ReaderState) (p : OpenParts) (y : Extent) → ((next : ReaderState) → unless file (misplaced s.stack y) (nested file nesting s p y) ≡ Ok next → ⊥)
+      → (next : ReaderState) → unless file (misplaced (roomier s.stack) y) (nested file (suc nesting) (state (roomier s.stack) s.done) p y) ≡ Ok next
       → unless file (misplaced s.stack y) (nested file nesting s p y) ≡ Err (fault_at file fault.TooNested y)
   no_room_for_form s p y never next roomy = tested (misplaced s.stack y) refl where
     tested : (w : Option Misplaced) → misplaced s.stack y ≡ w → unless file (misplaced s.stack y) (nested file nesting s p y) ≡ Err (fault_at file fault.TooNested y)
     tested None is = rw is (no_room s p y (λ u e. never u (rw is e)))
     tested (Some w) is = let wrong_there = rw (misplaced-roomier s.stack y ∙ is) at roomy in cc
 
-  full : (s : State) (ls : List Lexeme) (k : Token) (y : Extent) → Holds file nesting ls s → IsTrue (counts k) → CanGoOn file (suc nesting) (ls ++ lexeme k y ∷ [])
-      → ((next : State) → step file nesting s (lexeme k y) ≡ Ok next → ⊥) → step file nesting s (lexeme k y) ≡ Err (fault_at file fault.TooNested y)
+  full : (s : ReaderState) (ls : List Lexeme) (k : Token) (y : Extent) → Holds file nesting ls s → IsTrue (counts k) → CanGoOn file (suc nesting) (ls ++ lexeme k y ∷ [])
+      → ((next : ReaderState) → step file nesting s (lexeme k y) ≡ Ok next → ⊥) → step file nesting s (lexeme k y) ≡ Err (fault_at file fault.TooNested y)
   full s ls (t.Open c) y h counted goes never = let r = roomy_step s ls (lexeme (t.Open c) y) h goes in no_room_for_form s (parts.List c [] tail.Absent) y never r.0 r.1
   full s ls (t.Close c) y h counted goes never = cc
   full s ls t.OpenVector y h counted goes never = let r = roomy_step s ls (lexeme t.OpenVector y) h goes in no_room_for_form s (parts.Vector []) y never r.0 r.1

@@ -3,12 +3,12 @@ use Rattle.std.proofs.Common.{◌≡◌, ℕ, suc, List, [], ◌∷◌, refl, ap
 use Rattle.sx_base.specs.Datum.{PlainDatum}
 use Rattle.sx_lexer.specs.declared.token.Lexeme.{Lexeme}
 use Rattle.sx_machine.specs.declared.extent.Extent.{Extent}
-use Rattle.sx_machine.specs.declared.partial.Parts.{Parts}
-use Rattle.sx_machine.specs.declared.partial.Parts.TheVariants as parts
+use Rattle.sx_machine.specs.declared.partial.OpenParts.{OpenParts}
+use Rattle.sx_machine.specs.declared.partial.OpenParts.TheVariants as parts
 use Rattle.sx_machine.specs.declared.partial.Partial.{Partial}
 use Rattle.sx_machine.specs.Partial.{misplaced}
 use Rattle.sx_reader.specs.Grammar.{IsDatum, IsNext, AreItems, AreBytes, constant, name, list, dotted, elements, bytes, abbreviation, here, past, no_items, item, skipped, no_bytes, byte, skipped_there}
-use Rattle.sx_reader.specs.Partial.{room_round, Inside, in_list, behind_dot, behind_tail, in_vector, in_bytes, behind_prefix, behind_skip, partial, Fits, ComesTo, at_top, within}
+use Rattle.sx_reader.specs.Partial.{room_round, InsideForm, in_list, behind_dot, behind_tail, in_vector, in_bytes, behind_prefix, behind_skip, partial, Fits, ComesTo, at_top, within}
 
 module _ (file : List ℕ) where
   mutual
@@ -35,7 +35,7 @@ module _ (file : List ℕ) where
     roomy_bytes (byte m x small others) = byte m x small (roomy_bytes others)
     roomy_bytes (skipped_there skip one others) = skipped_there skip (roomy_next one) (roomy_bytes others)
 
-  roomy_inside : {n : ℕ} {ls : List Lexeme} {p : Parts} → Inside file n ls p → Inside file (suc n) ls p
+  roomy_inside : {n : ℕ} {ls : List Lexeme} {p : OpenParts} → InsideForm file n ls p → InsideForm file (suc n) ls p
   roomy_inside (in_list b items) = in_list b (roomy_items items)
   roomy_inside (behind_dot b dot items skips) = behind_dot b dot (roomy_items items) (roomy_items skips)
   roomy_inside (behind_tail b dot items next skips) = behind_tail b dot (roomy_items items) (roomy_next next) (roomy_items skips)
@@ -53,14 +53,14 @@ pub misplaced-roomier : (fs : List Partial) (x : Extent) → misplaced (roomier 
 misplaced-roomier [] x = refl
 misplaced-roomier (f ∷ fs) x = refl
 
-pub fits_roomier : (p : Parts) (x : Extent) (fs : List Partial) → Fits p x fs → Fits p x (roomier fs)
+pub fits_roomier : (p : OpenParts) (x : Extent) (fs : List Partial) → Fits p x fs → Fits p x (roomier fs)
 fits_roomier (parts.List b ds last) x fs h = misplaced-roomier fs x ∙ h
 fits_roomier (parts.Vector ds) x fs h = misplaced-roomier fs x ∙ h
 fits_roomier (parts.Bytes ns) x fs h = misplaced-roomier fs x ∙ h
 fits_roomier (parts.Abbreviation k) x fs h = misplaced-roomier fs x ∙ h
 fits_roomier parts.Skipped x fs h = tt
 
-room_round-suc : (p : Parts) (n : ℕ) → suc (room_round p n) ≡ room_round p (suc n)
+room_round-suc : (p : OpenParts) (n : ℕ) → suc (room_round p n) ≡ room_round p (suc n)
 room_round-suc (parts.List b ds last) n = refl
 room_round-suc (parts.Vector ds) n = refl
 room_round-suc (parts.Bytes ns) n = refl

@@ -14,18 +14,18 @@ use Rattle.sx_lexer.specs.declared.token.Token.{Token}
 use Rattle.sx_lexer.specs.declared.token.Token.TheVariants as t
 use Rattle.sx_machine.specs.declared.extent.Extent.{Extent}
 use Rattle.sx_machine.specs.declared.extent.Misplaced.{Misplaced}
-use Rattle.sx_machine.specs.declared.partial.Tail.TheVariants as tail
-use Rattle.sx_machine.specs.declared.partial.Parts.{Parts}
-use Rattle.sx_machine.specs.declared.partial.Parts.TheVariants as parts
+use Rattle.sx_machine.specs.declared.partial.OpenTail.TheVariants as tail
+use Rattle.sx_machine.specs.declared.partial.OpenParts.{OpenParts}
+use Rattle.sx_machine.specs.declared.partial.OpenParts.TheVariants as parts
 use Rattle.sx_machine.specs.declared.partial.Partial.{Partial}
-use Rattle.sx_machine.specs.declared.partial.State.{State}
+use Rattle.sx_machine.specs.declared.partial.ReaderState.{ReaderState}
 use Rattle.sx_machine.specs.Extent.{span_at, through}
 use Rattle.sx_machine.specs.Form.{byte_of, joined}
 use Rattle.sx_machine.specs.Partial.{room_in, misplaced}
 use Rattle.sx_machine.specs.Step.{state, step, step_by, deliver, closed, same_bracket, nested, opened_bytes, dotted as dots, finish, extent_of, unless}
 use Rattle.sx_reader.specs.Read.{run, ended}
 use Rattle.sx_reader.specs.Grammar.{lexeme, IsDatum, IsNext, AreItems, AreBytes, constant, name, list, dotted, elements, bytes, abbreviation, here, past, no_items, item, skipped, no_bytes, byte, skipped_there}
-use Rattle.sx_reader.specs.Partial.{opening_of, room_round, Inside, in_list, behind_dot, behind_tail, in_vector, in_bytes, behind_prefix, behind_skip, partial, Fits, ComesTo, at_top, within}
+use Rattle.sx_reader.specs.Partial.{opening_of, room_round, InsideForm, in_list, behind_dot, behind_tail, in_vector, in_bytes, behind_prefix, behind_skip, partial, Fits, ComesTo, at_top, within}
 
 pub bind_ok : {A B : Type 0} (r : Result A Fault) (f : A → Result B Fault) (y : B) → (r >>= f) ≡ Ok y → (x : A) × (r ≡ Ok x) × (f x ≡ Ok y)
 bind_ok (Ok x) f y e = (x, refl, e)
@@ -101,7 +101,7 @@ module _ (file : List ℕ) where
   next_of {n} {ls} {ms} {d} {x} (skipped {ls = us} {ms = vs} skip one others) new =
       rw (append_assoc us vs ms) (past skip one (next_of others new))
 
-if_same : (b c : Bracket) (d : PlainDatum) (f : Fault) (k : PlainDatum → Result State Fault) (s : State)
+if_same : (b c : Bracket) (d : PlainDatum) (f : Fault) (k : PlainDatum → Result ReaderState Fault) (s : ReaderState)
     → ((if same_bracket b c then Ok d else Err f) >>= k) ≡ Ok s → (b ≡ c) × (k d ≡ Ok s)
 if_same bracket.Round bracket.Round d f k s e = (refl, e)
 if_same bracket.Round bracket.Square d f k s e = cc
@@ -123,13 +123,13 @@ module _ (file : List ℕ) (nesting : ℕ) where
   room (within x h fits inside) = refl
 
   -- a comment at the end
-  inside_skip : {m n : ℕ} {ls ms : List Lexeme} {p : Parts} {e : PlainDatum} {z : Extent} (skip : Extent) → m ≡ suc n → Inside file m ls p → IsNext file n ms e z
-      → Inside file m (ls ++ (lexeme t.SkipDatum skip ∷ ms)) p
+  inside_skip : {m n : ℕ} {ls ms : List Lexeme} {p : OpenParts} {e : PlainDatum} {z : Extent} (skip : Extent) → m ≡ suc n → InsideForm file m ls p → IsNext file n ms e z
+      → InsideForm file m (ls ++ (lexeme t.SkipDatum skip ∷ ms)) p
   inside_skip skip is (in_list b items) new = in_list b (skip_snoc file skip is items new)
   inside_skip {m} {n} {ls} {ms} {p} skip is (behind_dot {ls = us} {ms = vs} b dot items skips) new =
-      subst (λ (ws : List Lexeme). Inside file m ws p) (sym (append_assoc us (lexeme t.Dot dot ∷ vs) (lexeme t.SkipDatum skip ∷ ms))) (behind_dot b dot items (skip_snoc file skip is skips new))
+      subst (λ (ws : List Lexeme). InsideForm file m ws p) (sym (append_assoc us (lexeme t.Dot dot ∷ vs) (lexeme t.SkipDatum skip ∷ ms))) (behind_dot b dot items (skip_snoc file skip is skips new))
   inside_skip {m} {n} {ls} {ms} {p} skip is (behind_tail b dot items next skips) new =
-      subst (λ (zs : List Lexeme). Inside file m zs p) (simp append_assoc) (behind_tail b dot items next (skip_snoc file skip is skips new))
+      subst (λ (zs : List Lexeme). InsideForm file m zs p) (simp append_assoc) (behind_tail b dot items next (skip_snoc file skip is skips new))
   inside_skip skip is (in_vector items) new = in_vector (skip_snoc file skip is items new)
   inside_skip skip is (in_bytes items) new = in_bytes (bytes_skip file skip is items new)
   inside_skip skip is (behind_prefix k skips) new = behind_prefix k (skip_snoc file skip is skips new)
@@ -142,14 +142,14 @@ module _ (file : List ℕ) (nesting : ℕ) where
       subst (λ (ws : List Lexeme). Held m ws fs found) (sym (append_assoc us (lexeme (opening_of p) x ∷ vs) (lexeme t.SkipDatum skip ∷ ms))) (within x h fits (inside_skip skip is inside new))
 
   -- with some room the lexemes have come to this
-  abbrev pub Holds : List Lexeme → State → Type 0
+  abbrev pub Holds : List Lexeme → ReaderState → Type 0
   Holds ls s = (m : ℕ) × Held m ls s.stack s.done
 
-  holds_at : {ls ms : List Lexeme} {s u : State} → ms ≡ ls → s ≡ u → Holds ms s → Holds ls u
-  holds_at {ls} {ms} {s} {u} e f h = subst (λ (z : State). Holds ls z) f (subst (λ (zs : List Lexeme). Holds zs s) e h)
+  holds_at : {ls ms : List Lexeme} {s u : ReaderState} → ms ≡ ls → s ≡ u → Holds ms s → Holds ls u
+  holds_at {ls} {ms} {s} {u} e f h = subst (λ (z : ReaderState). Holds ls z) f (subst (λ (zs : List Lexeme). Holds zs s) e h)
 
   -- a datum that is complete
-  delivered : {n : ℕ} {ls ms : List Lexeme} {fs : List Partial} {found : List PlainDatum} {d : PlainDatum} {s : State} (y : Extent) → Held n ls fs found → IsDatum file n ms d y
+  delivered : {n : ℕ} {ls ms : List Lexeme} {fs : List Partial} {found : List PlainDatum} {d : PlainDatum} {s : ReaderState} (y : Extent) → Held n ls fs found → IsDatum file n ms d y
       → deliver file fs found d y ≡ Ok s → Holds (ls ++ ms) s
   delivered {n} {ls} {ms} {found = found} {d = d} {s = s} y (at_top r items) new e =
       let same : state [] (found ++ d ∷ []) ≡ s = cc in
@@ -178,7 +178,7 @@ module _ (file : List ℕ) (nesting : ℕ) where
       let same : state fs found ≡ s = cc in
       holds_at (sym (append_assoc us (lexeme t.SkipDatum x ∷ vs) ms)) same (suc n, held_skip x refl h (next_of file skips new))
 
-  closes : {n : ℕ} {ls : List Lexeme} {fs : List Partial} {found : List PlainDatum} {s : State} (b : Bracket) (y : Extent) → Held n ls fs found
+  closes : {n : ℕ} {ls : List Lexeme} {fs : List Partial} {found : List PlainDatum} {s : ReaderState} (b : Bracket) (y : Extent) → Held n ls fs found
       → closed file fs found b y ≡ Ok s → Holds (ls ++ lexeme (t.Close b) y ∷ []) s
   closes b y (at_top r items) e = cc
   closes {found = found} {s = s} b y (within {ls = us} {ms = vs} {fs = fs} x h fits (in_list {ds = ds} c items)) e =
@@ -199,8 +199,8 @@ module _ (file : List ℕ) (nesting : ℕ) where
   closes b y (within x h fits (behind_skip skips)) e = cc
 
   -- a form that counts
-  opens : {n : ℕ} {ls : List Lexeme} (fs : List Partial) (found : List PlainDatum) (s : State) (p : Parts) (x : Extent) → Held n ls fs found
-      → ((k : ℕ) → Inside file k [] p) → ((k : ℕ) → room_round p k ≡ suc k) → Fits p x fs
+  opens : {n : ℕ} {ls : List Lexeme} (fs : List Partial) (found : List PlainDatum) (s : ReaderState) (p : OpenParts) (x : Extent) → Held n ls fs found
+      → ((k : ℕ) → InsideForm file k [] p) → ((k : ℕ) → room_round p k ≡ suc k) → Fits p x fs
       → nested file nesting (state fs found) p x ≡ Ok s → Holds (ls ++ lexeme (opening_of p) x ∷ []) s
   opens {n} {ls} fs found s p x h fresh grows fits e = tested (room_in nesting fs == 0) refl where
     tested : (full : Bool) → room_in nesting fs == 0 ≡ full → Holds (ls ++ lexeme (opening_of p) x ∷ []) s
@@ -217,14 +217,14 @@ module _ (file : List ℕ) (nesting : ℕ) where
   unless_ok (Some w) r s e = cc
 
   -- a bytevector
-  opens_bytes : {n : ℕ} {ls : List Lexeme} (fs : List Partial) (found : List PlainDatum) (s : State) (x : Extent) → Held n ls fs found
+  opens_bytes : {n : ℕ} {ls : List Lexeme} (fs : List Partial) (found : List PlainDatum) (s : ReaderState) (x : Extent) → Held n ls fs found
       → opened_bytes file nesting (state fs found) x ≡ Ok s → Holds (ls ++ lexeme t.OpenBytes x ∷ []) s
   opens_bytes {n} {ls} fs found s x h e =
       let p = unless_ok (misplaced fs x) (Ok (state (partial x (room_in nesting fs) (parts.Bytes []) ∷ fs) found)) s e in
       let same : state (partial x (room_in nesting fs) (parts.Bytes []) ∷ fs) found ≡ s = let q = p.1 in cc in
       holds_at refl same (room_in nesting fs, within x (rw (room h) h) p.0 (in_bytes no_bytes))
 
-  dotting : {n : ℕ} {ls : List Lexeme} {fs : List Partial} {found : List PlainDatum} {s : State} (y : Extent) → Held n ls fs found
+  dotting : {n : ℕ} {ls : List Lexeme} {fs : List Partial} {found : List PlainDatum} {s : ReaderState} (y : Extent) → Held n ls fs found
       → dots file fs found y ≡ Ok s → Holds (ls ++ lexeme t.Dot y ∷ []) s
   dotting y (at_top r items) e = cc
   dotting y (within x h fits (in_list {ds = []} b items)) e = cc
@@ -239,7 +239,7 @@ module _ (file : List ℕ) (nesting : ℕ) where
   dotting y (within x h fits (behind_prefix k skips)) e = cc
   dotting y (within x h fits (behind_skip skips)) e = cc
 
-  stepped_by : {ls : List Lexeme} (s next : State) (k : Token) (x : Extent) → Holds ls s → step_by file nesting s k x ≡ Ok next → Holds (ls ++ lexeme k x ∷ []) next
+  stepped_by : {ls : List Lexeme} (s next : ReaderState) (k : Token) (x : Extent) → Holds ls s → step_by file nesting s k x ≡ Ok next → Holds (ls ++ lexeme k x ∷ []) next
   stepped_by s next (t.Open b) x h e =
       let p = unless_ok (misplaced s.stack x) (nested file nesting s (parts.List b [] tail.Absent) x) next e in
       opens s.stack s.done next (parts.List b [] tail.Absent) x h.1 (λ k. in_list b no_items) (λ k. refl) p.0 p.1
@@ -257,7 +257,7 @@ module _ (file : List ℕ) (nesting : ℕ) where
   stepped_by s next (t.Symbol w) x h e = delivered x h.1 (name w x) e
 
   -- one token more
-  pub stepped : {ls : List Lexeme} (s next : State) (l : Lexeme) → Holds ls s → step file nesting s l ≡ Ok next → Holds (ls ++ l ∷ []) next
+  pub stepped : {ls : List Lexeme} (s next : ReaderState) (l : Lexeme) → Holds ls s → step file nesting s l ≡ Ok next → Holds (ls ++ l ∷ []) next
   stepped s next l h e = stepped_by s next l.token (extent_of l) h e
 
   -- before the first token
@@ -270,11 +270,11 @@ module _ (file : List ℕ) (nesting : ℕ) where
       subst (λ (k : ℕ). AreItems file k seen ds) r (subst (λ (z : List PlainDatum). AreItems file n seen z) is items)
   are_items fs found ds (within x h fits inside) same = cc
 
-  no_fault : (s : State) (g : Option Fault) (ds : List PlainDatum) → ended file s g ≡ Ok ds → (g ≡ None) × (finish file s.stack s.done ≡ Ok ds)
+  no_fault : (s : ReaderState) (g : Option Fault) (ds : List PlainDatum) → ended file s g ≡ Ok ds → (g ≡ None) × (finish file s.stack s.done ≡ Ok ds)
   no_fault s None ds e = (refl, e)
   no_fault s (Some f) ds e = cc
 
-  pub ran : (seen ls : List Lexeme) (s : State) (g : Option Fault) (ds : List PlainDatum) → Holds seen s → run file nesting s ls g ≡ Ok ds → (g ≡ None) × AreItems file nesting (seen ++ ls) ds
+  pub ran : (seen ls : List Lexeme) (s : ReaderState) (g : Option Fault) (ds : List PlainDatum) → Holds seen s → run file nesting s ls g ≡ Ok ds → (g ≡ None) × AreItems file nesting (seen ++ ls) ds
   unfolding run
   ran seen [] s g ds h e =
       let p = no_fault s g ds e in

@@ -14,17 +14,17 @@ use Rattle.sx_lexer.specs.declared.token.Token.{Token}
 use Rattle.sx_lexer.specs.declared.token.Token.TheVariants as t
 use Rattle.sx_machine.specs.declared.extent.Extent.{Extent}
 use Rattle.sx_machine.specs.declared.extent.Misplaced.{Misplaced}
-use Rattle.sx_machine.specs.declared.partial.Tail.TheVariants as tail
-use Rattle.sx_machine.specs.declared.partial.Parts.{Parts}
-use Rattle.sx_machine.specs.declared.partial.Parts.TheVariants as parts
+use Rattle.sx_machine.specs.declared.partial.OpenTail.TheVariants as tail
+use Rattle.sx_machine.specs.declared.partial.OpenParts.{OpenParts}
+use Rattle.sx_machine.specs.declared.partial.OpenParts.TheVariants as parts
 use Rattle.sx_machine.specs.declared.partial.Partial.{Partial}
-use Rattle.sx_machine.specs.declared.partial.State.{State}
+use Rattle.sx_machine.specs.declared.partial.ReaderState.{ReaderState}
 use Rattle.sx_machine.specs.Extent.{span_at, fault_at, through}
 use Rattle.sx_machine.specs.Form.{joined, abbreviated, byte_of}
 use Rattle.sx_machine.specs.Partial.{room_in, misplaced}
 use Rattle.sx_machine.specs.Step.{state, step, step_by, deliver, closed, same_bracket, nested, opened, opened_bytes, dotted as dots, extent_of, unless}
 use Rattle.sx_reader.specs.Grammar.{lexeme, AreItems, no_items}
-use Rattle.sx_reader.specs.Partial.{opening_of, room_round, Inside, in_list, behind_dot, behind_tail, in_vector, in_bytes, behind_prefix, behind_skip, partial, Fits, ComesTo, at_top, within}
+use Rattle.sx_reader.specs.Partial.{opening_of, room_round, InsideForm, in_list, behind_dot, behind_tail, in_vector, in_bytes, behind_prefix, behind_skip, partial, Fits, ComesTo, at_top, within}
 use Rattle.sx_reader.specs.FirstFault.{EndsInside, IsFaultAt, is_stray, begins_datum, counts, is_dot, close_of_nothing, close_of_another, dot_at_top, dot_in_another, nothing_behind_dot, much_behind_dot, no_byte, too_nested}
 use Rattle.sx_reader.proofs.Sound.{Holds, room}
 use Rattle.sx_reader.proofs.GoesOn.{delivers, can_go_on}
@@ -51,7 +51,7 @@ module _ (file : List ℕ) (nesting : ℕ) where
   At ls k y f = IsFaultAt file nesting ls k y f
 
   -- the innermost form
-  abbrev here : {n : ℕ} {ls ms : List Lexeme} {p : Parts} {fs : List Partial} {found : List PlainDatum} (x : Extent) → ComesTo file nesting (room_round p n) ls fs found → Fits p x fs → Inside file n ms p
+  abbrev here : {n : ℕ} {ls ms : List Lexeme} {p : OpenParts} {fs : List Partial} {found : List PlainDatum} (x : Extent) → ComesTo file nesting (room_round p n) ls fs found → Fits p x fs → InsideForm file n ms p
       → EndsInside file nesting (ls ++ (lexeme (opening_of p) x ∷ ms)) p x
   here {n} {fs = fs} {found = found} x h fits inside = record { room = n; round = fs; before = found; come = within x h fits inside }
 
@@ -75,8 +75,8 @@ module _ (file : List ℕ) (nesting : ℕ) where
   no_form (within x h fits (behind_skip skips)) k begins y w e = cc
 
   -- a form that counts is refused where there is no room
-  no_room : {n : ℕ} {ls : List Lexeme} {found : List PlainDatum} (fs : List Partial) → ComesTo file nesting n ls fs found → (p : Parts) (y : Extent) (f : Fault)
-      → ((k : ℕ) → Inside file k [] p) → ((k : ℕ) → room_round p k ≡ suc k) → Fits p y fs → IsTrue (counts (opening_of p))
+  no_room : {n : ℕ} {ls : List Lexeme} {found : List PlainDatum} (fs : List Partial) → ComesTo file nesting n ls fs found → (p : OpenParts) (y : Extent) (f : Fault)
+      → ((k : ℕ) → InsideForm file k [] p) → ((k : ℕ) → room_round p k ≡ suc k) → Fits p y fs → IsTrue (counts (opening_of p))
       → nested file nesting (state fs found) p y ≡ Err f → At ls (opening_of p) y f
   no_room {n} {ls} {found} fs h p y f fresh grows fits counted e = tested (room_in nesting fs == 0) refl where
     tested : (full : Bool) → room_in nesting fs == 0 ≡ full → At ls (opening_of p) y f
@@ -120,7 +120,7 @@ module _ (file : List ℕ) (nesting : ℕ) where
   no_datum (within x h fits (behind_skip skips)) k begins d y f e = cc
 
   -- a close that is refused, where the form that it ends could be complete
-  no_end : {n : ℕ} {ls us : List Lexeme} {p : Parts} {fs : List Partial} {found : List PlainDatum} (b c : Bracket) (x y : Extent)
+  no_end : {n : ℕ} {ls us : List Lexeme} {p : OpenParts} {fs : List Partial} {found : List PlainDatum} (b c : Bracket) (x y : Extent)
       → ComesTo file nesting n ls fs found → misplaced fs x ≡ None → EndsInside file nesting us p x → is_stray b p ≡ not (same_bracket b c) → (d : PlainDatum) (f : Fault)
       → ((if same_bracket b c then Ok d else Err (fault_at file fault.StrayClose y)) >>= λ e. deliver file fs found e (through x y)) ≡ Err f → At us (t.Close b) y f
   no_end {us = us} {fs = fs} {found = found} b c x y h fits inside stray d f e = tested (same_bracket b c) refl where
@@ -185,20 +185,20 @@ module _ (file : List ℕ) (nesting : ℕ) where
       moved same (dot_in_another y (here x h fits (behind_skip skips)) refl)
 
   -- a form that counts is refused
-  no_opening : {n : ℕ} {ls : List Lexeme} (s : State) → ComesTo file nesting n ls s.stack s.done → (p : Parts) (y : Extent) (f : Fault)
-      → ((k : ℕ) → Inside file k [] p) → ((k : ℕ) → room_round p k ≡ suc k) → (misplaced s.stack y ≡ None → Fits p y s.stack) → IsTrue (begins_datum (opening_of p)) → IsTrue (counts (opening_of p))
+  no_opening : {n : ℕ} {ls : List Lexeme} (s : ReaderState) → ComesTo file nesting n ls s.stack s.done → (p : OpenParts) (y : Extent) (f : Fault)
+      → ((k : ℕ) → InsideForm file k [] p) → ((k : ℕ) → room_round p k ≡ suc k) → (misplaced s.stack y ≡ None → Fits p y s.stack) → IsTrue (begins_datum (opening_of p)) → IsTrue (counts (opening_of p))
       → opened file nesting s p y ≡ Err f → At ls (opening_of p) y f
   no_opening s h p y f fresh grows fits begins counted e = refused_by (misplaced s.stack y) (nested file nesting s p y) e
       (λ v is. no_form h (opening_of p) begins y v is)
       (λ is stuck. no_room s.stack h p y f fresh grows (fits is) counted stuck)
 
   -- a bytevector is refused
-  no_bytes_there : {n : ℕ} {ls : List Lexeme} (s : State) → ComesTo file nesting n ls s.stack s.done → (y : Extent) (f : Fault) → opened_bytes file nesting s y ≡ Err f → At ls t.OpenBytes y f
+  no_bytes_there : {n : ℕ} {ls : List Lexeme} (s : ReaderState) → ComesTo file nesting n ls s.stack s.done → (y : Extent) (f : Fault) → opened_bytes file nesting s y ≡ Err f → At ls t.OpenBytes y f
   no_bytes_there s h y f e = refused_by (misplaced s.stack y) (Ok (state (partial y (room_in nesting s.stack) (parts.Bytes []) ∷ s.stack) s.done)) e
       (λ v is. no_form h t.OpenBytes refl y v is)
       (λ is stuck. absurd (cc))
 
-  stuck_by : {ls : List Lexeme} (s : State) (k : Token) (y : Extent) (f : Fault) → Holds file nesting ls s → step_by file nesting s k y ≡ Err f → At ls k y f
+  stuck_by : {ls : List Lexeme} (s : ReaderState) (k : Token) (y : Extent) (f : Fault) → Holds file nesting ls s → step_by file nesting s k y ≡ Err f → At ls k y f
   stuck_by s (t.Open b) y f h e = no_opening s h.1 (parts.List b [] tail.Absent) y f (λ k. in_list b no_items) (λ k. refl) (λ is. is) refl refl e
   stuck_by s (t.Close b) y f h e = no_close h.1 b y f e
   stuck_by s t.OpenVector y f h e = no_opening s h.1 (parts.Vector []) y f (λ k. in_vector no_items) (λ k. refl) (λ is. is) refl refl e
@@ -210,5 +210,5 @@ module _ (file : List ℕ) (nesting : ℕ) where
   stuck_by s (t.Symbol x) y f h e = no_datum h.1 (t.Symbol x) refl (symbol (span_at file y) x) y f e
 
   -- what is wrong with a token that is refused
-  pub stuck : {ls : List Lexeme} (s : State) (l : Lexeme) (f : Fault) → Holds file nesting ls s → step file nesting s l ≡ Err f → At ls l.token (extent_of l) f
+  pub stuck : {ls : List Lexeme} (s : ReaderState) (l : Lexeme) (f : Fault) → Holds file nesting ls s → step file nesting s l ≡ Err f → At ls l.token (extent_of l) f
   stuck s l f h e = stuck_by s l.token (extent_of l) f h e

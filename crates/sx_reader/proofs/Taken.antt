@@ -11,7 +11,7 @@ use Rattle.sx_lexer.specs.Start.{start_of}
 use Rattle.sx_lexer.specs.Tokens.{next_lexeme}
 use Rattle.sx_lexer.specs.declared.token.Lexeme.{Lexeme}
 use Rattle.sx_machine.specs.declared.partial.Partial.{Partial}
-use Rattle.sx_machine.specs.declared.partial.State.{State}
+use Rattle.sx_machine.specs.declared.partial.ReaderState.{ReaderState}
 use Rattle.sx_machine.specs.Extent.{fault_at}
 use Rattle.sx_machine.specs.Step.{state, step, finish, extent_of}
 use Rattle.sx_reader.specs.Lexemes.{Follow, none, one}
@@ -33,15 +33,15 @@ follow_snoc l (one m here others) e = one m here (follow_snoc l others e)
 
 module _ (file : List ℕ) (nesting : ℕ) where
   -- these lexemes lead to this state
-  abbrev Reaches : List Lexeme → State → Type 0
+  abbrev Reaches : List Lexeme → ReaderState → Type 0
   Reaches seen s = (ms : List Lexeme) (g : Option Fault) → run file nesting (state [] []) (seen ++ ms) g ≡ run file nesting s ms g
 
-  reaches_on : (seen : List Lexeme) (s next : State) (l : Lexeme) → Reaches seen s → step file nesting s l ≡ Ok next → Reaches (seen ++ l ∷ []) next
+  reaches_on : (seen : List Lexeme) (s next : ReaderState) (l : Lexeme) → Reaches seen s → step file nesting s l ≡ Ok next → Reaches (seen ++ l ∷ []) next
   unfolding run
   reaches_on seen s next l so e ms g = rw (append_assoc seen (l ∷ []) ms) (so (l ∷ ms) g ∙ ap (λ r. r >>= λ u. run file nesting u ms g) e)
 
   -- no data begin with these lexemes and the token that is refused
-  dead : (seen : List Lexeme) (s : State) (l : Lexeme) (f : Fault) → Reaches seen s → step file nesting s l ≡ Err f → CanGoOn file nesting (seen ++ l ∷ []) → ⊥
+  dead : (seen : List Lexeme) (s : ReaderState) (l : Lexeme) (f : Fault) → Reaches seen s → step file nesting s l ≡ Err f → CanGoOn file nesting (seen ++ l ∷ []) → ⊥
   unfolding run
   dead seen s l f so e c =
       let whole = rw (append_assoc seen (l ∷ []) c.others) at (reads_all file nesting c.items) in
@@ -49,7 +49,7 @@ module _ (file : List ℕ) (nesting : ℕ) where
       (so (l ∷ c.others) None ∙ ap (λ r. r >>= λ u. run file nesting u c.others None) e)
 
   -- the lexemes from the start up to here are taken, and have led to this state
-  pub record Taken (next : ℕ → Result (Option Lexeme) Fault) (start : ℕ) (s : State) (at : ℕ) : Type 0 where
+  pub record Taken (next : ℕ → Result (Option Lexeme) Fault) (start : ℕ) (s : ReaderState) (at : ℕ) : Type 0 where
     pub seen : List Lexeme
     pub follow : Follow next start seen at
     pub holds : Holds file nesting seen s
@@ -58,7 +58,7 @@ module _ (file : List ℕ) (nesting : ℕ) where
   pub taken_none : (next : ℕ → Result (Option Lexeme) Fault) (start : ℕ) → Taken next start (state [] []) start
   taken_none next start = record { seen = []; follow = none; holds = holds_none file nesting; same = λ ms g. refl }
 
-  pub taken_on : {next : ℕ → Result (Option Lexeme) Fault} {start at : ℕ} {s : State} (after : State) (l : Lexeme) → Taken next start s at → next at ≡ Ok (Some l) → step file nesting s l ≡ Ok after
+  pub taken_on : {next : ℕ → Result (Option Lexeme) Fault} {start at : ℕ} {s : ReaderState} (after : ReaderState) (l : Lexeme) → Taken next start s at → next at ≡ Ok (Some l) → step file nesting s l ≡ Ok after
       → Taken next start after l.to
   taken_on {s = s} after l so e goes = record {
     seen = so.seen ++ l ∷ [];
@@ -67,7 +67,7 @@ module _ (file : List ℕ) (nesting : ℕ) where
     same = reaches_on so.seen s after l so.same goes;
   }
 
-module _ (file bytes : List ℕ) (nesting start at : ℕ) (s : State) (begins : start_of file bytes ≡ Ok start) (so : Taken file nesting (next_lexeme file bytes) start s at) where
+module _ (file bytes : List ℕ) (nesting start at : ℕ) (s : ReaderState) (begins : start_of file bytes ≡ Ok start) (so : Taken file nesting (next_lexeme file bytes) start s at) where
   -- bytes here are no token
   pub bad_token : (f : Fault) → next_lexeme file bytes at ≡ Err f → IsFaultOf file bytes nesting f
   bad_token f e = no_token f start at begins so.follow (can_go_on file nesting so.seen s so.holds) e

@@ -8,13 +8,13 @@ use Rattle.sx_base.specs.Gives.{◌>>=◌, Gives, Stops}
 use Rattle.sx_lexer.specs.declared.token.Lexeme.{Lexeme}
 use Rattle.sx_lexer.specs.Start.{start_of}
 use Rattle.sx_lexer.specs.Tokens.{next_lexeme}
-use Rattle.sx_machine.specs.declared.partial.State.{State}
+use Rattle.sx_machine.specs.declared.partial.ReaderState.{ReaderState}
 use Rattle.sx_machine.specs.Step.{state, step, finish}
 use Rattle.sx_reader.specs.Lexemes.{lexed, lexed_on, lexed_from, lexed_behind}
 use Rattle.sx_reader.specs.Read.{run, run_over, data_of}
 
 -- with some number of turns, the lexemes from an offset on lead from this state to this answer
-pub record Comes (file : List ℕ) (nesting : ℕ) (next : ℕ → Result (Option Lexeme) Fault) (size : ℕ) (s : State) (at : ℕ) (answer : Result (List PlainDatum) Fault) : Type 0 where
+pub record Comes (file : List ℕ) (nesting : ℕ) (next : ℕ → Result (Option Lexeme) Fault) (size : ℕ) (s : ReaderState) (at : ℕ) (answer : Result (List PlainDatum) Fault) : Type 0 where
   pub turns : ℕ
   pub enough : size < at + turns
   pub same : run_over file nesting s (lexed_from next turns at) ≡ answer
@@ -32,7 +32,7 @@ pub begins_not : (file bytes : List ℕ) (nesting : ℕ) (f : Fault) → start_o
 unfolding run
 begins_not file bytes nesting f e = begun file bytes nesting (Err f) e
 
-module _ (file : List ℕ) (nesting : ℕ) (next : ℕ → Result (Option Lexeme) Fault) (size : ℕ) (s : State) (at : ℕ) (answer : Result (List PlainDatum) Fault) (inside : at ≤ size) where
+module _ (file : List ℕ) (nesting : ℕ) (next : ℕ → Result (Option Lexeme) Fault) (size : ℕ) (s : ReaderState) (at : ℕ) (answer : Result (List PlainDatum) Fault) (inside : at ≤ size) where
   turned : (k : ℕ) (found : Result (Option Lexeme) Fault) → next at ≡ found → run_over file nesting s (lexed_from next (suc k) at) ≡ answer
       → run_over file nesting s (lexed_on found (λ to. lexed_from next k to)) ≡ answer
   unfolding lexed_from
@@ -64,7 +64,7 @@ module _ (file : List ℕ) (nesting : ℕ) (next : ℕ → Result (Option Lexeme
         ∙ ap (λ r. r >>= λ u. run file nesting u (lexed_from next k l.to).lexemes (lexed_from next k l.to).fault) stuck
 
   -- one turn
-  pub turn : (l : Lexeme) (after : State) → next at ≡ Ok (Some l) → step file nesting s l ≡ Ok after → at < l.to
+  pub turn : (l : Lexeme) (after : ReaderState) → next at ≡ Ok (Some l) → step file nesting s l ≡ Ok after → at < l.to
       → Comes file nesting next size s at answer → Comes file nesting next size after l.to answer
   unfolding run
   turn l after e goes on c = turn_at c.turns c.enough c.same where

@@ -13,9 +13,9 @@ use Rattle.sx_lexer.specs.declared.token.Token.{Token}
 use Rattle.sx_lexer.specs.declared.token.Token.TheVariants as t
 use Rattle.sx_lexer.specs.declared.token.Lexeme.{Lexeme}
 use Rattle.sx_machine.specs.declared.extent.Extent.{Extent}
-use Rattle.sx_machine.specs.declared.partial.Tail.TheVariants as tail
-use Rattle.sx_machine.specs.declared.partial.Parts.{Parts}
-use Rattle.sx_machine.specs.declared.partial.Parts.TheVariants as parts
+use Rattle.sx_machine.specs.declared.partial.OpenTail.TheVariants as tail
+use Rattle.sx_machine.specs.declared.partial.OpenParts.{OpenParts}
+use Rattle.sx_machine.specs.declared.partial.OpenParts.TheVariants as parts
 use Rattle.sx_machine.specs.Extent.{fault_at}
 use Rattle.sx_machine.specs.Step.{same_bracket}
 use Rattle.sx_reader.specs.Grammar.{lexeme, AreItems}
@@ -24,7 +24,7 @@ use Rattle.sx_machine.specs.declared.partial.Partial.{Partial}
 use Rattle.sx_reader.specs.Partial.{partial, ComesTo}
 
 -- a close of this kind ends no such form; where a dot waits for its datum, the dot is at fault
-abbrev pub is_stray : Bracket → Parts → Bool
+abbrev pub is_stray : Bracket → OpenParts → Bool
 is_stray b (parts.List c ds tail.Absent) = not (same_bracket b c)
 is_stray b (parts.List c ds (tail.Dotted dot)) = false
 is_stray b (parts.List c ds (tail.Given dot e)) = not (same_bracket b c)
@@ -34,7 +34,7 @@ is_stray b (parts.Abbreviation k) = true
 is_stray b parts.Skipped = true
 
 -- there is nothing before a dot
-abbrev pub has_no_dot : Parts → Bool
+abbrev pub has_no_dot : OpenParts → Bool
 has_no_dot (parts.List b [] tail.Absent) = true
 has_no_dot (parts.List b (d ∷ ds) tail.Absent) = false
 has_no_dot (parts.List b ds (tail.Dotted dot)) = false
@@ -98,7 +98,7 @@ module _ (file : List ℕ) where
     pub items : AreItems file nesting (ls ++ others) data_there
 
   -- the innermost form that is open behind these lexemes was opened here, and has these parts
-  pub record EndsInside (nesting : ℕ) (ls : List Lexeme) (p : Parts) (x : Extent) : Type 0 where
+  pub record EndsInside (nesting : ℕ) (ls : List Lexeme) (p : OpenParts) (x : Extent) : Type 0 where
     pub room : ℕ
     pub round : List Partial
     pub before : List PlainDatum
@@ -107,9 +107,9 @@ module _ (file : List ℕ) where
   -- what is wrong with this token behind these lexemes
   pub data IsFaultAt (nesting : ℕ) (ls : List Lexeme) : Token → Extent → Fault → Type 0 where
     close_of_nothing : {ds : List PlainDatum} (b : Bracket) (y : Extent) → AreItems file nesting ls ds → IsFaultAt nesting ls (t.Close b) y (fault_at file fault.StrayClose y)
-    close_of_another : {p : Parts} {x : Extent} (b : Bracket) (y : Extent) → EndsInside nesting ls p x → is_stray b p ≡ true → IsFaultAt nesting ls (t.Close b) y (fault_at file fault.StrayClose y)
+    close_of_another : {p : OpenParts} {x : Extent} (b : Bracket) (y : Extent) → EndsInside nesting ls p x → is_stray b p ≡ true → IsFaultAt nesting ls (t.Close b) y (fault_at file fault.StrayClose y)
     dot_at_top : {ds : List PlainDatum} (y : Extent) → AreItems file nesting ls ds → IsFaultAt nesting ls t.Dot y (fault_at file fault.BadDot y)
-    dot_in_another : {p : Parts} {x : Extent} (y : Extent) → EndsInside nesting ls p x → has_no_dot p ≡ true → IsFaultAt nesting ls t.Dot y (fault_at file fault.BadDot y)
+    dot_in_another : {p : OpenParts} {x : Extent} (y : Extent) → EndsInside nesting ls p x → has_no_dot p ≡ true → IsFaultAt nesting ls t.Dot y (fault_at file fault.BadDot y)
     nothing_behind_dot : {b : Bracket} {ds : List PlainDatum} {dot x : Extent} (k : Token) (y : Extent) → EndsInside nesting ls (parts.List b ds (tail.Dotted dot)) x
         → IsTrue (is_close k || is_dot k) → IsFaultAt nesting ls k y (fault_at file fault.BadDot dot)
     much_behind_dot : {b : Bracket} {ds : List PlainDatum} {e : PlainDatum} {dot x : Extent} (k : Token) (y : Extent) → EndsInside nesting ls (parts.List b ds (tail.Given dot e)) x
@@ -128,7 +128,7 @@ pub data IsFaultOf (file bytes : List ℕ) (nesting : ℕ) : Fault → Type 0 wh
   out_of_place : {f : Fault} (ls : List Lexeme) (k : Token) (y : Extent) (start at : ℕ) → start_of file bytes ≡ Ok start → Follow (next_lexeme file bytes) start (ls ++ lexeme k y ∷ []) at
       → CanGoOn file nesting ls → (CanGoOn file nesting (ls ++ lexeme k y ∷ []) → ⊥) → IsFaultAt file nesting ls k y f → IsFaultOf file bytes nesting f
   -- the source ends too early
-  unclosed : {ls : List Lexeme} {p : Parts} {x : Extent} (start at : ℕ) → start_of file bytes ≡ Ok start → Follow (next_lexeme file bytes) start ls at
+  unclosed : {ls : List Lexeme} {p : OpenParts} {x : Extent} (start at : ℕ) → start_of file bytes ≡ Ok start → Follow (next_lexeme file bytes) start ls at
       → CanGoOn file nesting ls → next_lexeme file bytes at ≡ Ok None → EndsInside file nesting ls p x → IsFaultOf file bytes nesting (fault_at file fault.Unclosed x)
 
 -- of the fault, where it is one

@@ -4,7 +4,7 @@ use Rattle.sx_base.specs.declared.fault.Fault.{Fault}
 use Rattle.sx_base.specs.Datum.{PlainDatum}
 use Rattle.sx_base.specs.Gives.{◌>>=◌}
 use Rattle.sx_lexer.specs.declared.token.Lexeme.{Lexeme}
-use Rattle.sx_machine.specs.declared.partial.State.{State}
+use Rattle.sx_machine.specs.declared.partial.ReaderState.{ReaderState}
 use Rattle.sx_machine.specs.Step.{state, step, finish}
 use Rattle.sx_reader.specs.Lexemes.{Lexed, lexed}
 
@@ -17,16 +17,16 @@ abbrev pub most_nesting : ℕ
 most_nesting = 8192
 
 -- what behind the last lexeme comes of the state there: the fault of the next token, or the end
-abbrev pub ended : List ℕ → State → Option Fault → Result (List PlainDatum) Fault
+abbrev pub ended : List ℕ → ReaderState → Option Fault → Result (List PlainDatum) Fault
 ended file s None = finish file s.stack s.done
 ended file s (Some f) = Err f
 
 -- the data of some lexemes behind a state, where so many forms may be nested
-unfoldable pub run : List ℕ → ℕ → State → List Lexeme → Option Fault → Result (List PlainDatum) Fault
+unfoldable pub run : List ℕ → ℕ → ReaderState → List Lexeme → Option Fault → Result (List PlainDatum) Fault
 run file nesting s [] f = ended file s f
 run file nesting s (l ∷ ls) f = step file nesting s l >>= λ next. run file nesting next ls f
 
-abbrev pub run_over : List ℕ → ℕ → State → Lexed → Result (List PlainDatum) Fault
+abbrev pub run_over : List ℕ → ℕ → ReaderState → Lexed → Result (List PlainDatum) Fault
 run_over file nesting s ls = run file nesting s ls.lexemes ls.fault
 
 -- the data of a source where so many forms may be nested, or its first fault

@@ -12,12 +12,12 @@ use std::alloc::Global;
 use sx_base::datum::Datum;
 use sx_base::fault::Stop;
 use sx_base::symbol::Symbol;
-use sx_lexer::names::Names;
+use sx_lexer::names::SymbolTable;
 use sx_lexer::start::start_of;
 use sx_lexer::tokens::next_lexeme;
 use sx_machine::context::SourceContext;
 use sx_machine::keywords::Keywords;
-use sx_machine::partial::State;
+use sx_machine::partial::ReaderState;
 use sx_machine::step::{finish, step};
 
 /// How many forms may be nested in a program or library.
@@ -71,7 +71,7 @@ fn read_lexemes(
     ensures refused { OnFault result (IsFaultOf file.now bytes.now nesting) }
 {
     let keywords = Keywords::new(alloc)?;
-    let mut names = Names::new(alloc);
+    let mut names = SymbolTable::new(alloc);
     let context = SourceContext {
         alloc,
         file,
@@ -85,14 +85,14 @@ fn read_lexemes(
 fn read_sharing(
     context: &SourceContext,
     bytes: &[u8],
-    names: &mut Names,
+    names: &mut SymbolTable,
 ) -> Result<Vec<Datum>, Stop>
     requires { length bytes.now < 2 ^ 32 }
     ensures gives { Gives (λ v. v.items) result (data_of context.now.file.now bytes.now context.now.nesting) }
     ensures spelled { IfOk result (λ v. Spells context.now.file.now bytes.now context.now.nesting v.items) }
     ensures refused { OnFault result (IsFaultOf context.now.file.now bytes.now context.now.nesting) }
 {
-    let mut state = State::new(context.alloc);
+    let mut state = ReaderState::new(context.alloc);
     let mut at = start_of(context.alloc, context.file, bytes)?;
     loop {
         let Some(lexeme) = next_lexeme(names, context.file, bytes, at)? else {

@@ -11,7 +11,7 @@ use std::cmp::Ordering;
 use sx_base::memory::Memory;
 use sx_base::name::Label;
 use sx_base::symbol::Symbol;
-use sx_bytes::libraries::Libraries;
+use sx_bytes::libraries::RecentLibraries;
 use sx_bytes::names::{op_at, put_op};
 use sx_bytes::numbers::{bool_at, put_bool, put_u32, put_u64, u32_at, u64_at};
 use sx_bytes::spelled::Spelled;
@@ -19,7 +19,7 @@ use sx_core::binding::{Binding, Expression, VarInfo};
 use sx_core::core_form::CoreForm;
 use sx_core_bytes::at::core_at;
 use sx_core_bytes::put::put_core;
-use sx_pattern_bytes::held::Held;
+use sx_pattern_bytes::held::HeldReading;
 
 /// One more than how many core expressions core code may have round one.
 pub(crate) const MAX_CORE: u32 = 8193;
@@ -58,7 +58,7 @@ fn put_variable(out: &mut Vec<u8>, variable: &VarInfo) -> Result<(), Memory>
 
 #[tactic(auto, unfolding(sx_codec::specs::Records::variable))]
 fn variable_at<'a>(
-    libraries: &mut Libraries,
+    libraries: &mut RecentLibraries,
     bytes: &'a [u8],
 ) -> Result<Option<(VarInfo, &'a [u8])>, Memory>
     ensures { IfOk result (λ o. option_map (λ x. (x.0, x.1.now)) o ≡ spell.variable.get bytes.now) }
@@ -109,7 +109,7 @@ fn put_expression(
 }
 
 fn expression_at<'a>(
-    libraries: &mut Libraries,
+    libraries: &mut RecentLibraries,
     bytes: &'a [u8],
 ) -> Result<Option<(Option<Expression>, &'a [u8])>, Memory>
     ensures { IfOk result (λ o. option_map (λ x. (x.0, x.1.now)) o ≡ (optional spell.code).get bytes.now) }
@@ -163,7 +163,7 @@ fn put_binding(out: &mut Vec<u8>, alloc: Global, binding: &Binding) -> Result<bo
 
 #[tactic(auto, unfolding(sx_codec::specs::Records::binding))]
 fn binding_at<'a>(
-    libraries: &mut Libraries,
+    libraries: &mut RecentLibraries,
     bytes: &'a [u8],
 ) -> Result<Option<(Binding, &'a [u8])>, Memory>
     ensures { IfOk result (λ o. option_map (λ x. (x.0, x.1.now)) o ≡ spell.binding.get bytes.now) }
@@ -222,22 +222,22 @@ fn levels_at(bytes: &[u8]) -> Option<(Levels, &[u8])>
 
 /// The level of a keyword, and its expression.
 #[derive(Drop)]
-struct Keyword {
+struct KeywordRow {
     level: u32,
     expression: Option<Expression>,
 }
 
 fn keyword_at<'a>(
-    libraries: &mut Libraries,
+    libraries: &mut RecentLibraries,
     bytes: &'a [u8],
-) -> Result<Option<(Keyword, &'a [u8])>, Memory>
+) -> Result<Option<(KeywordRow, &'a [u8])>, Memory>
     ensures { IfOk result (λ o. option_map (λ x. ((x.0.level, x.0.expression), x.1.now)) o ≡ (u32 then optional spell.code).get bytes.now) }
 {
     let Some((level, rest)) = u32_at(bytes) else {
         return Ok(None);
     };
     match expression_at(libraries, rest)? {
-        Some((expression, rest)) => Ok(Some((Keyword { level, expression }, rest))),
+        Some((expression, rest)) => Ok(Some((KeywordRow { level, expression }, rest))),
         None => Ok(None),
     }
 }
@@ -313,9 +313,9 @@ fn put_row(out: &mut Vec<u8>, alloc: Global, row: &(Label, Binding)) -> Result<b
 
 /// The bindings that the bytes begin with, where they rise by their labels, and the bytes behind them.
 pub(crate) fn bindings_at<'a>(
-    libraries: &mut Libraries,
+    libraries: &mut RecentLibraries,
     bytes: &'a [u8],
-) -> Result<Option<(Held<Vec<(Label, Binding)>>, &'a [u8])>, Memory>
+) -> Result<Option<(HeldReading<Vec<(Label, Binding)>>, &'a [u8])>, Memory>
     ensures { IfOk result (λ o. option_map (λ x. (x.0.value.items, x.1.now)) o
         ≡ (checked spell.bindings_rise (listed (label then spell.binding))).get bytes.now) }
 {
@@ -329,9 +329,9 @@ pub(crate) fn bindings_at<'a>(
 }
 
 fn all_at<'a>(
-    libraries: &mut Libraries,
+    libraries: &mut RecentLibraries,
     bytes: &'a [u8],
-) -> Result<Option<(Held<Vec<(Label, Binding)>>, &'a [u8])>, Memory>
+) -> Result<Option<(HeldReading<Vec<(Label, Binding)>>, &'a [u8])>, Memory>
     ensures { IfOk result (λ o. option_map (λ x. (x.0.value.items, x.1.now)) o ≡ (listed (label then spell.binding)).get bytes.now) }
 {
     match u64_at(bytes) {
@@ -341,13 +341,13 @@ fn all_at<'a>(
 }
 
 fn some_bindings<'a>(
-    libraries: &mut Libraries,
+    libraries: &mut RecentLibraries,
     count: u64,
     bytes: &'a [u8],
-) -> Result<Option<(Held<Vec<(Label, Binding)>>, &'a [u8])>, Memory>
+) -> Result<Option<(HeldReading<Vec<(Label, Binding)>>, &'a [u8])>, Memory>
     ensures { IfOk result (λ o. option_map (λ x. (x.0.value.items, x.1.now)) o ≡ some_get (label then spell.binding).get count bytes.now) }
 {
-    let mut list = Held::new(Vec::new(libraries.alloc()));
+    let mut list = HeldReading::new(Vec::new(libraries.alloc()));
     let mut rest = bytes;
     for _ in 0..count {
         let Some((row, after)) = row_at(libraries, rest)? else {
@@ -360,7 +360,7 @@ fn some_bindings<'a>(
 }
 
 fn row_at<'a>(
-    libraries: &mut Libraries,
+    libraries: &mut RecentLibraries,
     bytes: &'a [u8],
 ) -> Result<Option<((Label, Binding), &'a [u8])>, Memory>
     ensures { IfOk result (λ o. option_map (λ x. (x.0, x.1.now)) o ≡ (label then spell.binding).get bytes.now) }

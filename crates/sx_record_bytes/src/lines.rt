@@ -10,14 +10,14 @@ use crate::bindings::MAX_CORE;
 use std::alloc::Global;
 use sx_base::memory::Memory;
 use sx_base::name::Label;
-use sx_bytes::libraries::Libraries;
+use sx_bytes::libraries::RecentLibraries;
 use sx_bytes::numbers::{put_u64, u64_at};
 use sx_bytes::spelled::Spelled;
 use sx_core::code::Core;
 use sx_core::record::Line;
 use sx_core_bytes::at::core_at;
 use sx_core_bytes::put::put_core;
-use sx_pattern_bytes::held::Held;
+use sx_pattern_bytes::held::HeldReading;
 
 #[tactic(auto, unfolding(sx_codec::specs::Records::line))]
 fn put_line(out: &mut Vec<u8>, alloc: Global, line: &Line) -> Result<bool, Memory>
@@ -38,7 +38,7 @@ fn put_line(out: &mut Vec<u8>, alloc: Global, line: &Line) -> Result<bool, Memor
 
 #[tactic(auto, unfolding(sx_codec::specs::Records::line))]
 fn line_at<'a>(
-    libraries: &mut Libraries,
+    libraries: &mut RecentLibraries,
     bytes: &'a [u8],
 ) -> Result<Option<(Line, &'a [u8])>, Memory>
     ensures { IfOk result (λ o. option_map (λ x. (x.0, x.1.now)) o ≡ spell.line.get bytes.now) }
@@ -67,7 +67,7 @@ struct Definition {
 }
 
 fn definition_at<'a>(
-    libraries: &mut Libraries,
+    libraries: &mut RecentLibraries,
     bytes: &'a [u8],
 ) -> Result<Option<(Definition, &'a [u8])>, Memory>
     ensures { IfOk result (λ o. option_map (λ x. ((x.0.label, x.0.core), x.1.now)) o ≡ (label then spell.code).get bytes.now) }
@@ -96,9 +96,9 @@ pub(crate) fn put_lines(out: &mut Vec<u8>, alloc: Global, lines: &[Line]) -> Res
 
 /// The run lines that the bytes begin with, and the bytes behind them.
 pub(crate) fn lines_at<'a>(
-    libraries: &mut Libraries,
+    libraries: &mut RecentLibraries,
     bytes: &'a [u8],
-) -> Result<Option<(Held<Vec<Line>>, &'a [u8])>, Memory>
+) -> Result<Option<(HeldReading<Vec<Line>>, &'a [u8])>, Memory>
     ensures { IfOk result (λ o. option_map (λ x. (x.0.value.items, x.1.now)) o ≡ (listed spell.line).get bytes.now) }
 {
     match u64_at(bytes) {
@@ -108,13 +108,13 @@ pub(crate) fn lines_at<'a>(
 }
 
 fn some_lines<'a>(
-    libraries: &mut Libraries,
+    libraries: &mut RecentLibraries,
     count: u64,
     bytes: &'a [u8],
-) -> Result<Option<(Held<Vec<Line>>, &'a [u8])>, Memory>
+) -> Result<Option<(HeldReading<Vec<Line>>, &'a [u8])>, Memory>
     ensures { IfOk result (λ o. option_map (λ x. (x.0.value.items, x.1.now)) o ≡ some_get spell.line.get count bytes.now) }
 {
-    let mut list = Held::new(Vec::new(libraries.alloc()));
+    let mut list = HeldReading::new(Vec::new(libraries.alloc()));
     let mut rest = bytes;
     for _ in 0..count {
         let Some((line, after)) = line_at(libraries, rest)? else {

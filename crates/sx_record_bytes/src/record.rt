@@ -16,15 +16,15 @@ use sx_base::library::LibName;
 use sx_base::memory::Memory;
 use sx_base::name::Label;
 use sx_base::symbol::Symbol;
-use sx_bytes::libraries::Libraries;
+use sx_bytes::libraries::RecentLibraries;
 use sx_bytes::spelled::Spelled;
 use sx_core::binding::Binding;
-use sx_core::record::{LibRecord, Line};
-use sx_pattern_bytes::held::Held;
+use sx_core::record::{CompiledLibrary, Line};
+use sx_pattern_bytes::held::HeldReading;
 use sx_tree::frame_row::FrameRow;
 
 /// Adds what stands behind the exports of a record.
-fn put_body(out: &mut Vec<u8>, alloc: Global, record: &LibRecord) -> Result<bool, Memory>
+fn put_body(out: &mut Vec<u8>, alloc: Global, record: &CompiledLibrary) -> Result<bool, Memory>
     ensures { IfOk result (λ b. PutsIf (checked spell.bindings_rise (listed (label then spell.binding))
         then checked spell.rows_rise (listed frame_row) then listed spell.line then listed library)
         (record.now.bindings, (record.now.frames, (record.now.run, record.now.refs))) out.old.items out.new.items b) }
@@ -44,7 +44,7 @@ fn put_body(out: &mut Vec<u8>, alloc: Global, record: &LibRecord) -> Result<bool
 
 /// Adds the spelling of a record, where it has one.
 #[tactic(auto, unfolding(sx_codec::specs::Records::lib_record))]
-pub fn put_record(out: &mut Vec<u8>, alloc: Global, record: &LibRecord) -> Result<bool, Memory>
+pub fn put_record(out: &mut Vec<u8>, alloc: Global, record: &CompiledLibrary) -> Result<bool, Memory>
     ensures { IfOk result (λ b. PutsIf spell.lib_record record.now out.old.items out.new.items b) }
 {
     record.path.put(out)?;
@@ -56,17 +56,17 @@ pub fn put_record(out: &mut Vec<u8>, alloc: Global, record: &LibRecord) -> Resul
 
 /// What stands behind the exports of a record.
 #[derive(Drop)]
-struct Body {
-    bindings: Held<Vec<(Label, Binding)>>,
+struct RecordBody {
+    bindings: HeldReading<Vec<(Label, Binding)>>,
     frames: Vec<FrameRow>,
-    run: Held<Vec<Line>>,
+    run: HeldReading<Vec<Line>>,
     refs: Items<LibName>,
 }
 
 fn body_at<'a>(
-    libraries: &mut Libraries,
+    libraries: &mut RecentLibraries,
     bytes: &'a [u8],
-) -> Result<Option<(Body, &'a [u8])>, Memory>
+) -> Result<Option<(RecordBody, &'a [u8])>, Memory>
     ensures { IfOk result (λ o. option_map (λ x. ((x.0.bindings.value.items, (x.0.frames.items, (x.0.run.value.items, x.0.refs))), x.1.now)) o
         ≡ (checked spell.bindings_rise (listed (label then spell.binding)) then checked spell.rows_rise (listed frame_row)
         then listed spell.line then listed library).get bytes.now) }
@@ -83,7 +83,7 @@ fn body_at<'a>(
     let Some((refs, rest)) = Spelled::at(libraries, rest)? else {
         return Ok(None);
     };
-    let body = Body {
+    let body = RecordBody {
         bindings,
         frames,
         run,
@@ -95,9 +95,9 @@ fn body_at<'a>(
 /// The record that the bytes begin with, and the bytes behind it.
 #[tactic(auto, unfolding(sx_codec::specs::Records::lib_record))]
 pub fn record_at<'a>(
-    libraries: &mut Libraries,
+    libraries: &mut RecentLibraries,
     bytes: &'a [u8],
-) -> Result<Option<(Held<LibRecord>, &'a [u8])>, Memory>
+) -> Result<Option<(HeldReading<CompiledLibrary>, &'a [u8])>, Memory>
     ensures { IfOk result (λ o. option_map (λ x. (x.0.value, x.1.now)) o ≡ spell.lib_record.get bytes.now) }
 {
     let Some((path, rest)) = Symbol::at(libraries, bytes)? else {
@@ -115,7 +115,7 @@ pub fn record_at<'a>(
     let Some((body, rest)) = body_at(libraries, rest)? else {
         return Ok(None);
     };
-    let record = LibRecord {
+    let record = CompiledLibrary {
         path,
         name,
         version,
@@ -125,12 +125,12 @@ pub fn record_at<'a>(
         run: Items::from_vec(body.run.take()),
         refs: body.refs,
     };
-    Ok(Some((Held::new(record), rest)))
+    Ok(Some((HeldReading::new(record), rest)))
 }
 
 /// The spelling of a record, or nothing where it has none: its bindings or rows don't rise, its core code isn't
 /// well made, or something in it is beyond the limits of height and size.
-pub fn encode(alloc: Global, record: &LibRecord) -> Result<Option<Vec<u8>>, Memory>
+pub fn encode(alloc: Global, record: &CompiledLibrary) -> Result<Option<Vec<u8>>, Memory>
     ensures { IfOk result (λ o. option_map (λ v. v.items) o ≡ (if spell.has_spelling record.now then Some (spell.encode record.now) else None)) }
 {
     let mut out = Vec::new(alloc);
@@ -142,10 +142,10 @@ pub fn encode(alloc: Global, record: &LibRecord) -> Result<Option<Vec<u8>>, Memo
 }
 
 /// The record that all of the bytes spell, or nothing where they spell none.
-pub fn decode(alloc: Global, bytes: &[u8]) -> Result<Option<LibRecord>, Memory>
+pub fn decode(alloc: Global, bytes: &[u8]) -> Result<Option<CompiledLibrary>, Memory>
     ensures { IfOk result (λ o. o ≡ spell.decode bytes.now) }
 {
-    let mut libraries = Libraries::new(alloc);
+    let mut libraries = RecentLibraries::new(alloc);
     match record_at(&mut libraries, bytes)? {
         Some((record, rest)) => {
             if rest.is_empty() {

@@ -11,7 +11,7 @@ use std::cmp::Ordering;
 use sx_base::memory::Memory;
 use sx_base::name::{FrameNo, Label};
 use sx_base::symbol::Symbol;
-use sx_bytes::libraries::Libraries;
+use sx_bytes::libraries::RecentLibraries;
 use sx_bytes::numbers::{put_u64, u64_at};
 use sx_bytes::spelled::Spelled;
 use sx_tree::frame_row::FrameRow;
@@ -29,7 +29,7 @@ fn put_row(out: &mut Vec<u8>, alloc: Global, row: &FrameRow) -> Result<(), Memor
 
 #[tactic(auto, unfolding(sx_codec::specs::Contexts::frame_row))]
 fn row_at<'a>(
-    libraries: &mut Libraries,
+    libraries: &mut RecentLibraries,
     bytes: &'a [u8],
 ) -> Result<Option<(FrameRow, &'a [u8])>, Memory>
     ensures { IfOk result (λ o. option_map (λ x. (x.0, x.1.now)) o ≡ frame_row.get bytes.now) }
@@ -113,7 +113,7 @@ fn put_all(out: &mut Vec<u8>, alloc: Global, rows: &[FrameRow]) -> Result<(), Me
 
 /// The rows that the bytes begin with, where they rise by their frames, and the bytes behind them.
 pub(crate) fn rows_at<'a>(
-    libraries: &mut Libraries,
+    libraries: &mut RecentLibraries,
     bytes: &'a [u8],
 ) -> Result<Option<(Vec<FrameRow>, &'a [u8])>, Memory>
     ensures { IfOk result (λ o. option_map (λ x. (x.0.items, x.1.now)) o ≡ (checked spell.rows_rise (listed frame_row)).get bytes.now) }
@@ -128,7 +128,7 @@ pub(crate) fn rows_at<'a>(
 }
 
 fn all_at<'a>(
-    libraries: &mut Libraries,
+    libraries: &mut RecentLibraries,
     bytes: &'a [u8],
 ) -> Result<Option<(Vec<FrameRow>, &'a [u8])>, Memory>
     ensures { IfOk result (λ o. option_map (λ x. (x.0.items, x.1.now)) o ≡ (listed frame_row).get bytes.now) }
@@ -140,7 +140,7 @@ fn all_at<'a>(
 }
 
 fn some_rows<'a>(
-    libraries: &mut Libraries,
+    libraries: &mut RecentLibraries,
     count: u64,
     bytes: &'a [u8],
 ) -> Result<Option<(Vec<FrameRow>, &'a [u8])>, Memory>

@@ -16,7 +16,7 @@ use Rattle.sx_records.specs.declared.clause.RecordClause.TheVariants as clause
 use Rattle.sx_records.specs.declared.clause.Uid.{Uid}
 use Rattle.sx_records.specs.declared.clause.Uid.TheVariants as uid
 use Rattle.sx_shape_laws.specs.Grammar.{IsList}
-use Rattle.sx_shape_laws.specs.Records.{IsWord, IsClause, Has, Lacks, LacksKind, AreClauses, Says}
+use Rattle.sx_shape_laws.specs.Records.{IsKeywordIdentifier, IsClause, Has, Lacks, LacksKind, AreClauses, Says}
 use Rattle.sx_shape_laws.specs.Records as r
 use Rattle.sx_record_laws.specs.RecordTypes.{IsParent, IsUid, IsSealed, IsOpaque, IsProtocol, AreFields, Description, Describe}
 use Rattle.sx_record_laws.specs.RecordTypes as types
@@ -174,7 +174,7 @@ module _ (fs : Scope) (name : Tree) where
   slots _ _ _ r.generated = refl
   slots _ _ _ (r.nongenerative i) = refl
 
-  word-one : (which other : CoreForm) (head : Tree) → IsWord fs which head → IsWord fs other head → which ≡ other
+  word-one : (which other : CoreForm) (head : Tree) → IsKeywordIdentifier fs which head → IsKeywordIdentifier fs other head → which ≡ other
   word-one which other head v w = some-is which other (sym (word-is fs which head v) ∙ word-is fs other head w)
 
   lists-one : (x y : Tree) (xs ys : List Tree) (t : Tree) → IsList (x ∷ xs) t → IsList (y ∷ ys) t → (x ≡ y) × (xs ≡ ys)
@@ -183,9 +183,9 @@ module _ (fs : Scope) (name : Tree) where
   clause-one : (which : CoreForm) (c d : RecordClause) (operands : List Tree) → IsClause fs name which c operands → IsClause fs name which d operands → c ≡ d
   clause-one which c d operands h k = some-is c d (sym (clause-is fs name which c operands h) ∙ clause-is fs name which d operands k)
 
-  no-word : (n : ℕ) (which : CoreForm) (head t : Tree) (operands ts : List Tree) → IsList (head ∷ operands) t → IsWord fs which head → (slot-of which ≡ n → ⊥) → NoWord n ts → (other : CoreForm) → slot-of other ≡ n → Has fs other (t ∷ ts) → ⊥
+  no-word : (n : ℕ) (which : CoreForm) (head t : Tree) (operands ts : List Tree) → IsList (head ∷ operands) t → IsKeywordIdentifier fs which head → (slot-of which ≡ n → ⊥) → NoWord n ts → (other : CoreForm) → slot-of other ≡ n → Has fs other (t ∷ ts) → ⊥
   no-word n which head t operands ts l w lacks h other i (r.headed_here {head = x} {operands = xs} m v) =
-      lacks (ap slot-of (word-one which other head w (subst (IsWord fs other) (sym (lists-one head x operands xs t l m).0) v)) ∙ i)
+      lacks (ap slot-of (word-one which other head w (subst (IsKeywordIdentifier fs other) (sym (lists-one head x operands xs t l m).0) v)) ∙ i)
   no-word n which head t operands ts l w lacks h other i (r.headed_behind k) = h other i k
 
   nothing-has : (which : CoreForm) → Has fs which [] → ⊥
@@ -235,7 +235,7 @@ module _ (fs : Scope) (name : Tree) where
         same-list = lists-one head y operands ys t l m
 
         same-word : which ≡ other
-        same-word = word-one which other head w (subst (IsWord fs other) (sym same-list.0) v)
+        same-word = word-one which other head w (subst (IsKeywordIdentifier fs other) (sym same-list.0) v)
 
         same-clause : c ≡ s.put a
         same-clause = clause-one which c (s.put a) operands k (subst (λ f. IsClause fs name f (s.put a) operands) (sym same-word) (subst (IsClause fs name other (s.put a)) (sym same-list.1) j))
@@ -265,7 +265,7 @@ module _ (fs : Scope) (name : Tree) where
     free-behind cs ds t ts e (inl f) = inl (e ∙ f)
     free-behind cs ds t ts e (inr lacks) = inr (λ which i h. lacks which i (r.headed_behind h))
 
-    is-free : (which : CoreForm) (a : A) (head t : Tree) (operands ts : List Tree) (cs : Clauses) → IsList (head ∷ operands) t → IsWord fs which head → IsClause fs name which (s.put a) operands → Free cs (t ∷ ts) → s.get cs ≡ None
+    is-free : (which : CoreForm) (a : A) (head t : Tree) (operands ts : List Tree) (cs : Clauses) → IsList (head ∷ operands) t → IsKeywordIdentifier fs which head → IsClause fs name which (s.put a) operands → Free cs (t ∷ ts) → s.get cs ≡ None
     is-free which a head t operands ts cs l w k (inl f) = f
     is-free which a head t operands ts cs l w k (inr lacks) = absurd (lacks which (slots which (s.put a) operands k ∙ s.numbered a) (r.headed_here l w))
 
@@ -344,7 +344,7 @@ module _ (fs : Scope) (name : Tree) where
   abbrev ReadTo : Clauses → List Tree → Type 0
   ReadTo cs ts = (es : Clauses) × Reads fs name cs ts es
 
-  read-on : (which : CoreForm) (c : RecordClause) (head t : Tree) (operands ts : List Tree) (cs : Clauses) → IsList (head ∷ operands) t → IsWord fs which head → IsClause fs name which c operands → LacksKind fs which ts → Frees cs (t ∷ ts)
+  read-on : (which : CoreForm) (c : RecordClause) (head t : Tree) (operands ts : List Tree) (cs : Clauses) → IsList (head ∷ operands) t → IsKeywordIdentifier fs which head → IsClause fs name which c operands → LacksKind fs which ts → Frees cs (t ∷ ts)
       → (ds : Clauses) × ((with_clause cs c ≡ Some ds) × Frees ds ts)
   unfolding with_clause
   read-on which (clause.Fields x) head t operands ts cs l w k lacks free =

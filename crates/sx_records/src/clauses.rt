@@ -20,7 +20,7 @@ use sx_base::op::{NAME_COUNT, Op};
 use sx_core::core_form::CoreForm;
 use sx_scope::scope::Frames;
 use sx_shapes::lists::{is_id, proper};
-use sx_syntax::syn::{Opened, Syn};
+use sx_syntax::syn::{OpenedTree, Syn};
 
 fn numbered(number: u64) -> Option<CoreForm>
     ensures { result ≡ numbered number }
@@ -267,10 +267,10 @@ fn truth_of(alloc: Global, form: &Syn) -> Result<Option<bool>, Memory>
     ensures { IfOk result (λ b. b ≡ truth_of form.now) }
 {
     match form.open(alloc)? {
-        Opened::Atom(atom) => Ok(truth_in(&atom)),
-        Opened::Symbol(_) => Ok(None),
-        Opened::Pair(_, _) => Ok(None),
-        Opened::Vector(_) => Ok(None),
+        OpenedTree::Atom(atom) => Ok(truth_in(&atom)),
+        OpenedTree::Symbol(_) => Ok(None),
+        OpenedTree::Pair(_, _) => Ok(None),
+        OpenedTree::Vector(_) => Ok(None),
     }
 }
 

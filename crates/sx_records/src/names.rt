@@ -11,7 +11,7 @@ use sx_base::memory::Memory;
 use sx_base::symbol::Symbol;
 use sx_names::{put_library, put_name_part};
 use sx_shapes::lists::{is_id, proper};
-use sx_syntax::syn::{Opened, Syn};
+use sx_syntax::syn::{OpenedTree, Syn};
 
 /// What a form that defines a record type binds besides its fields.
 #[derive(Drop)]
@@ -27,7 +27,7 @@ fn symbol_of(alloc: Global, id: &Syn) -> Result<Symbol, Memory>
     ensures { IfOk result (λ s. s ≡ symbol_of id.now) }
 {
     match id.open(alloc)? {
-        Opened::Symbol(symbol) => Ok(symbol),
+        OpenedTree::Symbol(symbol) => Ok(symbol),
         _ => Symbol::new(alloc, ""),
     }
 }

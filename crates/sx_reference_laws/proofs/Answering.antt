@@ -15,7 +15,7 @@ use Rattle.sx_core.specs.declared.code.Clause.{Clause}
 use Rattle.sx_core.specs.declared.code.Init.{Init}
 use Rattle.sx_core.specs.declared.code.Lambda.{Lambda}
 use Rattle.sx_core.specs.declared.core_form.CoreForm.TheVariants as core_forms
-use Rattle.sx_core.specs.declared.record.LibRecord.{LibRecord}
+use Rattle.sx_core.specs.declared.record.CompiledLibrary.{CompiledLibrary}
 use Rattle.sx_core.specs.declared.record.Line.TheVariants as line
 use Rattle.sx_pattern.specs.declared.compile.Compiled.{Compiled}
 use Rattle.sx_pattern.specs.declared.compile.PatternVariable.{PatternVariable}
@@ -33,7 +33,7 @@ use Rattle.sx_shapes.specs.declared.shape.Shape.TheVariants as shapes
 use Rattle.sx_standing.specs.InScope.{cut}
 use Rattle.sx_standing.specs.Patterns.{check_literals, bind_pattern, template_of}
 use Rattle.sx_standing.specs.State.{State}
-use Rattle.sx_standing.specs.Uses.{finish_keyword}
+use Rattle.sx_standing.specs.Uses.{evaluate_transformer}
 use Rattle.sx_standing.specs.declared.binders.BoundSpec.{BoundSpec}
 use Rattle.sx_heads.specs.Items.{define_keyword}
 use Rattle.sx_heads.specs.declared.item.Item.{Item}
@@ -45,18 +45,18 @@ use Rattle.sx_heads.specs.declared.taken.Waiting.{Waiting}
 use Rattle.sx_heads.specs.declared.taken.Waits.{Waits}
 use Rattle.sx_value.specs.Cells.{Each}
 use Rattle.sx_expand.specs.Body.{sequence_of, body_core}
-use Rattle.sx_expand.specs.Settle.{settle_item}
-use Rattle.sx_expand.specs.declared.settle.Settled.{Settled}
-use Rattle.sx_expand.specs.declared.settle.SettledItem.{SettledItem}
-use Rattle.sx_reference_laws.specs.Expands.{counted, Codes, quotes, has_no_insert, has_inserts, Expands, settles, Performs, refers, is_done, is_template, calls, tests, chooses, assigns, follows, makes, makes_cases, binds_all, matches_one, has_keywords, fills, Expand, none, more, Binds, binds_formals, Bind, no_case, case}
-use Rattle.sx_reference_laws.specs.Expands.{Starts, starts_with, Start, no_init, init, Matches, matches_pattern, Match, no_clause, clause, Asks, asks_nothing, asks_first, Means, means, Mean, no_keyword, keyword, BindsKeywords, binds_keywords, Takes, takes, Acts, is_taken, takes_forms, defines_keyword, takes_among, Take, none_taken, more_taken}
+use Rattle.sx_expand.specs.ExpandUses.{expand_item_uses}
+use Rattle.sx_expand.specs.declared.expand_uses.PlannedForm.{PlannedForm}
+use Rattle.sx_expand.specs.declared.expand_uses.PlannedItem.{PlannedItem}
+use Rattle.sx_reference_laws.specs.Expands.{counted, QuasiCodes, quotes, has_no_insert, has_inserts, Expands, settles, Performs, refers, is_done, is_template, calls, tests, chooses, assigns, follows, makes, makes_cases, binds_all, matches_one, has_keywords, fills, Expand, none, more, CaseBinds, binds_formals, ExpandedBind, no_case, case}
+use Rattle.sx_reference_laws.specs.Expands.{Starts, starts_with, ExpansionStart, no_init, init, ExpandsClause, matches_pattern, Match, no_clause, clause, Asks, asks_nothing, asks_first, KeywordMeans, means, Mean, no_keyword, keyword, BindsKeywords, binds_keywords, TakesForm, takes, Acts, is_taken, takes_forms, defines_keyword, takes_among, Take, none_taken, more_taken}
 use Rattle.sx_reference_laws.specs.Expands.{IsBody, is_body, Finish, no_line, next_line, Ends, declares, defines, defines_procedure, is_expression}
 use Rattle.sx_reference_laws.specs.Namings.{namings, template_namings}
-use Rattle.sx_reference_laws.specs.Noted.{Reference, Expression, Noted, nothing, only, of_references, of_keywords, both, Told, lines, of_body, named}
+use Rattle.sx_reference_laws.specs.Noted.{Reference, KeywordExpression, Noted, nothing, only, of_references, of_keywords, both, NotedLine, lines, of_body, named}
 use Rattle.sx_reference_laws.specs.Parts.{expressions_of}
 use Rattle.sx_reference_laws.specs.Single.{RelationHasOneAnswer}
-use Rattle.sx_reference_laws.specs.Templates.{variables_in, IsPatternVariable, IsTemplate}
-use Rattle.sx_reference_laws.proofs.Depths.{shallow, shallow_with, keyword-shallow, settle-shallow, SameWaits, same-waits}
+use Rattle.sx_reference_laws.specs.Templates.{variables_in, IsPatternVariable, IsTemplateOf}
+use Rattle.sx_reference_laws.proofs.Depths.{shallow, shallow_with, keyword-shallow, expand_uses-shallow, SameWaits, same-waits}
 use Rattle.sx_reference_laws.proofs.Shaping.{syntax-compound}
 
 -- What a definition gives is one.
@@ -115,7 +115,7 @@ record IsSyntax (place : Span) (level : ℕ) (t : Tree) (s : State) (c : PlainCo
   template : PlainTemplate
   references : List Reference
   shaped : shape core_forms.Syntax t place ≡ Ok (shapes.Operand operand)
-  is : IsTemplate s place level operand template references
+  is : IsTemplateOf s place level operand template references
   code : c ≡ instance template (place_of t place)
   noted : y ≡ of_references references
 
@@ -153,7 +153,7 @@ abbrev DoneOf : Span → ℕ → Tree → State → Plan → PlainCore → State
 DoneOf place level t s (plans.Done c) d v y = IsDone place level t s c d v y
 DoneOf place level t s p d v y = Unit {0}
 
-done-of : (rs : List LibRecord) {place : Span} {level : ℕ} {t : Tree} {p : Plan} {s : State} {d : PlainCore} {v : State} {y : Noted} → Performs rs place level t p s d v y → DoneOf place level t s p d v y
+done-of : (rs : List CompiledLibrary) {place : Span} {level : ℕ} {t : Tree} {p : Plan} {s : State} {d : PlainCore} {v : State} {y : Noted} → Performs rs place level t p s d v y → DoneOf place level t s p d v y
 done-of rs (refers {l = l} a b r) = record { value = refl; state = refl; noted = inl (record { label = l; leafy = a; stood = b; noted = refl }) }
 done-of rs (is_done a b) = record { value = refl; state = refl; noted = inr (inl (record { compound = a; empty = b; noted = refl })) }
 done-of rs (is_template {operand = operand} {x = x} {refs = refs} a b i) = record { value = refl; state = refl; noted = inr (inr (record { operand = operand; template = x; references = refs; shaped = a; is = i; code = refl; noted = refl })) }
@@ -174,7 +174,7 @@ done-of rs (fills a b c) = tt
 module _ (place : Span) (level : ℕ) (t : Tree) where
   inserted-same : (f : FrameNo) (operand : Tree) (cs : List PlainCore) (n : ℕ) (vs vs' : List PatternVariable) (v v' w w' : State) (e e' : Unit {0}) (x x' : PlainTemplate) (refs refs' : List Reference)
       → ◌≡◌ {A = List PatternVariable × State} (vs, v) (vs', v') → bind_inserts f place level vs v ≡ Ok (e, w) → bind_inserts f place level vs' v' ≡ Ok (e', w')
-      → template_of place level operand w ≡ Ok (x, w) → template_of place level operand w' ≡ Ok (x', w') → IsTemplate w place level operand x refs → IsTemplate w' place level operand x' refs'
+      → template_of place level operand w ≡ Ok (x, w) → template_of place level operand w' ≡ Ok (x', w') → IsTemplateOf w place level operand x refs → IsTemplateOf w' place level operand x' refs'
       → Same (match_of vs x (place_of t place) cs) (match_of vs' x' (place_of t place) cs) (cut n w) (cut n w') (of_references refs) (of_references refs')
   inserted-same f operand cs n vs vs' v v' w w' e e' x x' refs refs' p b b' m m' i i' =
       let q : ◌≡◌ {A = Unit {0} × State} (e, w) (e', w') = ok-same (e, w) (e', w') (sym b ∙ ap (λ (z : List PatternVariable × State). bind_inserts f place level z.0 z.1) p ∙ b') in
@@ -184,13 +184,13 @@ module _ (place : Span) (level : ℕ) (t : Tree) where
         (ap (cut n) left, ap of_references (i.are ∙ ap (λ (z : State). variables_in z place level false operand) left ∙ sym i'.are)),
       )
 
-  plain-same : (operand : Tree) (s : State) (x x' : PlainTemplate) (refs refs' : List Reference) → template_of place level operand s ≡ Ok (x, s) → template_of place level operand s ≡ Ok (x', s) → IsTemplate s place level operand x refs → IsTemplate s place level operand x' refs'
+  plain-same : (operand : Tree) (s : State) (x x' : PlainTemplate) (refs refs' : List Reference) → template_of place level operand s ≡ Ok (x, s) → template_of place level operand s ≡ Ok (x', s) → IsTemplateOf s place level operand x refs → IsTemplateOf s place level operand x' refs'
       → Same (instance x (place_of t place)) (instance x' (place_of t place)) s s (of_references refs) (of_references refs')
   plain-same operand s x x' refs refs' m m' i i' =
       let made : ◌≡◌ {A = PlainTemplate × State} (x, s) (x', s) = ok-same (x, s) (x', s) (sym m ∙ m') in
       (λ j. instance (made j).0 (place_of t place), (refl, ap of_references (i.are ∙ sym i'.are)))
 
-codes-same : {place : Span} {level : ℕ} {t : Tree} {q : QuasiForm} {cs : List PlainCore} {s u v : State} {c d : PlainCore} {x y : Noted} → Codes place level t q cs s c u x → Codes place level t q cs s d v y → Same c d u v x y
+codes-same : {place : Span} {level : ℕ} {t : Tree} {q : QuasiForm} {cs : List PlainCore} {s u v : State} {c d : PlainCore} {x y : Noted} → QuasiCodes place level t q cs s c u x → QuasiCodes place level t q cs s d v y → Same c d u v x y
 codes-same quotes quotes = (refl, (refl, refl))
 codes-same (has_no_insert {place = place} {level = level} {t = t} {q = q} {s = s} {x = x} {refs = refs} e m i) (has_no_insert {x = x'} {refs = refs'} e' m' i') = plain-same place level t q.template s x x' refs refs' m m' i i'
 codes-same (has_no_insert e m i) (has_inserts e' a b m' i') = absurd (e' e)
@@ -199,9 +199,9 @@ codes-same (has_inserts {place = place} {level = level} {t = t} {q = q} {cs = cs
     inserted-same place level t (record { 0 = s.names }) (stamp (record { 0 = s.names }) q.template) cs (length s.scope) vs vs' v v' w w' z z' x x' refs refs' (ok-same (vs, v) (vs', v') (sym a ∙ a')) b b' m m' i i'
 
 -- What is related to what was given in another way is related to what was given in this.
-module _ (rs : List LibRecord) where
-  plan-from : {level : ℕ} {c : PlainCore} {u : State} {x : Noted} (p q : Settled × State) → p ≡ q → Performs rs q.0.place level q.0.form q.0.plan q.1 c u x → Performs rs p.0.place level p.0.form p.0.plan p.1 c u x
-  plan-from {level} {c} {u} {x} p q e h = subst (λ (z : Settled × State). Performs rs z.0.place level z.0.form z.0.plan z.1 c u x) (sym e) h
+module _ (rs : List CompiledLibrary) where
+  plan-from : {level : ℕ} {c : PlainCore} {u : State} {x : Noted} (p q : PlannedForm × State) → p ≡ q → Performs rs q.0.place level q.0.form q.0.plan q.1 c u x → Performs rs p.0.place level p.0.form p.0.plan p.1 c u x
+  plan-from {level} {c} {u} {x} p q e h = subst (λ (z : PlannedForm × State). Performs rs z.0.place level z.0.form z.0.plan z.1 c u x) (sym e) h
 
   form-from : {place : Span} {level : ℕ} {t : Tree} {s v u : State} {c : PlainCore} {x : Noted} → s ≡ v → Expands rs place level t v c u x → Expands rs place level t s c u x
   form-from {place} {level} {t} {s} {v} {u} {c} {x} e h = subst (λ (z : State). Expands rs place level t z c u x) (sym e) h
@@ -209,18 +209,18 @@ module _ (rs : List LibRecord) where
   forms-from : {place : Span} {level : ℕ} {ts ys : List Tree} {s v u : State} {cs : List PlainCore} {x : Noted} → ts ≡ ys → s ≡ v → Expand rs place level ys v cs u x → Expand rs place level ts s cs u x
   forms-from {place} {level} {ts} {ys} {s} {v} {u} {cs} {x} e f h = subst (λ (z : List Tree). Expand rs place level z s cs u x) (sym e) (subst (λ (z : State). Expand rs place level ys z cs u x) (sym f) h)
 
-  codes-from : {place : Span} {level : ℕ} {t : Tree} {q r : QuasiForm} {cs ds : List PlainCore} {s v u : State} {c : PlainCore} {x : Noted} → q ≡ r → cs ≡ ds → s ≡ v → Codes place level t r ds v c u x → Codes place level t q cs s c u x
+  codes-from : {place : Span} {level : ℕ} {t : Tree} {q r : QuasiForm} {cs ds : List PlainCore} {s v u : State} {c : PlainCore} {x : Noted} → q ≡ r → cs ≡ ds → s ≡ v → QuasiCodes place level t r ds v c u x → QuasiCodes place level t q cs s c u x
   codes-from {place} {level} {t} {q} {r} {cs} {ds} {s} {v} {u} {c} {x} e f g h =
-      subst (λ (z : QuasiForm). Codes place level t z cs s c u x) (sym e) (subst (λ (z : List PlainCore). Codes place level t r z s c u x) (sym f) (subst (λ (z : State). Codes place level t r ds z c u x) (sym g) h))
+      subst (λ (z : QuasiForm). QuasiCodes place level t z cs s c u x) (sym e) (subst (λ (z : List PlainCore). QuasiCodes place level t r z s c u x) (sym f) (subst (λ (z : State). QuasiCodes place level t r ds z c u x) (sym g) h))
 
-  case-from : {place : Span} {level : ℕ} {t : Tree} {xs : List LambdaCase} {s v u : State} {cs : List Lambda} {x : Noted} → s ≡ v → Bind rs place level t xs v cs u x → Bind rs place level t xs s cs u x
-  case-from {place} {level} {t} {xs} {s} {v} {u} {cs} {x} e h = subst (λ (z : State). Bind rs place level t xs z cs u x) (sym e) h
+  case-from : {place : Span} {level : ℕ} {t : Tree} {xs : List LambdaCase} {s v u : State} {cs : List Lambda} {x : Noted} → s ≡ v → ExpandedBind rs place level t xs v cs u x → ExpandedBind rs place level t xs s cs u x
+  case-from {place} {level} {t} {xs} {s} {v} {u} {cs} {x} e h = subst (λ (z : State). ExpandedBind rs place level t xs z cs u x) (sym e) h
 
   body-from : {place : Span} {level : ℕ} {t : Tree} {forms : List Tree} {s v u : State} {c : PlainCore} {x : Noted} → s ≡ v → IsBody rs place level t forms v c u x → IsBody rs place level t forms s c u x
   body-from {place} {level} {t} {forms} {s} {v} {u} {c} {x} e h = subst (λ (z : State). IsBody rs place level t forms z c u x) (sym e) h
 
-  inits-from : {place : Span} {level : ℕ} {f : FrameNo} {bs cs : List BoundSpec} {s v u : State} {is : List Init} {x : Noted} → bs ≡ cs → s ≡ v → Start rs place level f cs v is u x → Start rs place level f bs s is u x
-  inits-from {place} {level} {f} {bs} {cs} {s} {v} {u} {is} {x} e g h = subst (λ (z : List BoundSpec). Start rs place level f z s is u x) (sym e) (subst (λ (z : State). Start rs place level f cs z is u x) (sym g) h)
+  inits-from : {place : Span} {level : ℕ} {f : FrameNo} {bs cs : List BoundSpec} {s v u : State} {is : List Init} {x : Noted} → bs ≡ cs → s ≡ v → ExpansionStart rs place level f cs v is u x → ExpansionStart rs place level f bs s is u x
+  inits-from {place} {level} {f} {bs} {cs} {s} {v} {u} {is} {x} e g h = subst (λ (z : List BoundSpec). ExpansionStart rs place level f z s is u x) (sym e) (subst (λ (z : State). ExpansionStart rs place level f cs z is u x) (sym g) h)
 
   clauses-from : {place : Span} {level : ℕ} {literals : List Tree} {xs : List PatternCase} {s v u : State} {cs : List Clause} {x : Noted} → s ≡ v → Match rs place level literals xs v cs u x → Match rs place level literals xs s cs u x
   clauses-from {place} {level} {literals} {xs} {s} {v} {u} {cs} {x} e h = subst (λ (z : State). Match rs place level literals xs z cs u x) (sym e) h
@@ -228,30 +228,30 @@ module _ (rs : List LibRecord) where
   fender-from : {place : Span} {level : ℕ} {f : FrameNo} {o : Option Tree} {s v u : State} {p : Option PlainCore} {x : Noted} → s ≡ v → Asks rs place level f o v p u x → Asks rs place level f o s p u x
   fender-from {place} {level} {f} {o} {s} {v} {u} {p} {x} e h = subst (λ (z : State). Asks rs place level f o z p u x) (sym e) h
 
-  keyword-from : {place : Span} {level : ℕ} {b c : BoundSpec} {s v u : State} {es : List Expression} → b ≡ c → s ≡ v → Means rs place level c v u es → Means rs place level b s u es
-  keyword-from {place} {level} {b} {c} {s} {v} {u} {es} e g h = subst (λ (z : BoundSpec). Means rs place level z s u es) (sym e) (subst (λ (z : State). Means rs place level c z u es) (sym g) h)
+  keyword-from : {place : Span} {level : ℕ} {b c : BoundSpec} {s v u : State} {es : List KeywordExpression} → b ≡ c → s ≡ v → KeywordMeans rs place level c v u es → KeywordMeans rs place level b s u es
+  keyword-from {place} {level} {b} {c} {s} {v} {u} {es} e g h = subst (λ (z : BoundSpec). KeywordMeans rs place level z s u es) (sym e) (subst (λ (z : State). KeywordMeans rs place level c z u es) (sym g) h)
 
-  keywords-from : {place : Span} {level : ℕ} {recursive : Bool} {f : FrameNo} {bs cs : List BoundSpec} {s v u : State} {es : List Expression} → bs ≡ cs → s ≡ v → Mean rs place level recursive f cs v u es → Mean rs place level recursive f bs s u es
+  keywords-from : {place : Span} {level : ℕ} {recursive : Bool} {f : FrameNo} {bs cs : List BoundSpec} {s v u : State} {es : List KeywordExpression} → bs ≡ cs → s ≡ v → Mean rs place level recursive f cs v u es → Mean rs place level recursive f bs s u es
   keywords-from {place} {level} {recursive} {f} {bs} {cs} {s} {v} {u} {es} e g h = subst (λ (z : List BoundSpec). Mean rs place level recursive f z s u es) (sym e) (subst (λ (z : State). Mean rs place level recursive f cs z u es) (sym g) h)
 
-  item-from : {depth : ℕ} {done end : Taken} {u : State} {es : List Expression} (p q : SettledItem × State) → p ≡ q → Acts rs q.0.at depth done q.0.form q.0.item q.1 end u es → Acts rs p.0.at depth done p.0.form p.0.item p.1 end u es
-  item-from {depth} {done} {end} {u} {es} p q e h = subst (λ (z : SettledItem × State). Acts rs z.0.at depth done z.0.form z.0.item z.1 end u es) (sym e) h
+  item-from : {depth : ℕ} {done end : Taken} {u : State} {es : List KeywordExpression} (p q : PlannedItem × State) → p ≡ q → Acts rs q.0.at depth done q.0.form q.0.item q.1 end u es → Acts rs p.0.at depth done p.0.form p.0.item p.1 end u es
+  item-from {depth} {done} {end} {u} {es} p q e h = subst (λ (z : PlannedItem × State). Acts rs z.0.at depth done z.0.form z.0.item z.1 end u es) (sym e) h
 
-  take-from : {at : BodyAt} {depth : ℕ} {done end : Taken} {ts ys : List Tree} {s v u : State} {es : List Expression} → ts ≡ ys → s ≡ v → Take rs at depth done ys v end u es → Take rs at depth done ts s end u es
+  take-from : {at : BodyAt} {depth : ℕ} {done end : Taken} {ts ys : List Tree} {s v u : State} {es : List KeywordExpression} → ts ≡ ys → s ≡ v → Take rs at depth done ys v end u es → Take rs at depth done ts s end u es
   take-from {at} {depth} {done} {end} {ts} {ys} {s} {v} {u} {es} e f h = subst (λ (z : List Tree). Take rs at depth done z s end u es) (sym e) (subst (λ (z : State). Take rs at depth done ys z end u es) (sym f) h)
 
-  lines-from : {level : ℕ} {ws : List Waiting} {s v u : State} {xs : List Told} → s ≡ v → Finish rs level ws v xs u → Finish rs level ws s xs u
+  lines-from : {level : ℕ} {ws : List Waiting} {s v u : State} {xs : List NotedLine} → s ≡ v → Finish rs level ws v xs u → Finish rs level ws s xs u
   lines-from {level} {ws} {s} {v} {u} {xs} e h = subst (λ (z : State). Finish rs level ws z xs u) (sym e) h
 
-  line-from : {level : ℕ} {p q : Span} {w z : Waits} {s u : State} {x : Told} → p ≡ q → w ≡ z → Ends rs level q z s x u → Ends rs level p w s x u
+  line-from : {level : ℕ} {p q : Span} {w z : Waits} {s u : State} {x : NotedLine} → p ≡ q → w ≡ z → Ends rs level q z s x u → Ends rs level p w s x u
   line-from {level} {p} {q} {w} {z} {s} {u} {x} e f h = subst (λ (a : Span). Ends rs level a w s x u) (sym e) (subst (λ (b : Waits). Ends rs level q b s x u) (sym f) h)
 
   -- The item that is settled of a form of a body, and what was taken with it up to depths.
-  items-same : (at : BodyAt) (depth depth' : ℕ) (done done' after after' : Taken) (t : Tree) (d d' : SettledItem) (s v v' : State) → settle_item rs at depth done t s ≡ Ok ((after, d), v) → settle_item rs at depth' done' t s ≡ Ok ((after', d'), v')
-      → shallow done ≡ shallow done' → ◌≡◌ {A = (Taken × SettledItem) × State} ((shallow after, d), v) ((shallow after', d'), v')
+  items-same : (at : BodyAt) (depth depth' : ℕ) (done done' after after' : Taken) (t : Tree) (d d' : PlannedItem) (s v v' : State) → expand_item_uses rs at depth done t s ≡ Ok ((after, d), v) → expand_item_uses rs at depth' done' t s ≡ Ok ((after', d'), v')
+      → shallow done ≡ shallow done' → ◌≡◌ {A = (Taken × PlannedItem) × State} ((shallow after, d), v) ((shallow after', d'), v')
   items-same at depth depth' done done' after after' t d d' s v v' e e' same =
       ok-same ((shallow after, d), v) ((shallow after', d'), v')
-      (ap (λ (r : Result ((Taken × SettledItem) × State) Fault). shallow_with r) (sym e) ∙ settle-shallow depth rs at done t s ∙ ap (λ (z : Taken). settle_item rs at 0 z t s) same ∙ sym (settle-shallow depth' rs at done' t s) ∙ ap (λ (r : Result ((Taken × SettledItem) × State) Fault). shallow_with r) e')
+      (ap (λ (r : Result ((Taken × PlannedItem) × State) Fault). shallow_with r) (sym e) ∙ expand_uses-shallow depth rs at done t s ∙ ap (λ (z : Taken). expand_item_uses rs at 0 z t s) same ∙ sym (expand_uses-shallow depth' rs at done' t s) ∙ ap (λ (r : Result ((Taken × PlannedItem) × State) Fault). shallow_with r) e')
 
   keyword-same : (at : BodyAt) (done done' : Taken) (t : Tree) (b : BindingSpec) (x x' : BoundSpec) (s v v' : State) → define_keyword at done t b s ≡ Ok (x, v) → define_keyword at done' t b s ≡ Ok (x', v') → shallow done ≡ shallow done'
       → ◌≡◌ {A = BoundSpec × State} (x, v) (x', v')
@@ -313,13 +313,13 @@ module _ (rs : List LibRecord) where
         let y = one-forms b (forms-from refl x.1.0 b') in
         (λ i. x.0 i ∷ y.0 i, (y.1.0, λ i. both (x.1.1 i) (y.1.1 i)))
 
-    one-case : {place : Span} {level : ℕ} {t : Tree} {ids : FormalIds} {forms : List Tree} {s u v : State} {c d : Lambda} {x y : Noted} → Binds rs place level t ids forms s c u x → Binds rs place level t ids forms s d v y → Same c d u v x y
+    one-case : {place : Span} {level : ℕ} {t : Tree} {ids : FormalIds} {forms : List Tree} {s u v : State} {c d : Lambda} {x y : Noted} → CaseBinds rs place level t ids forms s c u x → CaseBinds rs place level t ids forms s d v y → Same c d u v x y
     one-case (binds_formals {s = s} {v = v} {formals = formals} e a) (binds_formals {v = v'} {formals = formals'} e' a') =
         let p = ok-same (formals, v) (formals', v') (sym e ∙ e') in
         let x = one-body a (body-from (λ i. (p i).1) a') in
         (λ i. record { formals = (p i).0; body = x.0 i }, (λ i. cut (length s.scope) (x.1.0 i), x.1.1))
 
-    one-cases : {place : Span} {level : ℕ} {t : Tree} {xs : List LambdaCase} {s u v : State} {cs ds : List Lambda} {x y : Noted} → Bind rs place level t xs s cs u x → Bind rs place level t xs s ds v y → Same cs ds u v x y
+    one-cases : {place : Span} {level : ℕ} {t : Tree} {xs : List LambdaCase} {s u v : State} {cs ds : List Lambda} {x y : Noted} → ExpandedBind rs place level t xs s cs u x → ExpandedBind rs place level t xs s ds v y → Same cs ds u v x y
     one-cases no_case no_case = (refl, (refl, refl))
     one-cases (case a b) (case a' b') =
         let x = one-case a a' in
@@ -329,14 +329,14 @@ module _ (rs : List LibRecord) where
     one-init : {place : Span} {level : ℕ} {f : FrameNo} {b : BoundSpec} {s u v : State} {c d : Init} {x y : Noted} → Starts rs place level f b s c u x → Starts rs place level f b s d v y → Same c d u v x y
     one-init (starts_with {b = b} a) (starts_with a') = let x = one-form a a' in (λ i. record { label = b.label; value = x.0 i }, x.1)
 
-    one-inits : {place : Span} {level : ℕ} {f : FrameNo} {bs : List BoundSpec} {s u v : State} {cs ds : List Init} {x y : Noted} → Start rs place level f bs s cs u x → Start rs place level f bs s ds v y → Same cs ds u v x y
+    one-inits : {place : Span} {level : ℕ} {f : FrameNo} {bs : List BoundSpec} {s u v : State} {cs ds : List Init} {x y : Noted} → ExpansionStart rs place level f bs s cs u x → ExpansionStart rs place level f bs s ds v y → Same cs ds u v x y
     one-inits no_init no_init = (refl, (refl, refl))
     one-inits (init a b) (init a' b') =
         let x = one-init a a' in
         let y = one-inits b (inits-from refl x.1.0 b') in
         (λ i. x.0 i ∷ y.0 i, (y.1.0, λ i. both (x.1.1 i) (y.1.1 i)))
 
-    one-clause : {place : Span} {level : ℕ} {literals : List Tree} {z : PatternCase} {s u v : State} {c d : Clause} {x y : Noted} → Matches rs place level literals z s c u x → Matches rs place level literals z s d v y → Same c d u v x y
+    one-clause : {place : Span} {level : ℕ} {literals : List Tree} {z : PatternCase} {s u v : State} {c d : Clause} {x y : Noted} → ExpandsClause rs place level literals z s c u x → ExpandsClause rs place level literals z s d v y → Same c d u v x y
     one-clause (matches_pattern {place = place} {level = level} {s = s} {v = v} {w = w} {p = p} {e = m} e f a b) (matches_pattern {v = v'} {w = w'} {p = p'} {e = m'} e' f' a' b') =
         let made = ok-same (p, v) (p', v') (sym e ∙ e') in
         let bound = ok-same (m, w) (m', w') (sym f ∙ ap (λ (z : Compiled × State). bind_pattern (record { 0 = s.names }) place level z.0.variables z.1) made ∙ f') in
@@ -355,31 +355,31 @@ module _ (rs : List LibRecord) where
     one-fender asks_nothing asks_nothing = (refl, (refl, refl))
     one-fender (asks_first a) (asks_first a') = let x = one-form a a' in (λ i. Some (x.0 i), x.1)
 
-    one-keyword : {place : Span} {level : ℕ} {b : BoundSpec} {s u v : State} {es fs : List Expression} → Means rs place level b s u es → Means rs place level b s v fs → (u ≡ v) × (es ≡ fs)
+    one-keyword : {place : Span} {level : ℕ} {b : BoundSpec} {s u v : State} {es fs : List KeywordExpression} → KeywordMeans rs place level b s u es → KeywordMeans rs place level b s v fs → (u ≡ v) × (es ≡ fs)
     one-keyword (means {place = place} {b = b} {s = s} {u = u} {x = m} a e) (means {u = u'} {x = m'} a' e') =
         let x = one-form a a' in
-        let p = ok-same (m, u) (m', u') (sym e ∙ (λ i. finish_keyword rs (place_of b.init place) b.label (x.0 i) (record (x.1.0 i) { scope = s.scope })) ∙ e') in
+        let p = ok-same (m, u) (m', u') (sym e ∙ (λ i. evaluate_transformer rs (place_of b.init place) b.label (x.0 i) (record (x.1.0 i) { scope = s.scope })) ∙ e') in
         (λ i. (p i).1, λ i. (x.1.1 i).expressions ++ record { keyword = b.label; code = x.0 i; references = (x.1.1 i).references; state = x.1.0 i } ∷ [])
 
-    one-mean : {place : Span} {level : ℕ} {recursive : Bool} {f : FrameNo} {bs : List BoundSpec} {s u v : State} {es fs : List Expression} → Mean rs place level recursive f bs s u es → Mean rs place level recursive f bs s v fs → (u ≡ v) × (es ≡ fs)
+    one-mean : {place : Span} {level : ℕ} {recursive : Bool} {f : FrameNo} {bs : List BoundSpec} {s u v : State} {es fs : List KeywordExpression} → Mean rs place level recursive f bs s u es → Mean rs place level recursive f bs s v fs → (u ≡ v) × (es ≡ fs)
     one-mean no_keyword no_keyword = (refl, refl)
     one-mean (keyword a b) (keyword a' b') =
         let x = one-keyword a a' in
         let y = one-mean b (keywords-from refl x.0 b') in
         (y.0, λ i. x.1 i ++ y.1 i)
 
-    one-keywords : {place : Span} {level : ℕ} {recursive : Bool} {bs : List BindingSpec} {forms : List Tree} {s u v : State} {ts ys : List Tree} {es fs : List Expression}
+    one-keywords : {place : Span} {level : ℕ} {recursive : Bool} {bs : List BindingSpec} {forms : List Tree} {s u v : State} {ts ys : List Tree} {es fs : List KeywordExpression}
         → BindsKeywords rs place level recursive bs forms s ts u es → BindsKeywords rs place level recursive bs forms s ys v fs → Same ts ys u v es fs
     one-keywords (binds_keywords {v = v} {xs = xs} e a) (binds_keywords {v = v'} {xs = xs'} e' a') =
         let p = ok-same (xs, v) (xs', v') (sym e ∙ e') in
         (refl, one-mean a (keywords-from (λ i. (p i).0) (λ i. (p i).1) a'))
 
-    one-taken : {at : BodyAt} {depth depth' : ℕ} {done done' end end' : Taken} {t : Tree} {s u v : State} {es fs : List Expression} → Takes rs at depth done t s end u es → Takes rs at depth' done' t s end' v fs → shallow done ≡ shallow done' → Same (shallow end) (shallow end') u v es fs
+    one-taken : {at : BodyAt} {depth depth' : ℕ} {done done' end end' : Taken} {t : Tree} {s u v : State} {es fs : List KeywordExpression} → TakesForm rs at depth done t s end u es → TakesForm rs at depth' done' t s end' v fs → shallow done ≡ shallow done' → Same (shallow end) (shallow end') u v es fs
     one-taken (takes {at = at} {depth = depth} {done = done} {after = after} {t = t} {d = d} {s = s} {v = v} e a) (takes {depth = depth'} {done = done'} {after = after'} {d = d'} {v = v'} e' a') same =
         let p = items-same at depth depth' done done' after after' t d d' s v v' e e' same in
         one-act a (item-from (d, v) (d', v') (λ i. ((p i).0.1, (p i).1)) a') (λ i. (p i).0.0)
 
-    one-act : {at : BodyAt} {depth depth' : ℕ} {done done' end end' : Taken} {t : Tree} {z : Item} {s u v : State} {es fs : List Expression} → Acts rs at depth done t z s end u es → Acts rs at depth' done' t z s end' v fs → shallow done ≡ shallow done' → Same (shallow end) (shallow end') u v es fs
+    one-act : {at : BodyAt} {depth depth' : ℕ} {done done' end end' : Taken} {t : Tree} {z : Item} {s u v : State} {es fs : List KeywordExpression} → Acts rs at depth done t z s end u es → Acts rs at depth' done' t z s end' v fs → shallow done ≡ shallow done' → Same (shallow end) (shallow end') u v es fs
     one-act is_taken is_taken same = (same, (refl, refl))
     one-act (takes_forms a) (takes_forms a') same = one-take a a' same
     one-act (defines_keyword {at = at} {done = done} {t = t} {b = b} {x = x} {s = s} {v = v} e a) (defines_keyword {done = done'} {x = x'} {v = v'} e' a') same =
@@ -390,7 +390,7 @@ module _ (rs : List LibRecord) where
         let y = one-take b (take-from x.0 x.1.0 b') same in
         (y.0, (y.1.0, λ i. x.1.1 i ++ y.1.1 i))
 
-    one-take : {at : BodyAt} {depth depth' : ℕ} {done done' end end' : Taken} {ts : List Tree} {s u v : State} {es fs : List Expression} → Take rs at depth done ts s end u es → Take rs at depth' done' ts s end' v fs → shallow done ≡ shallow done' → Same (shallow end) (shallow end') u v es fs
+    one-take : {at : BodyAt} {depth depth' : ℕ} {done done' end end' : Taken} {ts : List Tree} {s u v : State} {es fs : List KeywordExpression} → Take rs at depth done ts s end u es → Take rs at depth' done' ts s end' v fs → shallow done ≡ shallow done' → Same (shallow end) (shallow end') u v es fs
     one-take none_taken none_taken same = (same, (refl, refl))
     one-take (more_taken a b) (more_taken a' b') same =
         let x = one-taken a a' same in
@@ -403,7 +403,7 @@ module _ (rs : List LibRecord) where
         let y = one-lines b (lines-from x.1.0 b') (same-waits d.waiting d'.waiting (λ i. (x.0 i).waiting)) in
         (λ i. body_core (lines (y.0 i)), (λ i. cut (length s.scope) (y.1 i), λ i. of_body (x.1.1 i) (y.0 i)))
 
-    one-lines : {level : ℕ} {ws zs : List Waiting} {s u v : State} {xs ys : List Told} → Finish rs level ws s xs u → Finish rs level zs s ys v → SameWaits ws zs → (xs ≡ ys) × (u ≡ v)
+    one-lines : {level : ℕ} {ws zs : List Waiting} {s u v : State} {xs ys : List NotedLine} → Finish rs level ws s xs u → Finish rs level zs s ys v → SameWaits ws zs → (xs ≡ ys) × (u ≡ v)
     one-lines no_line no_line same = (refl, refl)
     one-lines no_line (next_line a' b') same = absurd same
     one-lines (next_line a b) no_line same = absurd same
@@ -412,7 +412,7 @@ module _ (rs : List LibRecord) where
         let y = one-lines b (lines-from x.1 b') same.1.1 in
         (λ i. x.0 i ∷ y.0 i, y.1)
 
-    one-line : {level : ℕ} {place : Span} {w : Waits} {s u v : State} {x y : Told} → Ends rs level place w s x u → Ends rs level place w s y v → (x ≡ y) × (u ≡ v)
+    one-line : {level : ℕ} {place : Span} {w : Waits} {s u v : State} {x y : NotedLine} → Ends rs level place w s x u → Ends rs level place w s y v → (x ≡ y) × (u ≡ v)
     one-line declares declares = (refl, refl)
     one-line (defines {l = l} a) (defines a') = let x = one-form a a' in (λ i. record { line = line.Define l (x.0 i); noted = x.1.1 i }, x.1.0)
     one-line (defines_procedure {s = s} {l = l} a) (defines_procedure a') = let x = one-case a a' in (λ i. record { line = line.Define l (procedure (record { 0 = s.names }) (cases (x.0 i ∷ [])) true); noted = x.1.1 i }, x.1.0)

@@ -39,13 +39,13 @@ use Rattle.sx_fresh_laws.specs.Leaves.{TreeHolds}
 use Rattle.sx_fresh_laws.proofs.Eachs.{each_both}
 use Rattle.sx_fresh_expansion_laws.specs.Events.{HasKnownEvents}
 use Rattle.sx_fresh_expansion_laws.specs.Known.{IsNewAmong}
-use Rattle.sx_fresh_expansion_laws.specs.States.{StateHolds}
+use Rattle.sx_fresh_expansion_laws.specs.States.{FreshStateHolds}
 use Rattle.sx_fresh_expansion_laws.proofs.Changing.{stamp-holds}
 use Rattle.sx_fresh_expansion_laws.proofs.Standing as standing
-use Rattle.sx_reference_laws.specs.Expands.{counted, Codes, quotes, has_no_insert, has_inserts}
+use Rattle.sx_reference_laws.specs.Expands.{counted, QuasiCodes, quotes, has_no_insert, has_inserts}
 use Rattle.sx_reference_laws.specs.Namings.{template_namings, namings, all_namings}
 use Rattle.sx_reference_laws.specs.Noted.{Reference, of_references, named}
-use Rattle.sx_reference_laws.specs.Templates.{leaves, AreSome, taken, passed, leaves_of, IsPatternVariable, IsTemplate}
+use Rattle.sx_reference_laws.specs.Templates.{leaves, AreSome, taken, passed, leaves_of, IsPatternVariable, IsTemplateOf}
 use Rattle.sx_reference_laws.proofs.Filling.{IsLow, made-low, no-cores, quote-said}
 use Rattle.sx_reference_laws.proofs.Staying.{K, J, P, lives, Kept, gave-is}
 use Rattle.sx_reference_laws.proofs.Templating.{TemplateNames, template-of-names}
@@ -103,7 +103,7 @@ module _ (libs : List LibName) (own : LibName) (core : Among libs library.Core) 
   Q n c = HasKnownEvents libs own n c
 
   -- the pattern variables of a template are taken
-  pub template-kept : (s u : State) (place : Span) (level : ℕ) (t : Tree) (x : PlainTemplate) (refs : List Reference) → TreeHolds (Q s.names.number) t → s.names.number ≤ u.names.number → u.frames ≡ s.frames → IsTemplate s place level t x refs → Each (Kept libs own core new u) refs
+  pub template-kept : (s u : State) (place : Span) (level : ℕ) (t : Tree) (x : PlainTemplate) (refs : List Reference) → TreeHolds (Q s.names.number) t → s.names.number ≤ u.names.number → u.frames ≡ s.frames → IsTemplateOf s place level t x refs → Each (Kept libs own core new u) refs
   template-kept s u place level t x refs g up same h = all refs h.variables (some-known Known refs (leaves t) h.places (leaves-known (Q s.names.number) t g))
     where
       Known : Tree → Type 0
@@ -126,13 +126,13 @@ module _ (libs : List LibName) (own : LibName) (core : Among libs library.Core) 
   -- what the code of a quasi form is, and the pattern variables in it
   pub record Coded (place : Span) (level : ℕ) (t : Tree) (q : QuasiForm) (cs : List PlainCore) (s : State) (c : PlainCore) (u : State) : Type 0 where
     pub references : List Reference
-    pub is : Codes place level t q cs s c u (of_references references)
+    pub is : QuasiCodes place level t q cs s c u (of_references references)
     pub all : namings c ≡ all_namings (cores cs) ++ named references
     pub kept : Each (Kept libs own core new u) references
 
   module _ (place : Span) (level : ℕ) (t : Tree) (first : ℕ) where
     abbrev F : State → Type 0
-    F s = StateHolds own (K libs own core new) (P libs own core new) first s
+    F s = FreshStateHolds own (K libs own core new) (P libs own core new) first s
 
     match-named : (vs : List PatternVariable) (x : PlainTemplate) (span : Span) (cs : List PlainCore) (refs : List Reference) → template_namings x ≡ named refs → namings (match_of vs x span cs) ≡ all_namings (cores cs) ++ named refs
     match-named vs x span cs refs e = ap (λ ns. all_namings (cores cs) ++ ns) (append-nil (template_namings x) ∙ e)

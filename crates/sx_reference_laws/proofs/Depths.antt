@@ -7,7 +7,7 @@ use Rattle.sx_base.specs.declared.fault.FaultKind.TheVariants as kind
 use Rattle.sx_base.specs.declared.name.Label.{Label}
 use Rattle.sx_tree.specs.Tree.{Tree, atom, leaf, pair, vector}
 use Rattle.sx_core.specs.declared.core_form.CoreForm.{CoreForm}
-use Rattle.sx_core.specs.declared.record.LibRecord.{LibRecord}
+use Rattle.sx_core.specs.declared.record.CompiledLibrary.{CompiledLibrary}
 use Rattle.sx_shapes.specs.At.{place_of}
 use Rattle.sx_shapes.specs.Forms.{shape}
 use Rattle.sx_shapes.specs.Lists.{is_leaf}
@@ -32,11 +32,11 @@ use Rattle.sx_heads.specs.declared.taken.Taken.{Taken}
 use Rattle.sx_heads.specs.declared.taken.Waiting.{Waiting}
 use Rattle.sx_heads.specs.declared.taken.Waits.{Waits}
 use Rattle.sx_heads.specs.declared.taken.Waits.TheVariants as waits
-use Rattle.sx_expand.specs.Settle.{next_form, too_many, at_use, set_item_step, item_step_of, item_step, settle_item_to, settle_item}
-use Rattle.sx_expand.specs.Settle as settle
-use Rattle.sx_expand.specs.declared.settle.ItemStep.{ItemStep}
-use Rattle.sx_expand.specs.declared.settle.ItemStep.TheVariants as item_steps
-use Rattle.sx_expand.specs.declared.settle.SettledItem.{SettledItem}
+use Rattle.sx_expand.specs.ExpandUses.{next_form, too_many, at_use, set_item_step, item_step_of, item_step, expand_item_uses_to, expand_item_uses}
+use Rattle.sx_expand.specs.ExpandUses as expand_uses
+use Rattle.sx_expand.specs.declared.expand_uses.ItemOrUse.{ItemOrUse}
+use Rattle.sx_expand.specs.declared.expand_uses.ItemOrUse.TheVariants as item_steps
+use Rattle.sx_expand.specs.declared.expand_uses.PlannedItem.{PlannedItem}
 
 -- What waits, and what was taken, with all depths left out.
 
@@ -205,14 +205,14 @@ module _ (depth : ℕ) where
 
     -- Uses.
 
-    shallow-waited : (done : Taken) (t : Tree) (s : State) → shallow_with (after (wait at depth done t s) (settle.item_done items.Nothing)) ≡ after (wait at 0 (shallow done) t s) (settle.item_done items.Nothing)
+    shallow-waited : (done : Taken) (t : Tree) (s : State) → shallow_with (after (wait at depth done t s) (expand_uses.item_done items.Nothing)) ≡ after (wait at 0 (shallow done) t s) (expand_uses.item_done items.Nothing)
     shallow-waited done t s = ap (λ (d : Taken). Ok ((d, item_steps.Item items.Nothing), s)) (shallow-more done (waits.Expression t) true)
 
     shallow-asked : (done : Taken) (t : Tree) (l : Label) (b : Bool) (s : State) → shallow_with (set_item_step at depth done t l b s) ≡ set_item_step at 0 (shallow done) t l b s
     shallow-asked done t l true s = refl
     shallow-asked done t l false s = shallow-waited done t s
 
-    shallow-step-of : (rs : List LibRecord) (t : Tree) (done : Taken) (i : Item) (s : State) → shallow_with (item_step_of rs at depth t done i s) ≡ item_step_of rs at 0 t (shallow done) i s
+    shallow-step-of : (rs : List CompiledLibrary) (t : Tree) (done : Taken) (i : Item) (s : State) → shallow_with (item_step_of rs at depth t done i s) ≡ item_step_of rs at 0 t (shallow done) i s
     shallow-step-of rs t done (items.Use k) s = refl
     shallow-step-of rs t done (items.SetUse l) s =
         shallow-any (asks_variable rs (place_of t at.place) l s) (set_item_step at depth done t l) (set_item_step at 0 (shallow done) t l) (λ b u. shallow-asked done t l b u)
@@ -221,31 +221,31 @@ module _ (depth : ℕ) where
     shallow-step-of rs t done (items.Keyword b) s = refl
     shallow-step-of rs t done (items.Keywords recursive bs forms) s = refl
 
-    shallow-step : (rs : List LibRecord) (done : Taken) (t : Tree) (s : State) → shallow_with (item_step rs at depth done t s) ≡ item_step rs at 0 (shallow done) t s
+    shallow-step : (rs : List CompiledLibrary) (done : Taken) (t : Tree) (s : State) → shallow_with (item_step rs at depth done t s) ≡ item_step rs at 0 (shallow done) t s
     unfolding item_step
     shallow-step rs done t s =
         shallow-both (item_plan at depth done t s) (item_plan at 0 (shallow done) t s) (λ p. item_step_of rs at depth t p.0 p.1) (λ p. item_step_of rs at 0 t p.0 p.1) (shallow-plan done t s) (λ p u. shallow-step-of rs t p.0 p.1 u)
 
-    shallow-by : (onward other : Taken → KeywordUse → Does (Taken × SettledItem)) (t : Tree) (s : State) → ((d : Taken) (k : KeywordUse) → shallow_with (onward d k s) ≡ other (shallow d) k s) → (p : Taken × ItemStep)
-        → shallow_with (settle.item_by onward at t p s) ≡ settle.item_by other at t (shallow p.0, p.1) s
+    shallow-by : (onward other : Taken → KeywordUse → Does (Taken × PlannedItem)) (t : Tree) (s : State) → ((d : Taken) (k : KeywordUse) → shallow_with (onward d k s) ≡ other (shallow d) k s) → (p : Taken × ItemOrUse)
+        → shallow_with (expand_uses.item_by onward at t p s) ≡ expand_uses.item_by other at t (shallow p.0, p.1) s
     shallow-by onward other t s h (d, item_steps.Item i) = refl
     shallow-by onward other t s h (d, item_steps.Use k) = h d k
 
-  shallow-settled : (rs : List LibRecord) (left : ℕ) (at : BodyAt) (done : Taken) (t : Tree) (s : State) → shallow_with (settle_item_to rs left at depth done t s) ≡ settle_item_to rs left at 0 (shallow done) t s
-  unfolding settle_item_to
+  shallow-settled : (rs : List CompiledLibrary) (left : ℕ) (at : BodyAt) (done : Taken) (t : Tree) (s : State) → shallow_with (expand_item_uses_to rs left at depth done t s) ≡ expand_item_uses_to rs left at 0 (shallow done) t s
+  unfolding expand_item_uses_to
   shallow-settled rs zero at done t s =
-      shallow-both (item_step rs at depth done t s) (item_step rs at 0 (shallow done) t s) (settle.item_by (λ d k. too_many t at.place) at t) (settle.item_by (λ d k. too_many t at.place) at t) (shallow-step at rs done t s)
+      shallow-both (item_step rs at depth done t s) (item_step rs at 0 (shallow done) t s) (expand_uses.item_by (λ d k. too_many t at.place) at t) (expand_uses.item_by (λ d k. too_many t at.place) at t) (shallow-step at rs done t s)
       (λ p u. shallow-by at (λ d k. too_many t at.place) (λ d k. too_many t at.place) t u (λ d k. refl) p)
   shallow-settled rs (suc left) at done t s =
       shallow-both (item_step rs at depth done t s) (item_step rs at 0 (shallow done) t s)
-      (settle.item_by (λ taken used s'. after (next_form rs left at.place t used (Some at.frame) s') (settle_item_to rs left (at_use at t) depth taken)) at t)
-      (settle.item_by (λ taken used s'. after (next_form rs left at.place t used (Some at.frame) s') (settle_item_to rs left (at_use at t) 0 taken)) at t)
+      (expand_uses.item_by (λ taken used s'. after (next_form rs left at.place t used (Some at.frame) s') (expand_item_uses_to rs left (at_use at t) depth taken)) at t)
+      (expand_uses.item_by (λ taken used s'. after (next_form rs left at.place t used (Some at.frame) s') (expand_item_uses_to rs left (at_use at t) 0 taken)) at t)
       (shallow-step at rs done t s)
-      (λ p u. shallow-by at (λ taken used s'. after (next_form rs left at.place t used (Some at.frame) s') (settle_item_to rs left (at_use at t) depth taken)) (λ taken used s'. after (next_form rs left at.place t used (Some at.frame) s') (settle_item_to rs left (at_use at t) 0 taken)) t u
-      (λ taken used. shallow-any (next_form rs left at.place t used (Some at.frame) u) (settle_item_to rs left (at_use at t) depth taken) (settle_item_to rs left (at_use at t) 0 (shallow taken)) (λ x v. shallow-settled rs left (at_use at t) taken x v)) p)
+      (λ p u. shallow-by at (λ taken used s'. after (next_form rs left at.place t used (Some at.frame) s') (expand_item_uses_to rs left (at_use at t) depth taken)) (λ taken used s'. after (next_form rs left at.place t used (Some at.frame) s') (expand_item_uses_to rs left (at_use at t) 0 taken)) t u
+      (λ taken used. shallow-any (next_form rs left at.place t used (Some at.frame) u) (expand_item_uses_to rs left (at_use at t) depth taken) (expand_item_uses_to rs left (at_use at t) 0 (shallow taken)) (λ x v. shallow-settled rs left (at_use at t) taken x v)) p)
 
-  pub settle-shallow : (rs : List LibRecord) (at : BodyAt) (done : Taken) (t : Tree) (s : State) → shallow_with (settle_item rs at depth done t s) ≡ settle_item rs at 0 (shallow done) t s
-  settle-shallow rs at done t s = shallow-settled rs s.uses_left at done t s
+  pub expand_uses-shallow : (rs : List CompiledLibrary) (at : BodyAt) (done : Taken) (t : Tree) (s : State) → shallow_with (expand_item_uses rs at depth done t s) ≡ expand_item_uses rs at 0 (shallow done) t s
+  expand_uses-shallow rs at done t s = shallow-settled rs s.uses_left at done t s
 
 -- What waits, up to depths.
 

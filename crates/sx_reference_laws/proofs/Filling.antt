@@ -13,7 +13,7 @@ use Rattle.sx_quasi_code.specs.Form.{parts_of}
 use Rattle.sx_quasi_code.specs.Parts.{part, with_made, quasi_parts, all_quasi_parts, insert_part, inserts_parts}
 use Rattle.sx_quasi_code.specs.declared.form.QuasiForm.{QuasiForm}
 use Rattle.sx_quasi_code.specs.declared.form.QuasiForm.TheVariants as quasi_forms
-use Rattle.sx_quasi_code.specs.declared.parts.Part.{Part}
+use Rattle.sx_quasi_code.specs.declared.parts.PartForm.{PartForm}
 use Rattle.sx_heads.specs.Depth.{deeper, most_round}
 use Rattle.sx_value.specs.Cells.{Each}
 
@@ -30,33 +30,33 @@ abbrev mutual
 
 -- No part is too deep where expansion gives something.
 
-abbrev pub IsLow : Part → Type 0
+abbrev pub IsLow : PartForm → Type 0
 IsLow p = nat_lt most_round p.depth ≡ false
 
-each-first : (ps qs : List Part) → Each IsLow (ps ++ qs) → Each IsLow ps
+each-first : (ps qs : List PartForm) → Each IsLow (ps ++ qs) → Each IsLow ps
 each-first [] qs h = tt
 each-first (p ∷ ps) qs h = (h.0, each-first ps qs h.1)
 
-each-last : (ps : List Part) (p : Part) → Each IsLow (ps ++ p ∷ []) → IsLow p
+each-last : (ps : List PartForm) (p : PartForm) → Each IsLow (ps ++ p ∷ []) → IsLow p
 each-last [] p h = h.0
 each-last (q ∷ ps) p h = each-last ps p h.1
 
-pub made-low : (t : Tree) (d : ℕ) (done : List Part) → Each IsLow (with_made t d done) → with_made t d done ≡ done
+pub made-low : (t : Tree) (d : ℕ) (done : List PartForm) → Each IsLow (with_made t d done) → with_made t d done ≡ done
 made-low t d done h = by (nat_lt most_round d) refl h
   where
     by : (b : Bool) → nat_lt most_round d ≡ b → Each IsLow (if b then done ++ part t d ∷ [] else done) → (if b then done ++ part t d ∷ [] else done) ≡ done
     by true e k = absurd (true≢false (sym e ∙ each-last done (part t d) k))
     by false e k = refl
 
-record Counted (done parts : List Part) (n : ℕ) : Type 0 where
+record Counted (done parts : List PartForm) (n : ℕ) : Type 0 where
   low : Each IsLow done
   all : length parts ≡ length done + n
 
-made-counted : (t : Tree) (d : ℕ) (done : List Part) → Each IsLow (with_made t d done) → Counted done (with_made t d done) 0
+made-counted : (t : Tree) (d : ℕ) (done : List PartForm) → Each IsLow (with_made t d done) → Counted done (with_made t d done) 0
 made-counted t d done h = let e = made-low t d done h in record { low = subst (Each IsLow) e h; all = ap length e ∙ (omega arith) }
 
 mutual
-  quasi-counted : (t : Tree) (d : ℕ) (done : List Part) (q : PlainQuasi) → Each IsLow (quasi_parts t d done q) → Counted done (quasi_parts t d done q) (count q)
+  quasi-counted : (t : Tree) (d : ℕ) (done : List PartForm) (q : PlainQuasi) → Each IsLow (quasi_parts t d done q) → Counted done (quasi_parts t d done q) (count q)
   quasi-counted t d done (constant c) h = made-counted t d done h
   quasi-counted t d done (expression e) h = record { low = each-first done (part e d ∷ []) h; all = length-append done (part e d ∷ []) }
   quasi-counted t d done (quasi.call m qs) h =
@@ -64,7 +64,7 @@ mutual
       let outer = made-counted t (deeper d) done inner.low in
       record { low = outer.low; all = let x = inner.all in let y = outer.all in omega (arith, x, y) }
 
-  all-counted : (t : Tree) (d : ℕ) (done : List Part) (qs : PlainQuasis) → Each IsLow (all_quasi_parts t d done qs) → Counted done (all_quasi_parts t d done qs) (counts qs)
+  all-counted : (t : Tree) (d : ℕ) (done : List PartForm) (qs : PlainQuasis) → Each IsLow (all_quasi_parts t d done qs) → Counted done (all_quasi_parts t d done qs) (counts qs)
   all-counted t d done none h = record { low = h; all = omega arith }
   all-counted t d done (more q qs) h =
       let others = all-counted t d (quasi_parts t d done q) qs h in
@@ -73,22 +73,22 @@ mutual
 
 -- So the parts are the expressions in the form.
 
-abbrev pub forms_of : List Part → List Tree
-forms_of ps = map (λ (p : Part). p.form) ps
+abbrev pub forms_of : List PartForm → List Tree
+forms_of ps = map (λ (p : PartForm). p.form) ps
 
-forms-joined : (ps qs : List Part) → forms_of (ps ++ qs) ≡ forms_of ps ++ forms_of qs
+forms-joined : (ps qs : List PartForm) → forms_of (ps ++ qs) ≡ forms_of ps ++ forms_of qs
 forms-joined [] qs = refl
 forms-joined (p ∷ ps) qs = ap (λ ts. p.form ∷ ts) (forms-joined ps qs)
 
 mutual
-  quasi-forms : (t : Tree) (d : ℕ) (done : List Part) (q : PlainQuasi) → Each IsLow (quasi_parts t d done q) → forms_of (quasi_parts t d done q) ≡ forms_of done ++ expressions_in q
+  quasi-forms : (t : Tree) (d : ℕ) (done : List PartForm) (q : PlainQuasi) → Each IsLow (quasi_parts t d done q) → forms_of (quasi_parts t d done q) ≡ forms_of done ++ expressions_in q
   quasi-forms t d done (constant c) h = ap forms_of (made-low t d done h) ∙ sym (append-nil (forms_of done))
   quasi-forms t d done (expression e) h = forms-joined done (part e d ∷ [])
   quasi-forms t d done (quasi.call m qs) h =
       all-forms t (deeper d) (with_made t (deeper d) done) qs h
       ∙ ap (λ ps. forms_of ps ++ all_expressions qs) (made-low t (deeper d) done (all-counted t (deeper d) (with_made t (deeper d) done) qs h).low)
 
-  all-forms : (t : Tree) (d : ℕ) (done : List Part) (qs : PlainQuasis) → Each IsLow (all_quasi_parts t d done qs) → forms_of (all_quasi_parts t d done qs) ≡ forms_of done ++ all_expressions qs
+  all-forms : (t : Tree) (d : ℕ) (done : List PartForm) (qs : PlainQuasis) → Each IsLow (all_quasi_parts t d done qs) → forms_of (all_quasi_parts t d done qs) ≡ forms_of done ++ all_expressions qs
   all-forms t d done none h = sym (append-nil (forms_of done))
   all-forms t d done (more q qs) h =
       all-forms t d (quasi_parts t d done q) qs h
@@ -107,7 +107,7 @@ parts-are t d (quasi_forms.Syntax q) h = by q.inserts h
     by [] k = ap forms_of (made-low t d [] k)
     by (i ∷ is) k =
         let e = deeper (deeper d) in
-        let those : List Part = map (insert_part e) (i ∷ is) in
+        let those : List PartForm = map (insert_part e) (i ∷ is) in
         ap (λ ps. forms_of (ps ++ those)) (made-low t e [] (each-first (with_made t e []) those k)) ∙ inserts-forms e (i ∷ is)
 
 -- The code takes the codes in order, and all of them.

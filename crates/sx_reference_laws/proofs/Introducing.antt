@@ -34,14 +34,14 @@ use Rattle.sx_hygiene_laws.specs.Marked.{Among}
 use Rattle.sx_hygiene_laws.proofs.Marking.{same_mark-self, same_mark-differs, lacks_first}
 use Rattle.sx_hygiene_laws.proofs.Using.{left_came_in, marks_introduced}
 use Rattle.sx_fresh_laws.specs.Leaves.{OptionHolds, TreeHolds, ValueHolds, CellHolds, CellsHold}
-use Rattle.sx_fresh_laws.specs.Names.{Rises, SettingHolds, OutcomeHolds}
+use Rattle.sx_fresh_laws.specs.Names.{FreshRises, SettingHolds, OutcomeHolds}
 use Rattle.sx_fresh_laws.proofs.Eachs.{each_at}
 use Rattle.sx_fresh_laws.proofs.Meaning.{holds-call}
 use Rattle.sx_fresh_laws.proofs.Read.{ReadHolds, read-holds}
 use Rattle.sx_fresh_laws.proofs.Trees.{OkHolds}
 use Rattle.sx_fresh_laws.proofs.Wider.{value_wider, cells_wider, codes_wider, globals_wider}
 use Rattle.sx_fresh_expansion_laws.specs.Known.{IsKnown, HasKnown, IsNewAmong}
-use Rattle.sx_fresh_expansion_laws.specs.States.{StageHolds, StateHolds}
+use Rattle.sx_fresh_expansion_laws.specs.States.{StageHolds, FreshStateHolds}
 use Rattle.sx_fresh_expansion_laws.proofs.Knowing.{lacks-it}
 use Rattle.sx_fresh_expansion_laws.proofs.Records.{record-holds}
 use Rattle.sx_reference_laws.specs.Introduced.{IsOfFormOrUse, UsesIntroduceTheRest}
@@ -128,7 +128,7 @@ module _ (libs : List LibName) (own : LibName) (new : IsNewAmong libs own) where
     later-name : (a : ℕ) → g.names.number + 1 ≤ a → record { 0 = record { library = own; number = a } } ≢ M
     later-name a low e = let same : a ≡ g.names.number = ap (λ (x : Mark). x.0.number) e in omega (arith, low, same)
 
-    rises : Rises own (g.names.number + 1) (λ n c. Q c)
+    rises : FreshRises own (g.names.number + 1) (λ n c. Q c)
     rises = record { later = λ a b c le h. h; temporary = λ a n low lt. inl (same_mark-differs (record { 0 = record { library = own; number = a } }) M (later-name a low)) }
 
     setting : SettingHolds Q (setting_on g.codes next)
@@ -170,7 +170,7 @@ module _ (libs : List LibName) (own : LibName) (new : IsNewAmong libs own) where
     unfolding transform_marked
     given frame = gives-after Q (IsOfFormOrUse M t) (transform_and_cut place v (enter M t) next) (leave M frame) (λ h. h) transformed-and-cut (came-out M t frame)
 
-  module _ (core : Among libs library.Core) (s : State) (holds : StateHolds own (IsKnown libs own) (HasKnown libs own) s.names.number s) (place : Span) (t : Tree) (f : CoreForm) (frame : Option FrameNo) where
+  module _ (core : Among libs library.Core) (s : State) (holds : FreshStateHolds own (IsKnown libs own) (HasKnown libs own) s.names.number s) (place : Span) (t : Tree) (f : CoreForm) (frame : Option FrameNo) where
     abbrev N : Mark
     N = record { 0 = s.names }
 

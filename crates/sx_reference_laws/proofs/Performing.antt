@@ -17,12 +17,12 @@ use Rattle.sx_core.specs.Template.{PlainTemplate}
 use Rattle.sx_core.specs.declared.core_form.CoreForm.TheVariants as core_forms
 use Rattle.sx_core.specs.Core.{PlainCore, variable, instance, assignment, procedure, call, matching, cores, one_armed, two_armed}
 use Rattle.sx_core.specs.CoreView.{cases, clauses}
-use Rattle.sx_core.specs.declared.record.LibRecord.{LibRecord}
+use Rattle.sx_core.specs.declared.record.CompiledLibrary.{CompiledLibrary}
 use Rattle.sx_quasi.specs.declared.word.Family.{Family}
 use Rattle.sx_quasi_code.specs.Form.{form_of, parts_of, code_of}
 use Rattle.sx_quasi_code.specs.declared.form.QuasiForm.{QuasiForm}
 use Rattle.sx_quasi_code.specs.declared.form.QuasiForm.TheVariants as quasi_forms
-use Rattle.sx_quasi_code.specs.declared.parts.Part.{Part}
+use Rattle.sx_quasi_code.specs.declared.parts.PartForm.{PartForm}
 use Rattle.sx_shapes.specs.At.{place_of}
 use Rattle.sx_shapes.specs.Forms.{shape}
 use Rattle.sx_shapes.specs.Lists.{is_leaf}
@@ -47,10 +47,10 @@ use Rattle.sx_expand.specs.Body as expand_body
 use Rattle.sx_expand.specs.Body.{splice, perform_item, item, sequence_of}
 use Rattle.sx_expand.specs.Expression.{in_order, lambda_case, lambda, all_cases, case_lambda, application, alternate, conditional, set, in_sequence, all_clauses, syntax_case, keywords_form, perform, perform_settled, form_at, inside}
 use Rattle.sx_expand.specs.Inside.{Inside}
-use Rattle.sx_expand.specs.Keywords.{keyword, with_keywords, define_syntax}
+use Rattle.sx_expand.specs.Keywords.{expand_transformer, with_keywords, define_syntax}
 use Rattle.sx_expand.specs.Quasi.{part_core, parts_in_order, quasi_made, quasi_form}
-use Rattle.sx_expand.specs.Settle.{settle, settle_item}
-use Rattle.sx_expand.specs.declared.settle.Settled.{Settled}
+use Rattle.sx_expand.specs.ExpandUses.{expand_uses, expand_item_uses}
+use Rattle.sx_expand.specs.declared.expand_uses.PlannedForm.{PlannedForm}
 use Rattle.sx_expand.proofs.Steps.{earlier_inside}
 use Rattle.sx_expand_laws.specs.States.{Later}
 use Rattle.sx_expand_laws.proofs.Acts.{Gave, gave-any, gave-both, gave-after, gave-less, gave-if, told, each-nil, each-cons}
@@ -64,25 +64,25 @@ use Rattle.sx_fresh_laws.proofs.Trees.{OkHolds}
 use Rattle.sx_fresh_expansion_laws.specs.Events.{HasKnownEvents}
 use Rattle.sx_fresh_expansion_laws.specs.Known.{IsKnown, IsKnownFrame, IsNewAmong}
 use Rattle.sx_fresh_expansion_laws.specs.Living.{Lives}
-use Rattle.sx_fresh_expansion_laws.specs.States.{RecordsHold, StateHolds}
+use Rattle.sx_fresh_expansion_laws.specs.States.{RecordsHold, FreshStateHolds}
 use Rattle.sx_fresh_expansion_laws.proofs.Forms as forms
 use Rattle.sx_fresh_expansion_laws.proofs.Inserts as inserts
 use Rattle.sx_fresh_expansion_laws.proofs.Items as items
 use Rattle.sx_fresh_expansion_laws.proofs.Plans as plan
-use Rattle.sx_fresh_expansion_laws.proofs.Settled as settled
+use Rattle.sx_fresh_expansion_laws.proofs.PlannedForm as settled
 use Rattle.sx_fresh_expansion_laws.proofs.Shapes.{FormalsHold, LambdaHolds, PatternCaseHolds, ShapeHolds, shape-holds}
 use Rattle.sx_fresh_expansion_laws.proofs.Standing as standing
-use Rattle.sx_reference_laws.specs.Expands.{counted, Expands, settles, Performs, refers, is_done, is_template, Codes, calls, tests, chooses, assigns, follows, makes, makes_cases, matches_one, has_keywords, fills, Expand, none, more, Binds, Bind, Match}
-use Rattle.sx_reference_laws.specs.Expands.{Means, BindsKeywords, Takes, takes, Acts, is_taken, takes_forms, defines_keyword, takes_among, Take}
+use Rattle.sx_reference_laws.specs.Expands.{counted, Expands, settles, Performs, refers, is_done, is_template, QuasiCodes, calls, tests, chooses, assigns, follows, makes, makes_cases, matches_one, has_keywords, fills, Expand, none, more, CaseBinds, ExpandedBind, Match}
+use Rattle.sx_reference_laws.specs.Expands.{KeywordMeans, BindsKeywords, TakesForm, takes, Acts, is_taken, takes_forms, defines_keyword, takes_among, Take}
 use Rattle.sx_reference_laws.specs.Namings.{Naming, names_variable, namings, all_namings, case_namings, clause_namings}
 use Rattle.sx_reference_laws.specs.Noted.{Reference, Noted, only, of_references, both, named}
-use Rattle.sx_reference_laws.specs.Templates.{IsTemplate}
+use Rattle.sx_reference_laws.specs.Templates.{IsTemplateOf}
 use Rattle.sx_reference_laws.proofs.Coding.{QuasiTemplateHolds, template-kept, Coded, code-coded}
 use Rattle.sx_reference_laws.proofs.Filling.{IsLow, forms_of, parts-are}
-use Rattle.sx_reference_laws.proofs.Settling.{IsTarget, Plans, Settles, settle-so}
+use Rattle.sx_reference_laws.proofs.Settling.{IsTarget, Plans, Settles, expand_uses-so}
 use Rattle.sx_reference_laws.proofs.SettlingItems.{settled-item-holds}
 use Rattle.sx_reference_laws.proofs.Staying as staying
-use Rattle.sx_reference_laws.proofs.Telling.{Untold, told-self, told-same, settle-told, define-keyword-told, settle-item-told, code-told}
+use Rattle.sx_reference_laws.proofs.Telling.{Untold, told-self, told-same, expand_uses-told, define-keyword-told, expand_uses-item-told, code-told}
 use Rattle.sx_reference_laws.proofs.Walking as walking
 
 -- only leaves stand for something
@@ -125,7 +125,7 @@ module _ (libs : List LibName) (own : LibName) (core : Among libs library.Core) 
   abbrev Made : (Noted → Type 0) → List Naming → State → State → Type 0
   Made R m s u = staying.Made libs own core new R m s u
 
-  module _ (rs : List LibRecord) where
+  module _ (rs : List CompiledLibrary) where
     abbrev FormMade : Span → ℕ → Tree → State → PlainCore → State → Type 0
     FormMade place level t s c u = walking.FormMade libs own core new rs place level t s c u
 
@@ -148,7 +148,7 @@ module _ (libs : List LibName) (own : LibName) (core : Among libs library.Core) 
 
     module _ (first : ℕ) (held : RecordsHold (P first) rs) (room : ℕ) (traced : walking.Traced libs own core new rs first held room) where
       abbrev F : State → Type 0
-      F s = StateHolds own K P first s
+      F s = FreshStateHolds own K P first s
 
       abbrev go : Inside
       go = inside rs room
@@ -156,7 +156,7 @@ module _ (libs : List LibName) (own : LibName) (core : Among libs library.Core) 
       goes : (s u : State) → F s → Went s u → F u
       goes s u h w = staying.goes libs own core new first s u h w
 
-      from-to : (s u : State) → F s → StateHolds own K P s.names.number u → F u
+      from-to : (s u : State) → F s → FreshStateHolds own K P s.names.number u → F u
       from-to s u h k = standing.state-then own K J P lives first s u h k
 
       counted-at : (s : State) → F s → F (counted s)
@@ -256,15 +256,15 @@ module _ (libs : List LibName) (own : LibName) (core : Among libs library.Core) 
         lambda-made ids fs s h k g =
             gave-after (walking.CaseMade libs own core new rs place level t ids fs (counted s)) (PlanMade place level t (plans.Lambda ids fs) s) (lambda_case go place level depth t ids fs (counted s)) _
             (walking.case-made libs own core new rs first held room traced place level depth t ids fs (counted s) (counted-at s h) (items.formals-up own K J P lives first s.names.number (s.names.number + 1) (one-more s) ids k) (standing.trees-up own K J P lives first s.names.number (s.names.number + 1) (one-more s) fs g))
-            (λ c u z. staying.made-from libs own core new (λ refs. Binds rs place level t ids fs (counted s) c u refs) (λ refs. Performs rs place level t (plans.Lambda ids fs) s (procedure (record { 0 = s.names }) (cases (c ∷ [])) true) u refs) (namings c.body) (namings c.body ++ []) s (counted s) u (told-self s) z (λ refs i. makes i) (append-nil (namings c.body)))
+            (λ c u z. staying.made-from libs own core new (λ refs. CaseBinds rs place level t ids fs (counted s) c u refs) (λ refs. Performs rs place level t (plans.Lambda ids fs) s (procedure (record { 0 = s.names }) (cases (c ∷ [])) true) u refs) (namings c.body) (namings c.body ++ []) s (counted s) u (told-self s) z (λ refs i. makes i) (append-nil (namings c.body)))
 
         case-lambda-made : (xs : List LambdaCase) (s : State) → F s → Each (LambdaHolds (P s.names.number)) xs → Gave (PlanMade place level t (plans.CaseLambda xs) s) (case_lambda go place level depth t xs s)
         unfolding case_lambda fresh
         case-lambda-made xs s h k =
-            gave-after (λ cs u. Went (counted s) u × Made (Bind rs place level t xs (counted s) cs u) (case_namings (cases cs)) (counted s) u) (PlanMade place level t (plans.CaseLambda xs) s) (all_cases go place level depth t xs (counted s)) _
+            gave-after (λ cs u. Went (counted s) u × Made (ExpandedBind rs place level t xs (counted s) cs u) (case_namings (cases cs)) (counted s) u) (PlanMade place level t (plans.CaseLambda xs) s) (all_cases go place level depth t xs (counted s)) _
             (walking.cases-went libs own core new rs first held room traced place level depth t xs (counted s) (counted-at s h)
             (each_mapped (LambdaHolds (P s.names.number)) (LambdaHolds (P (s.names.number + 1))) (walking.lambda-case-up libs own core new rs first held room traced s.names.number (s.names.number + 1) (one-more s)) xs k))
-            (λ cs u z. staying.made-from libs own core new (λ refs. Bind rs place level t xs (counted s) cs u refs) (λ refs. Performs rs place level t (plans.CaseLambda xs) s (procedure (record { 0 = s.names }) (cases cs) false) u refs) (case_namings (cases cs)) (case_namings (cases cs)) s (counted s) u (told-self s) z.1 (λ refs i. makes_cases i) refl)
+            (λ cs u z. staying.made-from libs own core new (λ refs. ExpandedBind rs place level t xs (counted s) cs u refs) (λ refs. Performs rs place level t (plans.CaseLambda xs) s (procedure (record { 0 = s.names }) (cases cs) false) u refs) (case_namings (cases cs)) (case_namings (cases cs)) s (counted s) u (told-self s) z.1 (λ refs i. makes_cases i) refl)
 
         matching-made : (subject : Tree) (literals : List Tree) (xs : List PatternCase) (span : Span) (s : State) → F s → T s.names.number subject → Each (PatternCaseHolds (P s.names.number)) xs
             → Gave (PlanMade place level t (plans.Matching subject literals xs span) s) (syntax_case go place level depth subject literals xs span s)
@@ -274,8 +274,8 @@ module _ (libs : List LibName) (own : LibName) (core : Among libs library.Core) 
             (λ c v w.
             let hv = goes s v h w.0 in
             let up = w.0.from.stage.up in
-            gave-after (λ e y. Later own v y × ((StateHolds own K P v.names.number y × Unit {0}) × (check_literals place literals v ≡ Ok (e, y)))) (PlanMade place level t (plans.Matching subject literals xs span) s) (check_literals place literals v) _
-            (gave-both (λ e y. Later own v y) (λ e y. (StateHolds own K P v.names.number y × Unit {0}) × (check_literals place literals v ≡ Ok (e, y))) (check_literals place literals v) (literals-later own literals place v hv.stage.library)
+            gave-after (λ e y. Later own v y × ((FreshStateHolds own K P v.names.number y × Unit {0}) × (check_literals place literals v ≡ Ok (e, y)))) (PlanMade place level t (plans.Matching subject literals xs span) s) (check_literals place literals v) _
+            (gave-both (λ e y. Later own v y) (λ e y. (FreshStateHolds own K P v.names.number y × Unit {0}) × (check_literals place literals v ≡ Ok (e, y))) (check_literals place literals v) (literals-later own literals place v hv.stage.library)
             (staying.gave-from libs own core new first (λ n e. Unit {0}) v (check_literals place literals v) (standing.literals-hold own K J P lives first literals place v hv)))
             (λ e y q.
             let up-more = q.1.0.0.stage.up in
@@ -295,7 +295,7 @@ module _ (libs : List LibName) (own : LibName) (core : Among libs library.Core) 
         keywords-made recursive bs fs s h k g =
             let bound = with_keywords go place level depth recursive bs fs s in
             let Keywords : List Tree → State → Type 0 = λ xs v. staying.Bound libs own core new (λ es. BindsKeywords rs place level recursive bs fs s xs v es) s v in
-            gave-after (λ xs v. (StateHolds own K P s.names.number v × Ts v.names.number xs) × Keywords xs v) (PlanMade place level t (plans.Keywords recursive bs fs) s) bound (in_sequence go place level depth)
+            gave-after (λ xs v. (FreshStateHolds own K P s.names.number v × Ts v.names.number xs) × Keywords xs v) (PlanMade place level t (plans.Keywords recursive bs fs) s) bound (in_sequence go place level depth)
             (staying.gave-and libs own core new first Ts Keywords s bound (forms.with-keywords-holds own K J P lives first go (walking.keeps libs own core new rs first held room) place level depth recursive bs fs s h k g)
             (walking.keywords-made libs own core new rs first held room traced place level depth recursive bs fs s h k))
             (λ xs v z. gave-less (SequenceMade xs v) (PlanMade place level t (plans.Keywords recursive bs fs) s) (in_sequence go place level depth xs v) (sequence-made xs v (from-to s v h z.0.0) z.0.1)
@@ -309,20 +309,20 @@ module _ (libs : List LibName) (own : LibName) (core : Among libs library.Core) 
         form-up m n le (quasi_forms.Quote q) h = tt
         form-up m n le (quasi_forms.Syntax q) h = tree-up m n le q.template h.0
 
-        abbrev PartMade : Part → State → PlainCore → State → Noted → Type 0
+        abbrev PartMade : PartForm → State → PlainCore → State → Noted → Type 0
         PartMade p s c u refs = Expands rs place level p.form s c u refs
 
         form-low : (room : ℕ) (d : ℕ) (x : Tree) (s : State) → Gave (λ c u. nat_lt most_round d ≡ false) ((inside rs room).form place level d x s)
         unfolding inside form_at
         form-low zero d x s = tt
         form-low (suc room) d x s =
-            gave-if (λ c u. nat_lt most_round d ≡ false) (nat_lt most_round d) _ (after (settle (inside rs room).earlier place level x s) (perform_settled (inside rs room) level d)) (λ e. tt)
-            (λ e. gave-any (λ c u. nat_lt most_round d ≡ false) (after (settle (inside rs room).earlier place level x s) (perform_settled (inside rs room) level d)) (λ c u. e))
+            gave-if (λ c u. nat_lt most_round d ≡ false) (nat_lt most_round d) _ (after (expand_uses (inside rs room).earlier place level x s) (perform_settled (inside rs room) level d)) (λ e. tt)
+            (λ e. gave-any (λ c u. nat_lt most_round d ≡ false) (after (expand_uses (inside rs room).earlier place level x s) (perform_settled (inside rs room) level d)) (λ c u. e))
 
-        abbrev AreLow : List Part → List PlainCore → State → Type 0
+        abbrev AreLow : List PartForm → List PlainCore → State → Type 0
         AreLow ps cs u = Each IsLow ps × (length cs ≡ length ps)
 
-        parts-low : (ps : List Part) (s : State) → Gave (AreLow ps) (parts_in_order go place level ps s)
+        parts-low : (ps : List PartForm) (s : State) → Gave (AreLow ps) (parts_in_order go place level ps s)
         parts-low [] s = subst (λ (r : Result (List PlainCore × State) Fault). Gave (AreLow []) r) (sym (each-nil (part_core go place level) s)) (tt, refl)
         parts-low (p ∷ ps) s =
             subst (λ (r : Result (List PlainCore × State) Fault). Gave (AreLow (p ∷ ps)) r) (sym (each-cons (part_core go place level) p ps s))
@@ -334,7 +334,7 @@ module _ (libs : List LibName) (own : LibName) (core : Among libs library.Core) 
         quasi-made which template s h k g =
             let made = form_of place t which template s in
             let So : PlainCore → State → Type 0 = PlanMade place level t (plans.Quasi which template) s in
-            gave-after (λ q v. (StateHolds own K P s.names.number v × inserts.FormAt own K J P lives first v.names.number q) × (made ≡ Ok (q, v))) So made (quasi_made go place level depth t)
+            gave-after (λ q v. (FreshStateHolds own K P s.names.number v × inserts.FormAt own K J P lives first v.names.number q) × (made ≡ Ok (q, v))) So made (quasi_made go place level depth t)
             (staying.gave-from libs own core new first (inserts.FormAt own K J P lives first) s made (inserts.form-of-holds own K J P lives first place t which template s h g))
             (λ q v z.
             let hv = from-to s v h z.0.0 in
@@ -353,7 +353,7 @@ module _ (libs : List LibName) (own : LibName) (core : Among libs library.Core) 
             (code-coded libs own core new place level t first depth q cs w (goes v w hv y.0.0) (form-up v.names.number w.names.number y.0.0.from.stage.up q z.0.1) y.1.0 y.1.1) (code-told place level t q cs w)))
             (λ c u x.
             let Filled : Noted → Type 0 = λ refs. Expand rs place level (forms_of ps) v cs w refs in
-            let Coding : Noted → Type 0 = λ refs. Codes place level t q cs w c u refs in
+            let Coding : Noted → Type 0 = λ refs. QuasiCodes place level t q cs w c u refs in
             let All : Noted → Type 0 = λ refs. Performs rs place level t (plans.Quasi which template) s c u refs in
             let refs = x.1.0.references in
             let m = all_namings (cores cs) ++ named refs in
@@ -364,7 +364,7 @@ module _ (libs : List LibName) (own : LibName) (core : Among libs library.Core) 
 
       -- the template of a `syntax` form
       syntax-made : (place : Span) (level : ℕ) (t operand : Tree) (x : PlainTemplate) (refs : List Reference) (s : State) → T s.names.number t → shape core_forms.Syntax t place ≡ Ok (shapes.Operand operand)
-          → template_of place level operand s ≡ Ok (x, s) → IsTemplate s place level operand x refs → PlanMade place level t (plans.Done (instance x (place_of t place))) s (instance x (place_of t place)) s
+          → template_of place level operand s ≡ Ok (x, s) → IsTemplateOf s place level operand x refs → PlanMade place level t (plans.Done (instance x (place_of t place))) s (instance x (place_of t place)) s
       syntax-made place level t operand x refs s g shaped made is = record {
         noted = of_references refs;
         is = is_template shaped made is;
@@ -400,18 +400,18 @@ module _ (libs : List LibName) (own : LibName) (core : Among libs library.Core) 
       perform-made place level depth t (plans.Use k) s h g y q = tt
       perform-made place level depth t (plans.SetUse l id) s h g y q = tt
 
-      abbrev SettledSo : Span → ℕ → Tree → State → Settled → State → Type 0
-      SettledSo place level t s d v = ((StateHolds own K P s.names.number v × settled.SettledAt own K J P lives first rs held v.names.number d) × (settle rs place level t s ≡ Ok (d, v))) × Settles rs level d v
+      abbrev SettledSo : Span → ℕ → Tree → State → PlannedForm → State → Type 0
+      SettledSo place level t s d v = ((FreshStateHolds own K P s.names.number v × settled.SettledAt own K J P lives first rs held v.names.number d) × (expand_uses rs place level t s ≡ Ok (d, v))) × Settles rs level d v
 
-      form-made : (place : Span) (level depth : ℕ) (t : Tree) (s : State) → F s → T s.names.number t → (es : List LibRecord) → es ≡ rs
-          → Gave (FormMade place level t s) (if nat_lt most_round depth then fault_form kind.TooDeep t place s else after (settle es place level t s) (perform_settled go level depth))
+      form-made : (place : Span) (level depth : ℕ) (t : Tree) (s : State) → F s → T s.names.number t → (es : List CompiledLibrary) → es ≡ rs
+          → Gave (FormMade place level t s) (if nat_lt most_round depth then fault_form kind.TooDeep t place s else after (expand_uses es place level t s) (perform_settled go level depth))
       form-made place level depth t s h g es same =
-          gave-if (FormMade place level t s) (nat_lt most_round depth) _ (after (settle es place level t s) (perform_settled go level depth)) (λ e. tt)
-          (λ e. subst (λ (xs : List LibRecord). Gave (FormMade place level t s) (after (settle xs place level t s) (perform_settled go level depth))) (sym same)
-          (gave-after (SettledSo place level t s) (FormMade place level t s) (settle rs place level t s) (perform_settled go level depth)
-          (gave-both (λ d v. (StateHolds own K P s.names.number v × settled.SettledAt own K J P lives first rs held v.names.number d) × (settle rs place level t s ≡ Ok (d, v))) (Settles rs level) (settle rs place level t s) (staying.gave-from libs own core new first (settled.SettledAt own K J P lives first rs held) s (settle rs place level t s) (settled.settle-to-holds own K J P lives first rs held s.uses_left place level t s h g)) (settle-so rs level place t s))
+          gave-if (FormMade place level t s) (nat_lt most_round depth) _ (after (expand_uses es place level t s) (perform_settled go level depth)) (λ e. tt)
+          (λ e. subst (λ (xs : List CompiledLibrary). Gave (FormMade place level t s) (after (expand_uses xs place level t s) (perform_settled go level depth))) (sym same)
+          (gave-after (SettledSo place level t s) (FormMade place level t s) (expand_uses rs place level t s) (perform_settled go level depth)
+          (gave-both (λ d v. (FreshStateHolds own K P s.names.number v × settled.SettledAt own K J P lives first rs held v.names.number d) × (expand_uses rs place level t s ≡ Ok (d, v))) (Settles rs level) (expand_uses rs place level t s) (staying.gave-from libs own core new first (settled.SettledAt own K J P lives first rs held) s (expand_uses rs place level t s) (settled.expand_uses-to-holds own K J P lives first rs held s.uses_left place level t s h g)) (expand_uses-so rs level place t s))
           (λ d v z. gave-less (PlanMade d.place level d.form d.plan v) (FormMade place level t s) (perform go d.place level depth d.form d.plan v) (perform-made d.place level depth d.form d.plan v (from-to s v h z.0.0.0) z.0.0.1.0 z.0.0.1.1 z.1)
-          (λ c u y. staying.made-from libs own core new (λ refs. Performs rs d.place level d.form d.plan v c u refs) (λ refs. Expands rs place level t s c u refs) (namings c) (namings c) s v u (told (Untold s) (settle rs place level t s) d v (settle-told rs level place t s) z.0.1) y (λ refs i. settles z.0.1 i) refl))))
+          (λ c u y. staying.made-from libs own core new (λ refs. Performs rs d.place level d.form d.plan v c u refs) (λ refs. Expands rs place level t s c u refs) (namings c) (namings c) s v u (told (Untold s) (expand_uses rs place level t s) d v (expand_uses-told rs level place t s) z.0.1) y (λ refs i. settles z.0.1 i) refl))))
 
       -- Forms of a body.
 
@@ -427,13 +427,13 @@ module _ (libs : List LibName) (own : LibName) (core : Among libs library.Core) 
       keyword-item-made at depth d t b s h k =
           let made = define_keyword at d t b s in
           let So : Taken → State → Type 0 = ActsMade at depth d t (of_items.Keyword b) s in
-          gave-after (λ x u. ActsMade at depth d t (of_items.Keyword b) s d u) So (after made (keyword go at.place at.level (deeper depth))) (λ _. give d)
-          (gave-after (λ x v. ((StateHolds own K P s.names.number v × standing.BoundHolds own K J P lives first v.names.number x) × (made ≡ Ok (x, v))) × Untold s x v) (λ x u. ActsMade at depth d t (of_items.Keyword b) s d u) made (keyword go at.place at.level (deeper depth))
-          (gave-both (λ x v. (StateHolds own K P s.names.number v × standing.BoundHolds own K J P lives first v.names.number x) × (made ≡ Ok (x, v))) (Untold s) made
+          gave-after (λ x u. ActsMade at depth d t (of_items.Keyword b) s d u) So (after made (expand_transformer go at.place at.level (deeper depth))) (λ _. give d)
+          (gave-after (λ x v. ((FreshStateHolds own K P s.names.number v × standing.BoundHolds own K J P lives first v.names.number x) × (made ≡ Ok (x, v))) × Untold s x v) (λ x u. ActsMade at depth d t (of_items.Keyword b) s d u) made (expand_transformer go at.place at.level (deeper depth))
+          (gave-both (λ x v. (FreshStateHolds own K P s.names.number v × standing.BoundHolds own K J P lives first v.names.number x) × (made ≡ Ok (x, v))) (Untold s) made
           (staying.gave-from libs own core new first (standing.BoundHolds own K J P lives first) s made (items.define-keyword-holds own K J P lives first at (deeper depth) d t b s h k)) (define-keyword-told at (deeper depth) d t b s))
-          (λ x v z. gave-less (λ y u. staying.Bound libs own core new (λ es. Means rs at.place at.level x v u es) v u) (λ y u. ActsMade at depth d t (of_items.Keyword b) s d u) (keyword go at.place at.level (deeper depth) x v)
+          (λ x v z. gave-less (λ y u. staying.Bound libs own core new (λ es. KeywordMeans rs at.place at.level x v u es) v u) (λ y u. ActsMade at depth d t (of_items.Keyword b) s d u) (expand_transformer go at.place at.level (deeper depth) x v)
           (walking.means-made libs own core new rs first held room traced at.place at.level (deeper depth) x v (from-to s v h z.0.0.0) z.0.0.1)
-          (λ y u x. staying.bound-from libs own core new (λ es. Means rs at.place at.level _ v u es) (λ es. Acts rs at depth d t (of_items.Keyword b) s d u es) s v u z.1 x (λ es i. defines_keyword z.0.1 i))))
+          (λ y u x. staying.bound-from libs own core new (λ es. KeywordMeans rs at.place at.level _ v u es) (λ es. Acts rs at depth d t (of_items.Keyword b) s d u es) s v u z.1 x (λ es i. defines_keyword z.0.1 i))))
           (λ x u y. y)
 
       acts-made : (at : BodyAt) (depth : ℕ) (d : Taken) (t : Tree) (i : Item) (s : State) → F s → TakenAt s.names.number d → T s.names.number t → items.ItemAt own K J P lives first s.names.number i → J s.names.number at.frame
@@ -448,7 +448,7 @@ module _ (libs : List LibName) (own : LibName) (core : Among libs library.Core) 
       acts-made at depth d t (of_items.Keywords recursive bs fs) s h k g y q =
           let bound = with_keywords go at.place at.level (deeper depth) recursive bs fs s in
           let Keywords : List Tree → State → Type 0 = λ xs v. staying.Bound libs own core new (λ es. BindsKeywords rs at.place at.level recursive bs fs s xs v es) s v in
-          gave-after (λ xs v. (StateHolds own K P s.names.number v × Ts v.names.number xs) × Keywords xs v) (ActsMade at depth d t (of_items.Keywords recursive bs fs) s) bound (splice go at (deeper depth) d)
+          gave-after (λ xs v. (FreshStateHolds own K P s.names.number v × Ts v.names.number xs) × Keywords xs v) (ActsMade at depth d t (of_items.Keywords recursive bs fs) s) bound (splice go at (deeper depth) d)
           (staying.gave-and libs own core new first Ts Keywords s bound (forms.with-keywords-holds own K J P lives first go (walking.keeps libs own core new rs first held room) at.place at.level (deeper depth) recursive bs fs s h y.0 y.1)
           (walking.keywords-made libs own core new rs first held room traced at.place at.level (deeper depth) recursive bs fs s h y.0))
           (λ xs v z. gave-less (walking.TakeMade libs own core new rs at (deeper depth) d xs v) (ActsMade at depth d t (of_items.Keywords recursive bs fs) s) (splice go at (deeper depth) d xs v)
@@ -461,15 +461,15 @@ module _ (libs : List LibName) (own : LibName) (core : Among libs library.Core) 
       unfolding item
       item-made at depth d t s h k g q =
           let So : Taken → State → Type 0 = walking.TakesMade libs own core new rs at depth d t s in
-          gave-if So (nat_lt most_round depth) _ (after (settle_item go.earlier at depth d t s) (expand_body.perform_settled go depth)) (λ e. tt)
-          (λ e. subst (λ (es : List LibRecord). Gave So (after (settle_item es at depth d t s) (expand_body.perform_settled go depth))) (sym (earlier_inside rs room))
-          (gave-after (λ p v. ((StateHolds own K P s.names.number v × settled.SettledItemAt own K J P lives first rs held v.names.number p) × (settle_item rs at depth d t s ≡ Ok (p, v))) × Untold s p v) So (settle_item rs at depth d t s) (expand_body.perform_settled go depth)
-          (gave-both (λ p v. (StateHolds own K P s.names.number v × settled.SettledItemAt own K J P lives first rs held v.names.number p) × (settle_item rs at depth d t s ≡ Ok (p, v))) (Untold s) (settle_item rs at depth d t s)
-          (staying.gave-from libs own core new first (settled.SettledItemAt own K J P lives first rs held) s (settle_item rs at depth d t s) (settled-item-holds own K J P lives first rs held at depth d t s h k g q))
-          (settle-item-told rs depth at d t s))
+          gave-if So (nat_lt most_round depth) _ (after (expand_item_uses go.earlier at depth d t s) (expand_body.perform_settled go depth)) (λ e. tt)
+          (λ e. subst (λ (es : List CompiledLibrary). Gave So (after (expand_item_uses es at depth d t s) (expand_body.perform_settled go depth))) (sym (earlier_inside rs room))
+          (gave-after (λ p v. ((FreshStateHolds own K P s.names.number v × settled.SettledItemAt own K J P lives first rs held v.names.number p) × (expand_item_uses rs at depth d t s ≡ Ok (p, v))) × Untold s p v) So (expand_item_uses rs at depth d t s) (expand_body.perform_settled go depth)
+          (gave-both (λ p v. (FreshStateHolds own K P s.names.number v × settled.SettledItemAt own K J P lives first rs held v.names.number p) × (expand_item_uses rs at depth d t s ≡ Ok (p, v))) (Untold s) (expand_item_uses rs at depth d t s)
+          (staying.gave-from libs own core new first (settled.SettledItemAt own K J P lives first rs held) s (expand_item_uses rs at depth d t s) (settled-item-holds own K J P lives first rs held at depth d t s h k g q))
+          (expand_uses-item-told rs depth at d t s))
           (λ p v z. gave-less (ActsMade p.1.at depth p.0 p.1.form p.1.item v) So (perform_item go p.1.at depth p.0 p.1.form p.1.item v)
           (acts-made p.1.at depth p.0 p.1.form p.1.item v (from-to s v h z.0.0.0) z.0.0.1.0 z.0.0.1.1.0 z.0.0.1.1.1.0 z.0.0.1.1.1.1)
-          (λ e u y. staying.bound-from libs own core new (λ es. Acts rs p.1.at depth p.0 p.1.form p.1.item v e u es) (λ es. Takes rs at depth d t s e u es) s v u z.1 y (λ es i. takes z.0.1 i)))))
+          (λ e u y. staying.bound-from libs own core new (λ es. Acts rs p.1.at depth p.0 p.1.form p.1.item v e u es) (λ es. TakesForm rs at depth d t s e u es) s v u z.1 y (λ es i. takes z.0.1 i)))))
 
     -- so it is however deep forms nest
     pub all-traced : (first : ℕ) (held : RecordsHold (P first) rs) (room : ℕ) → walking.Traced libs own core new rs first held room

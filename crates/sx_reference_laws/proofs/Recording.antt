@@ -20,7 +20,7 @@ use Rattle.sx_core.specs.Bindings.{bound_to}
 use Rattle.sx_core.specs.Core.{PlainCore}
 use Rattle.sx_core.specs.declared.binding.Binding.{Binding}
 use Rattle.sx_core.specs.declared.binding.Binding.TheVariants as binding
-use Rattle.sx_core.specs.declared.record.LibRecord.{LibRecord}
+use Rattle.sx_core.specs.declared.record.CompiledLibrary.{CompiledLibrary}
 use Rattle.sx_eval.specs.Codes.{Codes}
 use Rattle.sx_standing.specs.Start.{started, first_frame}
 use Rattle.sx_stage.specs.Stage.{expression_of}
@@ -37,7 +37,7 @@ use Rattle.sx_expand.specs.Body.{splice, finish_all}
 use Rattle.sx_expand.specs.Expanding.{ready, body_of}
 use Rattle.sx_expand.specs.Expression.{inside, full_room}
 use Rattle.sx_expand.specs.Inside.{Inside}
-use Rattle.sx_expand.specs.Top.{stands_for, export, all_exports, give_record, record_in, body_at, exports, first_pass, finished, top}
+use Rattle.sx_expand.specs.Top.{stands_for, export, all_exports, give_record, record_in, body_at, exports, first_pass, second_pass, top}
 use Rattle.sx_expand.specs.declared.top.TopAt.{TopAt}
 use Rattle.sx_expand_laws.proofs.Acts.{Gave, gave-both, gave-after, gave-each, told, each-nil, each-cons}
 use Rattle.sx_expand_laws.specs.Kept.{IsKeptWith}
@@ -50,7 +50,7 @@ use Rattle.sx_fresh_expansion_laws.specs.Forms.{TakenHolds}
 use Rattle.sx_fresh_expansion_laws.specs.Known.{IsKnown, IsKnownFrame, libraries_of, IsNewAmong}
 use Rattle.sx_fresh_expansion_laws.specs.Living.{Lives}
 use Rattle.sx_fresh_expansion_laws.specs.RecordMarks.{WasRead}
-use Rattle.sx_fresh_expansion_laws.specs.States.{RecordsHold, StateHolds}
+use Rattle.sx_fresh_expansion_laws.specs.States.{RecordsHold, FreshStateHolds}
 use Rattle.sx_fresh_expansion_laws.proofs.Changing.{stamp-holds, stamps-hold}
 use Rattle.sx_fresh_expansion_laws.proofs.Forms as forms
 use Rattle.sx_fresh_expansion_laws.proofs.Items as items
@@ -59,7 +59,7 @@ use Rattle.sx_fresh_expansion_laws.proofs.Standing as standing
 use Rattle.sx_core.specs.declared.record.Line.{Line}
 use Rattle.sx_core.specs.declared.record.Line.TheVariants as line
 use Rattle.sx_reference_laws.specs.Namings.{Naming}
-use Rattle.sx_reference_laws.specs.Noted.{Reference, Expression, Told, of_lines, mentioned, named, IsExpression}
+use Rattle.sx_reference_laws.specs.Noted.{Reference, KeywordExpression, NotedLine, of_lines, mentioned, named, IsExpression}
 use Rattle.sx_reference_laws.specs.Records.{line_mentions, line_namings, IsRightLine, IsBoundTo, IsRightExport, AreRightExports, RunIsRight, RecordsAreHygienic}
 use Rattle.sx_reference_laws.specs.Whole.{KeepsOnly}
 use Rattle.sx_reference_laws.proofs.Naming.{mentions-named}
@@ -103,12 +103,12 @@ abbrev KeepsNone : State → Type 0
 KeepsNone s = (l : Label) (c : PlainCore) → IsKeptWith s.keywords l c → ⊥
 
 -- what was kept before an action that keeps no more
-before : (v w : State) (es : List Expression) → Tells v.keywords w.keywords → (l : Label) (c : PlainCore) → IsKeptWith w.keywords l c ⊎ IsExpression es l c → IsKeptWith v.keywords l c ⊎ IsExpression es l c
+before : (v w : State) (es : List KeywordExpression) → Tells v.keywords w.keywords → (l : Label) (c : PlainCore) → IsKeptWith w.keywords l c ⊎ IsExpression es l c → IsKeptWith v.keywords l c ⊎ IsExpression es l c
 before v w es h l c (inl k) = inl (h l c k)
 before v w es h l c (inr a) = inr a
 
 -- The bindings of a record have the expressions that are kept in the last state.
-module _ (es : List Expression) (s u : State) (none : KeepsNone s) (kept : KeepsOnly es s u) where
+module _ (es : List KeywordExpression) (s u : State) (none : KeepsNone s) (kept : KeepsOnly es s u) where
   abbrev Has : Label × Binding → Type 0
   Has b = IsBoundTo es b.0 b.1
 
@@ -164,17 +164,17 @@ module _ (libs : List LibName) (own : LibName) (core : Among libs library.Core) 
   abbrev lives : Lives own K J P
   lives = staying.lives libs own core new
 
-  line-right : (u : State) (x : Told) → walking.TellsLine libs own core new u x → IsRightLine libs own u x
+  line-right : (u : State) (x : NotedLine) → walking.TellsLine libs own core new u x → IsRightLine libs own u x
   line-right u x h = record { all = line-named x.line (named x.noted.references) h.0; mentions = line-mentioned x.line x.noted.references h.0; right = all-right libs own core new u x.noted.references h.1 }
 
-  abbrev KeptExpression : Expression → Type 0
+  abbrev KeptExpression : KeywordExpression → Type 0
   KeptExpression e = staying.KeptExpression libs own core new e
 
-  module _ (records : List LibRecord) (first : ℕ) (held : RecordsHold (P first) records) (at : TopAt) (es : List (List ℕ × Tree)) (fs : List Tree) (s : State) where
+  module _ (records : List CompiledLibrary) (first : ℕ) (held : RecordsHold (P first) records) (at : TopAt) (es : List (List ℕ × Tree)) (fs : List Tree) (s : State) where
     abbrev go : Inside
     go = inside records full_room
 
-    abbrev Right : LibRecord → State → Type 0
+    abbrev Right : CompiledLibrary → State → Type 0
     Right r u = RunIsRight libs own records s at es fs r
 
     abbrev here : BodyAt
@@ -235,11 +235,11 @@ module _ (libs : List LibName) (own : LibName) (core : Among libs library.Core) 
     abbrev Took : Taken → State → Type 0
     Took d v = walking.TakeMade libs own core new records here 0 begun (map (stamp at.frame) fs) s d v
 
-    finished-right : (d : Taken) (v : State) → J v.names.number at.frame → Each (λ (e : List ℕ × Tree). WasRead e.1) es → StateHolds own K P first v → TakenHolds (P v.names.number) d → first_pass go at fs s ≡ Ok (d, v) → Took d v → KeepsNone s → Gave Right (finished go at es d v)
-    unfolding finished
+    finished-right : (d : Taken) (v : State) → J v.names.number at.frame → Each (λ (e : List ℕ × Tree). WasRead e.1) es → FreshStateHolds own K P first v → TakenHolds (P v.names.number) d → first_pass go at fs s ≡ Ok (d, v) → Took d v → KeepsNone s → Gave Right (second_pass go at es d v)
+    unfolding second_pass
     finished-right d v q read h k e took none =
-        gave-after (λ ls w. ((StateHolds own K P v.names.number w × Unit {0}) × (exports at es v ≡ Ok (ls, w))) × (Looked v es ls × (w ≡ record v { exports = w.exports }))) Right (exports at es v) _
-        (gave-both (λ ls w. (StateHolds own K P v.names.number w × Unit {0}) × (exports at es v ≡ Ok (ls, w))) (λ ls w. Looked v es ls × (w ≡ record v { exports = w.exports })) (exports at es v)
+        gave-after (λ ls w. ((FreshStateHolds own K P v.names.number w × Unit {0}) × (exports at es v ≡ Ok (ls, w))) × (Looked v es ls × (w ≡ record v { exports = w.exports }))) Right (exports at es v) _
+        (gave-both (λ ls w. (FreshStateHolds own K P v.names.number w × Unit {0}) × (exports at es v ≡ Ok (ls, w))) (λ ls w. Looked v es ls × (w ≡ record v { exports = w.exports })) (exports at es v)
         (staying.gave-from libs own core new first (λ n ls. Unit {0}) v (exports at es v) (exports-hold own K J P lives first at es v h)) (exports-looked es v))
         (λ ls w y.
         let hw = standing.state-then own K J P lives first v w h y.0.0.0 in
@@ -271,29 +271,29 @@ module _ (libs : List LibName) (own : LibName) (core : Among libs library.Core) 
           exports_right = exports-right v u w.exports q (subst (λ (x : State). staying.Went libs own core new x u) y.1.1 z.0) es ls read y.1.0;
         }))
 
-    pub top-right : StateHolds own K P first s → Each (TreeHolds (P s.names.number)) fs → J s.names.number at.frame → Each (λ (e : List ℕ × Tree). WasRead e.1) es → KeepsNone s → Gave Right (top go at es fs s)
+    pub top-right : FreshStateHolds own K P first s → Each (TreeHolds (P s.names.number)) fs → J s.names.number at.frame → Each (λ (e : List ℕ × Tree). WasRead e.1) es → KeepsNone s → Gave Right (top go at es fs s)
     unfolding top first_pass
     top-right h k q read none =
         let stamped = map (stamp at.frame) fs in
         let all = stamps-hold own K J P lives s.names.number at.frame fs q k in
         let pass = splice go here 0 begun stamped s in
-        gave-after (λ d v. ((StateHolds own K P s.names.number v × TakenHolds (P v.names.number) d) × (pass ≡ Ok (d, v))) × Took d v) Right pass (finished go at es)
-        (gave-both (λ d v. (StateHolds own K P s.names.number v × TakenHolds (P v.names.number) d) × (pass ≡ Ok (d, v))) Took pass
+        gave-after (λ d v. ((FreshStateHolds own K P s.names.number v × TakenHolds (P v.names.number) d) × (pass ≡ Ok (d, v))) × Took d v) Right pass (second_pass go at es)
+        (gave-both (λ d v. (FreshStateHolds own K P s.names.number v × TakenHolds (P v.names.number) d) × (pass ≡ Ok (d, v))) Took pass
         (staying.gave-from libs own core new first (λ n d. TakenHolds (P n) d) s pass (forms.splice-holds own K J P lives first go (walking.keeps libs own core new records first held full_room) here 0 begun stamped s h tt all q))
         (walking.take-made libs own core new records first held full_room (all-traced libs own core new records first held full_room) here 0 begun stamped s h tt all q))
         (λ d v z. finished-right d v (lives.frames s.names.number v.names.number at.frame z.0.0.0.stage.up q) read (standing.state-then own K J P lives first s v h z.0.0.0) z.0.0.1 z.0.1 z.1 none)
 
 -- what is given of a record
-given : (P : LibRecord → Type 0) (q : Result (LibRecord × State) Fault) (r : LibRecord) → Gave (λ x u. P x) q → record_in q ≡ Ok r → P r
+given : (P : CompiledLibrary → Type 0) (q : Result (CompiledLibrary × State) Fault) (r : CompiledLibrary) → Gave (λ x u. P x) q → record_in q ≡ Ok r → P r
 given P (Ok p) r h e = let same : p.0 ≡ r = cc in subst P same h
 given P (Err f) r h e = absurd (cc)
 
 -- nothing is kept at first
-kept-first : (own : LibName) (records : List LibRecord) (imports : List (List ℕ × Label)) (codes : Codes) → KeepsNone (started own records imports codes)
+kept-first : (own : LibName) (records : List CompiledLibrary) (imports : List (List ℕ × Label)) (codes : Codes) → KeepsNone (started own records imports codes)
 unfolding started
 kept-first own records imports codes l c e = absurd (cc)
 
-first-made : (own : LibName) (records : List LibRecord) (imports : List (List ℕ × Label)) (codes : Codes) → IsKnownFrame (libraries_of records) own (started own records imports codes).names.number (first_frame own)
+first-made : (own : LibName) (records : List CompiledLibrary) (imports : List (List ℕ × Label)) (codes : Codes) → IsKnownFrame (libraries_of records) own (started own records imports codes).names.number (first_frame own)
 unfolding started
 first-made own records imports codes = inr (refl, omega arith)
 

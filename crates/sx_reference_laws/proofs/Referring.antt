@@ -11,7 +11,7 @@ use Rattle.sx_expand_laws.specs.Named.{RefersTo, IsUse}
 use Rattle.sx_expand_laws.proofs.Named.{references-named}
 use Rattle.sx_reference_laws.specs.Reference.{NamesItsBinder, ReferencesAreHygienic}
 use Rattle.sx_reference_laws.proofs.Capturing.{captures-hygienic}
-use Rattle.sx_expand.specs.Settle.{linked_code}
+use Rattle.sx_expand.specs.ExpandUses.{linked_code}
 
 pub references-hygienic : ReferencesAreHygienic
 references-hygienic libs own n records room place level depth p x k s u c h e = by (references-named records room place level depth (leaf p x k) s u c refl e)

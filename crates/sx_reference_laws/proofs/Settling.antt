@@ -20,7 +20,7 @@ use Rattle.sx_core.specs.declared.binding.Binding.{Binding}
 use Rattle.sx_core.specs.declared.binding.Binding.TheVariants as binding
 use Rattle.sx_core.specs.declared.core_form.CoreForm.{CoreForm}
 use Rattle.sx_core.specs.declared.core_form.CoreForm.TheVariants as core_forms
-use Rattle.sx_core.specs.declared.record.LibRecord.{LibRecord}
+use Rattle.sx_core.specs.declared.record.CompiledLibrary.{CompiledLibrary}
 use Rattle.sx_core.specs.declared.link.Link.{Link}
 use Rattle.sx_core.specs.declared.link.LinkKind.TheVariants as kinds
 use Rattle.sx_shapes.specs.At.{place_of}
@@ -42,14 +42,14 @@ use Rattle.sx_heads.specs.Plan.{reference, constant, target_by, assign_to, assig
 use Rattle.sx_heads.specs.declared.plan.KeywordUse.{KeywordUse}
 use Rattle.sx_heads.specs.declared.plan.Plan.{Plan}
 use Rattle.sx_heads.specs.declared.plan.Plan.TheVariants as plans
-use Rattle.sx_expand.specs.Settle.{next_form, too_many, set_step, step_of, step, target_span, linked, linked_code, settled_by, settle_to, settle}
-use Rattle.sx_expand.specs.declared.settle.Settled.{Settled}
-use Rattle.sx_expand.specs.declared.settle.Step.{Step}
-use Rattle.sx_expand.specs.declared.settle.Step.TheVariants as steps
+use Rattle.sx_expand.specs.ExpandUses.{next_form, too_many, set_step, step_of, step, target_span, linked, linked_code, planned_by, expand_uses_to, expand_uses}
+use Rattle.sx_expand.specs.declared.expand_uses.PlannedForm.{PlannedForm}
+use Rattle.sx_expand.specs.declared.expand_uses.PlanOrUse.{PlanOrUse}
+use Rattle.sx_expand.specs.declared.expand_uses.PlanOrUse.TheVariants as steps
 use Rattle.sx_expand_laws.specs.Named.{RefersTo}
 use Rattle.sx_reference_laws.specs.Namings.{namings}
 use Rattle.sx_reference_laws.specs.Noted.{Reference}
-use Rattle.sx_reference_laws.specs.Templates.{IsTemplate}
+use Rattle.sx_reference_laws.specs.Templates.{IsTemplateOf}
 use Rattle.sx_reference_laws.proofs.Shaping.{set-only}
 use Rattle.sx_reference_laws.proofs.Templating.{TemplateNames, template-of-names}
 use Rattle.sx_expand_laws.proofs.Acts.{Gave, gave-any, gave-both, gave-after, gave-less, gave-if}
@@ -78,7 +78,7 @@ pub record IsSyntax (place : Span) (level : ℕ) (t : Tree) (c : PlainCore) (u :
   pub template : PlainTemplate
   pub made : template_of place level operand u ≡ Ok (template, u)
   pub references : List Reference
-  pub is : IsTemplate u place level operand template references
+  pub is : IsTemplateOf u place level operand template references
   pub code : c ≡ instance template (place_of t place)
 
 abbrev pub IsTarget : Span → Tree → Label → Tree → State → Type 0
@@ -228,11 +228,11 @@ plan-so place level (pair r a d) s = list-so place level (pair r a d) refl s a d
 plan-so place level (vector r d) s = tt
 
 -- What is settled.
-module _ (rs : List LibRecord) (level : ℕ) where
-  abbrev pub Settles : Settled → State → Type 0
+module _ (rs : List CompiledLibrary) (level : ℕ) where
+  abbrev pub Settles : PlannedForm → State → Type 0
   Settles d u = Plans level d.place d.form d.plan u
 
-  abbrev Steps : Span → Tree → Step → State → Type 0
+  abbrev Steps : Span → Tree → PlanOrUse → State → Type 0
   Steps place t (steps.Plan p) u = Plans level place t p u
   Steps place t (steps.Use k) u = Unit {0}
 
@@ -309,20 +309,20 @@ module _ (rs : List LibRecord) (level : ℕ) where
   links-so place t u (plans.Use k) h = tt
   links-so place t u (plans.SetUse l id) h = tt
 
-  settled-so : (onward : KeywordUse → Does Settled) (place : Span) (t : Tree) (x : Step) (u : State) → ((k : KeywordUse) (v : State) → Gave Settles (onward k v)) → Steps place t x u → Gave Settles (settled_by onward place t x u)
+  settled-so : (onward : KeywordUse → Does PlannedForm) (place : Span) (t : Tree) (x : PlanOrUse) (u : State) → ((k : KeywordUse) (v : State) → Gave Settles (onward k v)) → Steps place t x u → Gave Settles (planned_by onward place t x u)
   settled-so onward place t (steps.Plan p) u more h = links-so place t u p h
   settled-so onward place t (steps.Use k) u more h = more k u
 
-  settle-to-so : (left : ℕ) (place : Span) (t : Tree) (s : State) → Gave Settles (settle_to rs left place level t s)
-  unfolding settle_to
-  settle-to-so zero place t s = gave-after (Steps place t) Settles (step rs place level t s) (settled_by (λ k. too_many t place) place t) (step-so place t s) (λ x u h. settled-so (λ k. too_many t place) place t x u (λ k v. tt) h)
-  settle-to-so (suc left) place t s =
-      gave-after (Steps place t) Settles (step rs place level t s) (settled_by (λ k s'. after (next_form rs left place t k None s') (settle_to rs left (place_of t place) level)) place t) (step-so place t s)
-      (λ x u h. settled-so (λ k s'. after (next_form rs left place t k None s') (settle_to rs left (place_of t place) level)) place t x u (onward (λ v w. settle-to-so left (place_of t place) v w)) h)
+  expand_uses-to-so : (left : ℕ) (place : Span) (t : Tree) (s : State) → Gave Settles (expand_uses_to rs left place level t s)
+  unfolding expand_uses_to
+  expand_uses-to-so zero place t s = gave-after (Steps place t) Settles (step rs place level t s) (planned_by (λ k. too_many t place) place t) (step-so place t s) (λ x u h. settled-so (λ k. too_many t place) place t x u (λ k v. tt) h)
+  expand_uses-to-so (suc left) place t s =
+      gave-after (Steps place t) Settles (step rs place level t s) (planned_by (λ k s'. after (next_form rs left place t k None s') (expand_uses_to rs left (place_of t place) level)) place t) (step-so place t s)
+      (λ x u h. settled-so (λ k s'. after (next_form rs left place t k None s') (expand_uses_to rs left (place_of t place) level)) place t x u (onward (λ v w. expand_uses-to-so left (place_of t place) v w)) h)
     where
-      onward : ((v : Tree) (w : State) → Gave Settles (settle_to rs left (place_of t place) level v w)) → (k : KeywordUse) (v : State) → Gave Settles (after (next_form rs left place t k None v) (settle_to rs left (place_of t place) level))
+      onward : ((v : Tree) (w : State) → Gave Settles (expand_uses_to rs left (place_of t place) level v w)) → (k : KeywordUse) (v : State) → Gave Settles (after (next_form rs left place t k None v) (expand_uses_to rs left (place_of t place) level))
       onward again k v =
-          gave-after (λ (x : Tree) w. Unit {0}) Settles (next_form rs left place t k None v) (settle_to rs left (place_of t place) level) (gave-any (λ (x : Tree) w. Unit {0}) (next_form rs left place t k None v) (λ x w. tt)) (λ x w j. again x w)
+          gave-after (λ (x : Tree) w. Unit {0}) Settles (next_form rs left place t k None v) (expand_uses_to rs left (place_of t place) level) (gave-any (λ (x : Tree) w. Unit {0}) (next_form rs left place t k None v) (λ x w. tt)) (λ x w j. again x w)
 
-  pub settle-so : (place : Span) (t : Tree) (s : State) → Gave Settles (settle rs place level t s)
-  settle-so place t s = settle-to-so s.uses_left place t s
+  pub expand_uses-so : (place : Span) (t : Tree) (s : State) → Gave Settles (expand_uses rs place level t s)
+  expand_uses-so place t s = expand_uses-to-so s.uses_left place t s

@@ -8,7 +8,7 @@ use Rattle.sx_base.specs.declared.name.Label.{Label}
 use Rattle.sx_base.specs.declared.name.Mark.{Mark}
 use Rattle.sx_tree.specs.Context.{LeafContext}
 use Rattle.sx_tree.specs.Tree.{Tree}
-use Rattle.sx_core.specs.declared.record.LibRecord.{LibRecord}
+use Rattle.sx_core.specs.declared.record.CompiledLibrary.{CompiledLibrary}
 use Rattle.sx_shapes.specs.At.{place_of}
 use Rattle.sx_standing.specs.State.{State}
 use Rattle.sx_standing.specs.Uses.{asks_variable}
@@ -18,18 +18,18 @@ use Rattle.sx_heads.specs.declared.item.Item.TheVariants as of_items
 use Rattle.sx_heads.specs.declared.taken.BodyAt.{BodyAt}
 use Rattle.sx_heads.specs.declared.taken.Taken.{Taken}
 use Rattle.sx_heads.specs.declared.taken.Waits.TheVariants as waits
-use Rattle.sx_expand.specs.Settle.{next_form, too_many, at_use, set_item_step, item_step_of, item_step, item_by, settle_item_to, settle_item}
-use Rattle.sx_expand.specs.declared.settle.ItemStep.{ItemStep}
-use Rattle.sx_expand.specs.declared.settle.ItemStep.TheVariants as item_steps
-use Rattle.sx_expand.specs.declared.settle.SettledItem.{SettledItem}
+use Rattle.sx_expand.specs.ExpandUses.{next_form, too_many, at_use, set_item_step, item_step_of, item_step, item_by, expand_item_uses_to, expand_item_uses}
+use Rattle.sx_expand.specs.declared.expand_uses.ItemOrUse.{ItemOrUse}
+use Rattle.sx_expand.specs.declared.expand_uses.ItemOrUse.TheVariants as item_steps
+use Rattle.sx_expand.specs.declared.expand_uses.PlannedItem.{PlannedItem}
 use Rattle.sx_fresh_laws.proofs.Eachs.{each_and}
 use Rattle.sx_fresh_expansion_laws.specs.Living.{Lives}
 use Rattle.sx_fresh_expansion_laws.specs.States.{RecordsHold}
 use Rattle.sx_fresh_expansion_laws.proofs.Items as items
-use Rattle.sx_fresh_expansion_laws.proofs.Settled as settled
+use Rattle.sx_fresh_expansion_laws.proofs.PlannedForm as settled
 use Rattle.sx_fresh_expansion_laws.proofs.Standing as standing
 
-module _ (own : LibName) (K : ℕ → Mark → Type 0) (J : ℕ → FrameNo → Type 0) (P : ℕ → LeafContext → Type 0) (lives : Lives own K J P) (first : ℕ) (rs : List LibRecord) (held : RecordsHold (P first) rs) where
+module _ (own : LibName) (K : ℕ → Mark → Type 0) (J : ℕ → FrameNo → Type 0) (P : ℕ → LeafContext → Type 0) (lives : Lives own K J P) (first : ℕ) (rs : List CompiledLibrary) (held : RecordsHold (P first) rs) where
   abbrev F : State → Type 0
   F s = standing.F own K J P lives first s
 
@@ -45,11 +45,11 @@ module _ (own : LibName) (K : ℕ → Mark → Type 0) (J : ℕ → FrameNo → 
   same : (s : State) → F s → standing.From own K J P lives first s s
   same s h = standing.state-self own K J P lives first s h
 
-  abbrev StepAt : ℕ → Taken × ItemStep → Type 0
+  abbrev StepAt : ℕ → Taken × ItemOrUse → Type 0
   StepAt n (d, item_steps.Item i) = TakenAt n d × items.ItemAt own K J P lives first n i
   StepAt n (d, item_steps.Use k) = TakenAt n d
 
-  abbrev SettledAt : ℕ → Taken × SettledItem → Type 0
+  abbrev SettledAt : ℕ → Taken × PlannedItem → Type 0
   SettledAt n p = settled.SettledItemAt own K J P lives first rs held n p
 
   set-holds : (at : BodyAt) (depth : ℕ) (d : Taken) (t : Tree) (l : Label) (b : Bool) (s : State) → F s → TakenAt s.names.number d → T s.names.number t → Gave StepAt s (set_item_step at depth d t l b s)
@@ -72,28 +72,28 @@ module _ (own : LibName) (K : ℕ → Mark → Type 0) (J : ℕ → FrameNo → 
       standing.gave-after own K J P lives first (items.BothAt own K J P lives first) StepAt s (item_plan at depth d t s) (λ p. item_step_of rs at depth t p.0 p.1) (items.item-plan-holds own K J P lives first at depth d t s h k g)
       (λ p u i y. steps-hold at depth t p.0 p.1 u (standing.state-then own K J P lives first s u h i) y.0 (standing.tree-up own K J P lives first s.names.number u.names.number i.stage.up t g) y.1)
 
-  settles : (left : ℕ) (at : BodyAt) (depth : ℕ) (d : Taken) (t : Tree) (s : State) → F s → TakenAt s.names.number d → T s.names.number t → J s.names.number at.frame → Gave SettledAt s (settle_item_to rs left at depth d t s)
-  unfolding settle_item_to
+  settles : (left : ℕ) (at : BodyAt) (depth : ℕ) (d : Taken) (t : Tree) (s : State) → F s → TakenAt s.names.number d → T s.names.number t → J s.names.number at.frame → Gave SettledAt s (expand_item_uses_to rs left at depth d t s)
+  unfolding expand_item_uses_to
   settles zero at depth d t s h k g q = standing.gave-after own K J P lives first StepAt SettledAt s (item_step rs at depth d t s) (item_by (λ done k. too_many t at.place) at t) (step-holds at depth d t s h k g) by
     where
-      by : (p : Taken × ItemStep) (u : State) → standing.From own K J P lives first s u → StepAt u.names.number p → Gave SettledAt u (item_by (λ done k. too_many t at.place) at t p u)
+      by : (p : Taken × ItemOrUse) (u : State) → standing.From own K J P lives first s u → StepAt u.names.number p → Gave SettledAt u (item_by (λ done k. too_many t at.place) at t p u)
       by (e, item_steps.Item i) u j y =
           (same u (standing.state-then own K J P lives first s u h j), (y.0, (standing.tree-up own K J P lives first s.names.number u.names.number j.stage.up t g, (y.1, lives.frames s.names.number u.names.number at.frame j.stage.up q))))
       by (e, item_steps.Use l) u j y = tt
   settles (suc left) at depth d t s h k g q =
-      standing.gave-after own K J P lives first StepAt SettledAt s (item_step rs at depth d t s) (item_by (λ taken l s'. after (next_form rs left at.place t l (Some at.frame) s') (settle_item_to rs left (at_use at t) depth taken)) at t) (step-holds at depth d t s h k g)
+      standing.gave-after own K J P lives first StepAt SettledAt s (item_step rs at depth d t s) (item_by (λ taken l s'. after (next_form rs left at.place t l (Some at.frame) s') (expand_item_uses_to rs left (at_use at t) depth taken)) at t) (step-holds at depth d t s h k g)
       (λ p u i y. by p u i y (λ e v w j x z r. settles left (at_use at t) depth e v w j x z r))
     where
-      by : (p : Taken × ItemStep) (u : State) → standing.From own K J P lives first s u → StepAt u.names.number p
-          → ((e : Taken) (v : Tree) (w : State) → F w → TakenAt w.names.number e → T w.names.number v → J w.names.number at.frame → Gave SettledAt w (settle_item_to rs left (at_use at t) depth e v w))
-          → Gave SettledAt u (item_by (λ taken l s'. after (next_form rs left at.place t l (Some at.frame) s') (settle_item_to rs left (at_use at t) depth taken)) at t p u)
+      by : (p : Taken × ItemOrUse) (u : State) → standing.From own K J P lives first s u → StepAt u.names.number p
+          → ((e : Taken) (v : Tree) (w : State) → F w → TakenAt w.names.number e → T w.names.number v → J w.names.number at.frame → Gave SettledAt w (expand_item_uses_to rs left (at_use at t) depth e v w))
+          → Gave SettledAt u (item_by (λ taken l s'. after (next_form rs left at.place t l (Some at.frame) s') (expand_item_uses_to rs left (at_use at t) depth taken)) at t p u)
       by (e, item_steps.Item i) u j y again =
           (same u (standing.state-then own K J P lives first s u h j), (y.0, (standing.tree-up own K J P lives first s.names.number u.names.number j.stage.up t g, (y.1, lives.frames s.names.number u.names.number at.frame j.stage.up q))))
       by (e, item_steps.Use l) u j y again =
           let hu = standing.state-then own K J P lives first s u h j in
-          standing.gave-after own K J P lives first T SettledAt u (next_form rs left at.place t l (Some at.frame) u) (settle_item_to rs left (at_use at t) depth e)
+          standing.gave-after own K J P lives first T SettledAt u (next_form rs left at.place t l (Some at.frame) u) (expand_item_uses_to rs left (at_use at t) depth e)
           (settled.next-form-holds own K J P lives first rs held left at.place t l (Some at.frame) u hu (standing.tree-up own K J P lives first s.names.number u.names.number j.stage.up t g) (lives.frames s.names.number u.names.number at.frame j.stage.up q))
           (λ v w x z. again e v w (standing.state-then own K J P lives first u w hu x) (items.taken-up own K J P lives first u.names.number w.names.number x.stage.up e y) z (lives.frames s.names.number w.names.number at.frame (omega (arith, j.stage.up, x.stage.up)) q))
 
-  pub settled-item-holds : (at : BodyAt) (depth : ℕ) (d : Taken) (t : Tree) (s : State) → F s → TakenAt s.names.number d → T s.names.number t → J s.names.number at.frame → Gave SettledAt s (settle_item rs at depth d t s)
+  pub settled-item-holds : (at : BodyAt) (depth : ℕ) (d : Taken) (t : Tree) (s : State) → F s → TakenAt s.names.number d → T s.names.number t → J s.names.number at.frame → Gave SettledAt s (expand_item_uses rs at depth d t s)
   settled-item-holds at depth d t s h k g q = settles s.uses_left at depth d t s h k g q

@@ -12,7 +12,7 @@ use Rattle.sx_tree.specs.Tree.{Tree, atom, leaf, pair, vector}
 use Rattle.sx_tree.specs.declared.stamp.Stamp.{Stamp}
 use Rattle.sx_scope.specs.Stands.{stands}
 use Rattle.sx_core.specs.Core.{PlainCore}
-use Rattle.sx_core.specs.declared.record.LibRecord.{LibRecord}
+use Rattle.sx_core.specs.declared.record.CompiledLibrary.{CompiledLibrary}
 use Rattle.sx_shapes.specs.Lists.{is_leaf}
 use Rattle.sx_standing.specs.InScope.{cut}
 use Rattle.sx_standing.specs.State.{State}
@@ -34,12 +34,12 @@ use Rattle.sx_fresh_expansion_laws.specs.Events.{HasKnownEvents}
 use Rattle.sx_fresh_expansion_laws.specs.Known.{IsKnown, IsKnownFrame, HasKnown, IsNewAmong}
 use Rattle.sx_fresh_expansion_laws.specs.Living.{Lives}
 use Rattle.sx_fresh_expansion_laws.specs.Made.{IsMade, StampedByMade}
-use Rattle.sx_fresh_expansion_laws.specs.States.{StateHolds}
+use Rattle.sx_fresh_expansion_laws.specs.States.{FreshStateHolds}
 use Rattle.sx_fresh_expansion_laws.proofs.Having.{history-marks}
 use Rattle.sx_fresh_expansion_laws.proofs.Making.{are-made}
 use Rattle.sx_fresh_expansion_laws.proofs.Once.{as-history, lives-once}
 use Rattle.sx_fresh_expansion_laws.proofs.Standing as standing
-use Rattle.sx_reference_laws.specs.Noted.{Reference, Expression, Noted, nothing, of_keywords, both, named, IsExpression}
+use Rattle.sx_reference_laws.specs.Noted.{Reference, KeywordExpression, Noted, nothing, of_keywords, both, named, IsExpression}
 use Rattle.sx_reference_laws.specs.Namings.{Naming, namings}
 use Rattle.sx_reference_laws.specs.Whole.{IsOnlyVariable, KeepsOnly}
 use Rattle.sx_reference_laws.proofs.Templating.{named-joined}
@@ -117,7 +117,7 @@ module _ (libs : List LibName) (own : LibName) (core : Among libs library.Core) 
   all-cut n u refs h = each_mapped (Kept u) (Kept (cut n u)) (λ r k. kept-cut n u r k) refs h
 
   -- an expression of a keyword, whose references name what their identifiers stood for to its end
-  abbrev pub KeptExpression : Expression → Type 0
+  abbrev pub KeptExpression : KeywordExpression → Type 0
   KeptExpression e = (namings e.code ≡ named e.references) × Each (Kept e.state) e.references
 
   -- What comes of a form, with what is noted of it that is related to it so, and whose references name these labels.
@@ -154,15 +154,15 @@ module _ (libs : List LibName) (own : LibName) (core : Among libs library.Core) 
   made-later R m s v u l k h = record { noted = h.noted; is = h.is; all = h.all; kept = all-later v u l h.noted.references h.kept; expressions = h.expressions; told = λ x c e. h.told x c (k x c e) }
 
   -- expressions that come to be kept, and others behind them
-  pub only-joined : (es others : List Expression) (s v u : State) → KeepsOnly es s v → KeepsOnly others v u → KeepsOnly (es ++ others) s u
+  pub only-joined : (es others : List KeywordExpression) (s v u : State) → KeepsOnly es s v → KeepsOnly others v u → KeepsOnly (es ++ others) s u
   only-joined es others s v u h k l c x = by l c (k l c x)
     where
-      first : (xs : List Expression) (l : Label) (c : PlainCore) → IsExpression xs l c → IsExpression (xs ++ others) l c
+      first : (xs : List KeywordExpression) (l : Label) (c : PlainCore) → IsExpression xs l c → IsExpression (xs ++ others) l c
       first [] l c a = absurd a
       first (y ∷ xs) l c (inl e) = inl e
       first (y ∷ xs) l c (inr a) = inr (first xs l c a)
 
-      last : (xs : List Expression) (l : Label) (c : PlainCore) → IsExpression others l c → IsExpression (xs ++ others) l c
+      last : (xs : List KeywordExpression) (l : Label) (c : PlainCore) → IsExpression others l c → IsExpression (xs ++ others) l c
       last [] l c a = a
       last (y ∷ xs) l c a = inr (last xs l c a)
 
@@ -189,23 +189,23 @@ module _ (libs : List LibName) (own : LibName) (core : Among libs library.Core) 
   made-cut R V m n s u h f = record { noted = h.noted; is = f h.noted h.is; all = h.all; kept = all-cut n u h.noted.references h.kept; expressions = h.expressions; told = h.told }
 
   -- What comes of keywords, whose expressions are related to them so.
-  pub record Bound (R : List Expression → Type 0) (s u : State) : Type 0 where
-    pub expressions : List Expression
+  pub record Bound (R : List KeywordExpression → Type 0) (s u : State) : Type 0 where
+    pub expressions : List KeywordExpression
     pub is : R expressions
     pub kept : Each KeptExpression expressions
     pub told : KeepsOnly expressions s u
 
-  pub bound-none : (R : List Expression → Type 0) (s u : State) → R [] → Tells s.keywords u.keywords → Bound R s u
+  pub bound-none : (R : List KeywordExpression → Type 0) (s u : State) → R [] → Tells s.keywords u.keywords → Bound R s u
   bound-none R s u h k = record { expressions = []; is = h; kept = tt; told = λ l c x. inl (k l c x) }
 
-  pub bound-from : (R V : List Expression → Type 0) (s v u : State) → Tells s.keywords v.keywords → Bound R v u → ((es : List Expression) → R es → V es) → Bound V s u
+  pub bound-from : (R V : List KeywordExpression → Type 0) (s v u : State) → Tells s.keywords v.keywords → Bound R v u → ((es : List KeywordExpression) → R es → V es) → Bound V s u
   bound-from R V s v u k h f = record { expressions = h.expressions; is = f h.expressions h.is; kept = h.kept; told = λ l c x. by l c (h.told l c x) }
     where
       by : (l : Label) (c : PlainCore) → IsKeptWith v.keywords l c ⊎ IsExpression h.expressions l c → IsKeptWith s.keywords l c ⊎ IsExpression h.expressions l c
       by l c (inl x) = inl (k l c x)
       by l c (inr x) = inr x
 
-  pub bound-joined : (R Q V : List Expression → Type 0) (s v u : State) → Bound R s v → Bound Q v u → ((es others : List Expression) → R es → Q others → V (es ++ others)) → Bound V s u
+  pub bound-joined : (R Q V : List KeywordExpression → Type 0) (s v u : State) → Bound R s v → Bound Q v u → ((es others : List KeywordExpression) → R es → Q others → V (es ++ others)) → Bound V s u
   bound-joined R Q V s v u a b f = record {
     expressions = a.expressions ++ b.expressions;
     is = f a.expressions b.expressions a.is b.is;
@@ -214,7 +214,7 @@ module _ (libs : List LibName) (own : LibName) (core : Among libs library.Core) 
   }
 
   -- keywords, and what comes of forms behind them
-  pub bound-made : (R : List Expression → Type 0) (Q V : Noted → Type 0) (m n : List Naming) (s v u : State) → Bound R s v → Made Q m v u → ((es : List Expression) (x : Noted) → R es → Q x → V (both (of_keywords es) x)) → n ≡ m → Made V n s u
+  pub bound-made : (R : List KeywordExpression → Type 0) (Q V : Noted → Type 0) (m n : List Naming) (s v u : State) → Bound R s v → Made Q m v u → ((es : List KeywordExpression) (x : Noted) → R es → Q x → V (both (of_keywords es) x)) → n ≡ m → Made V n s u
   bound-made R Q V m n s v u a b f e = record {
     noted = both (of_keywords a.expressions) b.noted;
     is = f a.expressions b.noted a.is b.is;
@@ -226,12 +226,12 @@ module _ (libs : List LibName) (own : LibName) (core : Among libs library.Core) 
 
   -- a step from a state to a later one
   pub record Went (s u : State) : Type 0 where
-    pub from : StateHolds own K P s.names.number u
+    pub from : FreshStateHolds own K P s.names.number u
     pub later : Later own s u
 
   module _ (first : ℕ) where
     abbrev pub F : State → Type 0
-    F s = StateHolds own K P first s
+    F s = FreshStateHolds own K P first s
 
     pub went-self : (s : State) → F s → Went s s
     went-self s h = record { from = standing.state-self own K J P lives first s h; later = later-self own s h.stage.library }
@@ -249,12 +249,12 @@ module _ (libs : List LibName) (own : LibName) (core : Among libs library.Core) 
     gave-went W M s (Err e) h l k = tt
 
     -- by the account of what may be met alone
-    pub gave-from : {A : Type 0} (W : ℕ → A → Type 0) (s : State) (r : Result (A × State) Fault) → standing.Gave own K J P lives first W s r → Gave (λ a u. (StateHolds own K P s.names.number u × W u.names.number a) × (r ≡ Ok (a, u))) r
+    pub gave-from : {A : Type 0} (W : ℕ → A → Type 0) (s : State) (r : Result (A × State) Fault) → standing.Gave own K J P lives first W s r → Gave (λ a u. (FreshStateHolds own K P s.names.number u × W u.names.number a) × (r ≡ Ok (a, u))) r
     gave-from W s (Ok p) h = (h, refl)
     gave-from W s (Err e) h = tt
 
     -- with what is told of it besides
     pub gave-and : {A : Type 0} (W : ℕ → A → Type 0) (M : A → State → Type 0) (s : State) (r : Result (A × State) Fault) → standing.Gave own K J P lives first W s r → Gave M r
-        → Gave (λ a u. (StateHolds own K P s.names.number u × W u.names.number a) × M a u) r
+        → Gave (λ a u. (FreshStateHolds own K P s.names.number u × W u.names.number a) × M a u) r
     gave-and W M s (Ok p) h k = (h, k)
     gave-and W M s (Err e) h k = tt

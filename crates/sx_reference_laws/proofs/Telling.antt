@@ -10,7 +10,7 @@ use Rattle.sx_base.specs.declared.span.Span.{Span}
 use Rattle.sx_tree.specs.Changes.{stamp}
 use Rattle.sx_tree.specs.Tree.{Tree}
 use Rattle.sx_core.specs.Core.{PlainCore, instance}
-use Rattle.sx_core.specs.declared.record.LibRecord.{LibRecord}
+use Rattle.sx_core.specs.declared.record.CompiledLibrary.{CompiledLibrary}
 use Rattle.sx_pattern.specs.declared.compile.PatternVariable.{PatternVariable}
 use Rattle.sx_quasi.specs.declared.quasi_syntax.Insert.{Insert}
 use Rattle.sx_quasi.specs.declared.quasi_syntax.QuasiSyntax.{QuasiSyntax}
@@ -40,14 +40,14 @@ use Rattle.sx_heads.specs.declared.plan.Plan.TheVariants as plans
 use Rattle.sx_heads.specs.declared.taken.BodyAt.{BodyAt}
 use Rattle.sx_heads.specs.declared.taken.Taken.{Taken}
 use Rattle.sx_heads.specs.declared.taken.Waits.TheVariants as waits
-use Rattle.sx_expand.specs.Settle.{next_form, too_many, set_step, step_of, step, settled_by, settle_to, settle, at_use, set_item_step, item_step_of, item_step, settle_item_to, settle_item}
-use Rattle.sx_expand.specs.Settle as expand_settle
-use Rattle.sx_expand.specs.declared.settle.ItemStep.{ItemStep}
-use Rattle.sx_expand.specs.declared.settle.ItemStep.TheVariants as item_steps
-use Rattle.sx_expand.specs.declared.settle.Settled.{Settled}
-use Rattle.sx_expand.specs.declared.settle.SettledItem.{SettledItem}
-use Rattle.sx_expand.specs.declared.settle.Step.{Step}
-use Rattle.sx_expand.specs.declared.settle.Step.TheVariants as steps
+use Rattle.sx_expand.specs.ExpandUses.{next_form, too_many, set_step, step_of, step, planned_by, expand_uses_to, expand_uses, at_use, set_item_step, item_step_of, item_step, expand_item_uses_to, expand_item_uses}
+use Rattle.sx_expand.specs.ExpandUses as expand_settle
+use Rattle.sx_expand.specs.declared.expand_uses.ItemOrUse.{ItemOrUse}
+use Rattle.sx_expand.specs.declared.expand_uses.ItemOrUse.TheVariants as item_steps
+use Rattle.sx_expand.specs.declared.expand_uses.PlannedForm.{PlannedForm}
+use Rattle.sx_expand.specs.declared.expand_uses.PlannedItem.{PlannedItem}
+use Rattle.sx_expand.specs.declared.expand_uses.PlanOrUse.{PlanOrUse}
+use Rattle.sx_expand.specs.declared.expand_uses.PlanOrUse.TheVariants as steps
 use Rattle.sx_expand.proofs.Linked.{linked-keeps}
 use Rattle.sx_expand_laws.proofs.Acts.{Gave, gave-after, gave-less, gave-if, gave-within, gave-each}
 use Rattle.sx_expand_laws.proofs.Inserts.{with_dots, IsNewThere, dots-put}
@@ -102,7 +102,7 @@ module _ (place : Span) (level : ℕ) (s : State) where
       (λ x operand. then-told s (template_of place level operand s) (λ y. give (plans.Done (instance y (place_of x place)))) (template-told place level operand s) (λ y v. told-self v))
       (λ p h. told-self s) t
 
-module _ (rs : List LibRecord) (level : ℕ) where
+module _ (rs : List CompiledLibrary) (level : ℕ) where
   set-told : (place : Span) (t : Tree) (l : Label) (id : Tree) (b : Bool) (s : State) → Gave (Untold s) (set_step place t l id b s)
   set-told place t l id true s = told-self s
   set-told place t l id false s = tt
@@ -126,22 +126,22 @@ module _ (rs : List LibRecord) (level : ℕ) where
   unfolding step
   step-told place t s = then-told s (plan_of place level t s) (step_of rs place t) (plan-told place level s t) (λ p v. steps-told place t p v)
 
-  by-step : (onward : KeywordUse → Does Settled) (place : Span) (t : Tree) (x : Step) (s : State) → ((k : KeywordUse) → Gave (Untold s) (onward k s)) → Gave (Untold s) (settled_by onward place t x s)
+  by-step : (onward : KeywordUse → Does PlannedForm) (place : Span) (t : Tree) (x : PlanOrUse) (s : State) → ((k : KeywordUse) → Gave (Untold s) (onward k s)) → Gave (Untold s) (planned_by onward place t x s)
   by-step onward place t (steps.Plan p) s h = linked-keeps (λ v. Tells s.keywords v.keywords) t s (λ ls. told-self s) p
   by-step onward place t (steps.Use k) s h = h k
 
-  settle-to-told : (left : ℕ) (place : Span) (t : Tree) (s : State) → Gave (Untold s) (settle_to rs left place level t s)
-  unfolding settle_to
-  settle-to-told zero place t s = then-told s (step rs place level t s) (settled_by (λ k. too_many t place) place t) (step-told place t s) (λ x v. by-step (λ k. too_many t place) place t x v (λ k. tt))
-  settle-to-told (suc left) place t s =
-      then-told s (step rs place level t s) (settled_by (λ k s'. after (next_form rs left place t k None s') (settle_to rs left (place_of t place) level)) place t) (step-told place t s)
-      (λ x v. by-step (λ k s'. after (next_form rs left place t k None s') (settle_to rs left (place_of t place) level)) place t x v (λ k. onward (λ y w. settle-to-told left (place_of t place) y w) k v))
+  expand_uses-to-told : (left : ℕ) (place : Span) (t : Tree) (s : State) → Gave (Untold s) (expand_uses_to rs left place level t s)
+  unfolding expand_uses_to
+  expand_uses-to-told zero place t s = then-told s (step rs place level t s) (planned_by (λ k. too_many t place) place t) (step-told place t s) (λ x v. by-step (λ k. too_many t place) place t x v (λ k. tt))
+  expand_uses-to-told (suc left) place t s =
+      then-told s (step rs place level t s) (planned_by (λ k s'. after (next_form rs left place t k None s') (expand_uses_to rs left (place_of t place) level)) place t) (step-told place t s)
+      (λ x v. by-step (λ k s'. after (next_form rs left place t k None s') (expand_uses_to rs left (place_of t place) level)) place t x v (λ k. onward (λ y w. expand_uses-to-told left (place_of t place) y w) k v))
     where
-      onward : ((y : Tree) (w : State) → Gave (Untold w) (settle_to rs left (place_of t place) level y w)) → (k : KeywordUse) (v : State) → Gave (Untold v) (after (next_form rs left place t k None v) (settle_to rs left (place_of t place) level))
-      onward again k v = then-told v (next_form rs left place t k None v) (settle_to rs left (place_of t place) level) (next-told rs left place t k None v) again
+      onward : ((y : Tree) (w : State) → Gave (Untold w) (expand_uses_to rs left (place_of t place) level y w)) → (k : KeywordUse) (v : State) → Gave (Untold v) (after (next_form rs left place t k None v) (expand_uses_to rs left (place_of t place) level))
+      onward again k v = then-told v (next_form rs left place t k None v) (expand_uses_to rs left (place_of t place) level) (next-told rs left place t k None v) again
 
-  pub settle-told : (place : Span) (t : Tree) (s : State) → Gave (Untold s) (settle rs place level t s)
-  settle-told place t s = settle-to-told s.uses_left place t s
+  pub expand_uses-told : (place : Span) (t : Tree) (s : State) → Gave (Untold s) (expand_uses rs place level t s)
+  expand_uses-told place t s = expand_uses-to-told s.uses_left place t s
 
 -- Forms of a body.
 
@@ -184,7 +184,7 @@ module _ (at : BodyAt) (depth : ℕ) where
   define-keyword-told done t b s = gave-if (Untold s) (done.has_expression && not (is_mixed at.kind)) _ _ (λ e. tt)
       (λ e. then-told s (bind_keyword at.frame at.place at.level b s) (λ x s'. after (keyword_in_time at done b.id s') (λ _. give x)) (keyword-told at.frame at.place at.level b s) (λ x v. keyword-in-time done b.id x v))
 
-module _ (rs : List LibRecord) (depth : ℕ) where
+module _ (rs : List CompiledLibrary) (depth : ℕ) where
   set-item-told : (at : BodyAt) (done : Taken) (t : Tree) (l : Label) (b : Bool) (s : State) → Gave (Untold s) (set_item_step at depth done t l b s)
   set-item-told at done t l true s = told-self s
   set-item-told at done t l false s = told-self s
@@ -201,22 +201,22 @@ module _ (rs : List LibRecord) (depth : ℕ) where
   unfolding item_step
   item-step-told at done t s = then-told s (item_plan at depth done t s) (λ p. item_step_of rs at depth t p.0 p.1) (item-plan-told at depth done t s) (λ p v. item-steps-told at t p.0 p.1 v)
 
-  by-item : (onward : Taken → KeywordUse → Does (Taken × SettledItem)) (at : BodyAt) (t : Tree) (p : Taken × ItemStep) (s : State) → ((e : Taken) (k : KeywordUse) → Gave (Untold s) (onward e k s)) → Gave (Untold s) (expand_settle.item_by onward at t p s)
+  by-item : (onward : Taken → KeywordUse → Does (Taken × PlannedItem)) (at : BodyAt) (t : Tree) (p : Taken × ItemOrUse) (s : State) → ((e : Taken) (k : KeywordUse) → Gave (Untold s) (onward e k s)) → Gave (Untold s) (expand_settle.item_by onward at t p s)
   by-item onward at t (e, item_steps.Item i) s h = told-self s
   by-item onward at t (e, item_steps.Use k) s h = h e k
 
-  settle-item-to-told : (left : ℕ) (at : BodyAt) (done : Taken) (t : Tree) (s : State) → Gave (Untold s) (settle_item_to rs left at depth done t s)
-  unfolding settle_item_to
-  settle-item-to-told zero at done t s = then-told s (item_step rs at depth done t s) (expand_settle.item_by (λ e k. too_many t at.place) at t) (item-step-told at done t s) (λ p v. by-item (λ e k. too_many t at.place) at t p v (λ e k. tt))
-  settle-item-to-told (suc left) at done t s =
-      then-told s (item_step rs at depth done t s) (expand_settle.item_by (λ taken k s'. after (next_form rs left at.place t k (Some at.frame) s') (settle_item_to rs left (at_use at t) depth taken)) at t) (item-step-told at done t s)
-      (λ p v. by-item (λ taken k s'. after (next_form rs left at.place t k (Some at.frame) s') (settle_item_to rs left (at_use at t) depth taken)) at t p v (λ e k. onward e (λ y w. settle-item-to-told left (at_use at t) e y w) k v))
+  expand_uses-item-to-told : (left : ℕ) (at : BodyAt) (done : Taken) (t : Tree) (s : State) → Gave (Untold s) (expand_item_uses_to rs left at depth done t s)
+  unfolding expand_item_uses_to
+  expand_uses-item-to-told zero at done t s = then-told s (item_step rs at depth done t s) (expand_settle.item_by (λ e k. too_many t at.place) at t) (item-step-told at done t s) (λ p v. by-item (λ e k. too_many t at.place) at t p v (λ e k. tt))
+  expand_uses-item-to-told (suc left) at done t s =
+      then-told s (item_step rs at depth done t s) (expand_settle.item_by (λ taken k s'. after (next_form rs left at.place t k (Some at.frame) s') (expand_item_uses_to rs left (at_use at t) depth taken)) at t) (item-step-told at done t s)
+      (λ p v. by-item (λ taken k s'. after (next_form rs left at.place t k (Some at.frame) s') (expand_item_uses_to rs left (at_use at t) depth taken)) at t p v (λ e k. onward e (λ y w. expand_uses-item-to-told left (at_use at t) e y w) k v))
     where
-      onward : (e : Taken) → ((y : Tree) (w : State) → Gave (Untold w) (settle_item_to rs left (at_use at t) depth e y w)) → (k : KeywordUse) (v : State) → Gave (Untold v) (after (next_form rs left at.place t k (Some at.frame) v) (settle_item_to rs left (at_use at t) depth e))
-      onward e again k v = then-told v (next_form rs left at.place t k (Some at.frame) v) (settle_item_to rs left (at_use at t) depth e) (next-told rs left at.place t k (Some at.frame) v) again
+      onward : (e : Taken) → ((y : Tree) (w : State) → Gave (Untold w) (expand_item_uses_to rs left (at_use at t) depth e y w)) → (k : KeywordUse) (v : State) → Gave (Untold v) (after (next_form rs left at.place t k (Some at.frame) v) (expand_item_uses_to rs left (at_use at t) depth e))
+      onward e again k v = then-told v (next_form rs left at.place t k (Some at.frame) v) (expand_item_uses_to rs left (at_use at t) depth e) (next-told rs left at.place t k (Some at.frame) v) again
 
-  pub settle-item-told : (at : BodyAt) (done : Taken) (t : Tree) (s : State) → Gave (Untold s) (settle_item rs at depth done t s)
-  settle-item-told at done t s = settle-item-to-told s.uses_left at done t s
+  pub expand_uses-item-told : (at : BodyAt) (done : Taken) (t : Tree) (s : State) → Gave (Untold s) (expand_item_uses rs at depth done t s)
+  expand_uses-item-told at done t s = expand_uses-item-to-told s.uses_left at done t s
 
 -- Quasi forms.
 

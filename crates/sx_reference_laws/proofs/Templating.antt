@@ -22,7 +22,7 @@ use Rattle.sx_shapes.specs.Lists.{is_nil, is_nil_atom, tail_of}
 use Rattle.sx_standing.specs.Patterns.{has_variables, first_outside, outside_fault, template_in}
 use Rattle.sx_standing.specs.Patterns as patterns
 use Rattle.sx_standing.specs.State.{State}
-use Rattle.sx_template.specs.Compile.{Context, variable_made, bound_made, label_made, is_special, leaf_made, Element, dots, dots_behind, reach, with_ellipses, fitted, item_made, Walked, step, walked, constant_of, template_of, items_of, is_fixed, is_changed, any_changed, tree_before, trees, rebuilt, placed, all_fixed, fixed_list, list_joined, fixed_vector, vector_joined, escape_of, unescaped, list_parts, list_made, vector_made, template, elements_made, tail_made, compiled}
+use Rattle.sx_template.specs.Compile.{TemplateScope, variable_made, bound_made, label_made, is_special, leaf_made, TemplateElement, dots, dots_behind, reach, with_ellipses, fitted, item_made, Walked, step, walked, constant_of, template_of, items_of, is_fixed, is_changed, any_changed, tree_before, trees, rebuilt, placed, all_fixed, fixed_list, list_joined, fixed_vector, vector_joined, escape_of, unescaped, list_parts, list_made, vector_made, template, elements_made, tail_made, compiled}
 use Rattle.sx_value.specs.Cells.{Each}
 use Rattle.sx_expand_laws.proofs.Acts.{Gave, gave-if}
 use Rattle.sx_expand_laws.proofs.Templated.{list-template, vector-template}
@@ -30,7 +30,7 @@ use Rattle.sx_fresh_laws.proofs.Eachs.{each_both}
 use Rattle.sx_fresh_laws.proofs.Trees.{OkHolds}
 use Rattle.sx_reference_laws.specs.Namings.{namings, template_namings, item_namings}
 use Rattle.sx_reference_laws.specs.Noted.{Reference, named}
-use Rattle.sx_reference_laws.specs.Templates.{leaves, AreSome, no_more, taken, passed, leaves_of, HasIdentifier, LeavesHold, ConstantsHold, ItemConstantsHold, of_binding, of_label, of_leaf, is_escape, variables_in, variables_behind, element_variables, IsPatternVariable, IsTemplate}
+use Rattle.sx_reference_laws.specs.Templates.{leaves, AreSome, no_more, taken, passed, leaves_of, HasIdentifier, LeavesHold, ConstantsHold, ItemConstantsHold, of_binding, of_label, of_leaf, is_escape, variables_in, variables_behind, element_variables, IsPatternVariable, IsTemplateOf}
 
 pub named-joined : (xs ys : List Reference) → named (xs ++ ys) ≡ named xs ++ named ys
 named-joined [] ys = refl
@@ -317,7 +317,7 @@ module _ (s : State) (place : Span) (level : ℕ) where
   ellipsis-none (tree.vector p d) e = absurd (true≢false (sym e))
 
 module _ (s : State) (place : Span) (level : ℕ) (root : Tree) where
-  abbrev c : Context
+  abbrev c : TemplateScope
   c = record { frames = s.frames; bindings = s.bindings; level = level; place = place }
 
   abbrev Q : List ℕ → LeafContext → Type 0
@@ -427,10 +427,10 @@ module _ (s : State) (place : Span) (level : ℕ) (root : Tree) where
   form-names : (t : Tree) → In t → Names [] (constant_of t) × (LeavesHold Q t × Unit {0})
   form-names t h = ((refl, unspanned-so Q t (leaves-so t h)), (leaves-so t h, tt))
 
-  abbrev IsElement : Element → Type 0
+  abbrev IsElement : TemplateElement → Type 0
   IsElement x = (escaped : Bool) (under : ℕ) → OkHolds (MadeNames (refs_in escaped x.0)) (x.1 escaped under)
 
-  abbrev all_refs : Bool → List Element → List Reference
+  abbrev all_refs : Bool → List TemplateElement → List Reference
   all_refs escaped [] = []
   all_refs escaped (x ∷ xs) = refs_in escaped x.0 ++ all_refs escaped xs
 
@@ -454,12 +454,12 @@ module _ (s : State) (place : Span) (level : ℕ) (root : Tree) where
   elements-refs escaped (tree.vector p d) = refl
 
   -- so many of the next elements are ellipses
-  abbrev Skips : Bool → ℕ → List Element → Type 0
+  abbrev Skips : Bool → ℕ → List TemplateElement → Type 0
   Skips escaped zero xs = Unit {0}
   Skips escaped (suc n) [] = Unit {0}
   Skips escaped (suc n) (x ∷ xs) = (refs_in escaped x.0 ≡ []) × Skips escaped n xs
 
-  dots-skip : (xs : List Element) → Skips false (length (dots s.frames xs)) xs
+  dots-skip : (xs : List TemplateElement) → Skips false (length (dots s.frames xs)) xs
   dots-skip [] = tt
   dots-skip (x ∷ xs) = by (is_ellipsis s.frames x.0) refl (dots-skip xs)
     where
@@ -467,7 +467,7 @@ module _ (s : State) (place : Span) (level : ℕ) (root : Tree) where
       by true e h = (ellipsis-none s place level x.0 e, h)
       by false e h = tt
 
-  behind-skip : (escaped : Bool) (xs : List Element) → Skips escaped (length (dots_behind s.frames escaped xs)) xs
+  behind-skip : (escaped : Bool) (xs : List TemplateElement) → Skips escaped (length (dots_behind s.frames escaped xs)) xs
   behind-skip true xs = tt
   behind-skip false xs = dots-skip xs
 
@@ -503,19 +503,19 @@ module _ (s : State) (place : Span) (level : ℕ) (root : Tree) where
       by None = h
       by (Some x) = tt
 
-  item-names : (escaped : Bool) (under : ℕ) (x : Element) (es : List Tree) → IsElement x → OkHolds (ItemNames (refs_in escaped x.0)) (item_made c escaped under x es)
+  item-names : (escaped : Bool) (under : ℕ) (x : TemplateElement) (es : List Tree) → IsElement x → OkHolds (ItemNames (refs_in escaped x.0)) (item_made c escaped under x es)
   item-names escaped under x es one =
       good-then (MadeNames (refs_in escaped x.0)) (ItemNames (refs_in escaped x.0)) (x.1 escaped (under + length es)) (fitted place es) (one escaped (under + length es)) (λ m h. fitted-names (refs_in escaped x.0) es m h)
 
   -- an element is taken with the ellipses behind it
-  step-names : (refs : List Reference) (escaped : Bool) (under : ℕ) (x : Element) (xs : List Element) (is : List MadeItem) → IsElement x → AllNames refs is
+  step-names : (refs : List Reference) (escaped : Bool) (under : ℕ) (x : TemplateElement) (xs : List TemplateElement) (is : List MadeItem) → IsElement x → AllNames refs is
       → OkHolds (λ (w : Walked). AllNames (refs ++ refs_in escaped x.0) w.1 × Skips escaped w.0 xs) (step c escaped under zero x (dots_behind s.frames escaped xs) is)
   step-names refs escaped under x xs is one h =
       let es = dots_behind s.frames escaped xs in
       good-then (ItemNames (refs_in escaped x.0)) (λ (w : Walked). AllNames (refs ++ refs_in escaped x.0) w.1 × Skips escaped w.0 xs) (item_made c escaped under x es) (λ i. Ok (length es, is ++ i ∷ [])) (item-names escaped under x es one)
       (λ i k. (more-names refs (refs_in escaped x.0) is i h k, behind-skip escaped xs))
 
-  walked-names : (refs : List Reference) (escaped : Bool) (under skips : ℕ) (is : List MadeItem) (xs : List Element) → Each IsElement xs → Skips escaped skips xs → AllNames refs is → OkHolds (AllNames (refs ++ all_refs escaped xs)) (walked c escaped under skips is xs)
+  walked-names : (refs : List Reference) (escaped : Bool) (under skips : ℕ) (is : List MadeItem) (xs : List TemplateElement) → Each IsElement xs → Skips escaped skips xs → AllNames refs is → OkHolds (AllNames (refs ++ all_refs escaped xs)) (walked c escaped under skips is xs)
   walked-names refs escaped under skips is [] all k h = subst (λ (rs : List Reference). AllNames rs is) (sym (append-nil refs)) h
   walked-names refs escaped under (suc skips) is (x ∷ xs) all k h =
       subst (λ (rs : List Reference). OkHolds (AllNames (refs ++ (rs ++ all_refs escaped xs))) (walked c escaped under skips is xs)) (sym k.0) (walked-names refs escaped under skips is xs all.1 k.1 h)
@@ -524,13 +524,13 @@ module _ (s : State) (place : Span) (level : ℕ) (root : Tree) where
       (step-names refs escaped under x xs is all.0 h)
       (λ w j. subst (λ (rs : List Reference). OkHolds (AllNames rs) (walked c escaped under w.0 w.1 xs)) (append_assoc refs (refs_in escaped x.0) (all_refs escaped xs)) (walked-names (refs ++ refs_in escaped x.0) escaped under w.0 w.1 xs all.1 j.1 j.0))
 
-  parts-names : (last : List Reference) (escaped : Bool) (t : Tree) (xs : List Element) (tail : Bool → ℕ → Result Made Fault) (under : ℕ) → In t → Each IsElement xs → OkHolds (MadeNames last) (tail escaped under) → OkHolds (MadeNames (all_refs escaped xs ++ last)) (list_parts c escaped t xs tail under)
+  parts-names : (last : List Reference) (escaped : Bool) (t : Tree) (xs : List TemplateElement) (tail : Bool → ℕ → Result Made Fault) (under : ℕ) → In t → Each IsElement xs → OkHolds (MadeNames last) (tail escaped under) → OkHolds (MadeNames (all_refs escaped xs ++ last)) (list_parts c escaped t xs tail under)
   parts-names last escaped t xs tail under g all end =
       good-then (AllNames (all_refs escaped xs)) (MadeNames (all_refs escaped xs ++ last)) (walked c escaped under 0 [] xs) (λ items. tail escaped under >>= list_joined place t items) (walked-names [] escaped under 0 [] xs all tt no-names)
       (λ is h. good-then (MadeNames last) (MadeNames (all_refs escaped xs ++ last)) (tail escaped under) (list_joined place t is) end (λ m k. list-joins (all_refs escaped xs) last t is m g h k))
 
   -- what an ellipsis escapes has these identifiers, and else the parts have them
-  abbrev Escapes : List Reference → List Reference → Option Element → Type 0
+  abbrev Escapes : List Reference → List Reference → Option TemplateElement → Type 0
   Escapes parts refs None = parts ≡ refs
   Escapes parts refs (Some y) = IsElement y × (refs_in true y.0 ≡ refs)
 
@@ -557,7 +557,7 @@ module _ (s : State) (place : Span) (level : ℕ) (root : Tree) where
   escape-is false p a (tree.pair q b (tree.pair r e f)) all =
       let d : Tree = tree.pair q b (tree.pair r e f) in append_assoc (refs_in false a) (all_refs false (elements_made c d)) (tail_refs false d) ∙ ap (λ rs. refs_in false a ++ rs) (list-refs false d)
 
-  list-made-names : (last refs : List Reference) (escaped : Bool) (t : Tree) (xs : List Element) (tail : Bool → ℕ → Result Made Fault) (under : ℕ) (o : Option Element) → In t → Each IsElement xs → OkHolds (MadeNames last) (tail escaped under) → Escapes (all_refs escaped xs ++ last) refs o
+  list-made-names : (last refs : List Reference) (escaped : Bool) (t : Tree) (xs : List TemplateElement) (tail : Bool → ℕ → Result Made Fault) (under : ℕ) (o : Option TemplateElement) → In t → Each IsElement xs → OkHolds (MadeNames last) (tail escaped under) → Escapes (all_refs escaped xs ++ last) refs o
       → OkHolds (MadeNames refs) (list_made c escaped t xs tail under o)
   list-made-names last refs escaped t xs tail under None g all end esc = subst (λ (rs : List Reference). OkHolds (MadeNames rs) (list_parts c escaped t xs tail under)) esc (parts-names last escaped t xs tail under g all end)
   list-made-names last refs escaped t xs tail under (Some y) g all end esc =
@@ -576,7 +576,7 @@ module _ (s : State) (place : Span) (level : ℕ) (root : Tree) where
     template-names (tree.atom p a) g escaped under = ((refl, tt), (tt, tt))
     template-names (tree.leaf p x k) g escaped under = leaf-names escaped x (tree.leaf p x k) under g
     template-names (tree.pair p a d) g escaped under =
-        let xs : List Element = (a, template c a) ∷ elements_made c d in
+        let xs : List TemplateElement = (a, template c a) ∷ elements_made c d in
         let all : Each IsElement xs = ((λ e n. template-names a (λ x k i. g x k (inl i)) e n), elements-names d (λ x k i. g x k (inr i))) in
         list-made-names (tail_refs escaped d) (refs_in escaped (tree.pair p a d)) escaped (tree.pair p a d) xs (tail_made c d) under (escape_of s.frames escaped xs (is_nil (tail_of d))) g all
         (tail-names d (λ x k i. g x k (inr i)) escaped under) (escape-is escaped p a d all)
@@ -599,7 +599,7 @@ module _ (s : State) (place : Span) (level : ℕ) (root : Tree) where
 
 -- the template of a form, and the state stays
 abbrev pub TemplateNames : Span → ℕ → Tree → State → PlainTemplate → State → Type 0
-TemplateNames place level t s x u = (u ≡ s) × ((refs : List Reference) × IsTemplate s place level t x refs)
+TemplateNames place level t s x u = (u ≡ s) × ((refs : List Reference) × IsTemplateOf s place level t x refs)
 
 pub template-of-names : (place : Span) (level : ℕ) (t : Tree) (s : State) → Gave (TemplateNames place level t s) (patterns.template_of place level t s)
 unfolding patterns.template_of

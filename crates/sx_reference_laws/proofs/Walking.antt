@@ -17,7 +17,7 @@ use Rattle.sx_core.specs.CoreView.{inits, cases, clauses, clause_on}
 use Rattle.sx_core.specs.declared.code.Clause.{Clause}
 use Rattle.sx_core.specs.declared.code.Init.{Init}
 use Rattle.sx_core.specs.declared.code.Lambda.{Lambda}
-use Rattle.sx_core.specs.declared.record.LibRecord.{LibRecord}
+use Rattle.sx_core.specs.declared.record.CompiledLibrary.{CompiledLibrary}
 use Rattle.sx_core.specs.declared.record.Line.{Line}
 use Rattle.sx_core.specs.declared.record.Line.TheVariants as line
 use Rattle.sx_shapes.specs.At.{place_of}
@@ -30,7 +30,7 @@ use Rattle.sx_standing.specs.Binders.{bind_specs, bind_formals}
 use Rattle.sx_standing.specs.InScope.{cut, restoring, apart}
 use Rattle.sx_standing.specs.Patterns.{pattern_of, bind_pattern}
 use Rattle.sx_standing.specs.State.{State, Does, fresh, fresh_frame}
-use Rattle.sx_standing.specs.Uses.{bind_keywords, finish_keyword}
+use Rattle.sx_standing.specs.Uses.{bind_keywords, evaluate_transformer}
 use Rattle.sx_standing.specs.declared.binders.BoundSpec.{BoundSpec}
 use Rattle.sx_heads.specs.Items.{begun}
 use Rattle.sx_heads.specs.Depth.{deeper}
@@ -47,7 +47,7 @@ use Rattle.sx_expand.specs.Body.{splice, no_value, value_of, finish_as, finish_o
 use Rattle.sx_expand.specs.Expression.{in_order, case_in, lambda_case, one_case, all_cases, one_init, all_inits, letrec_in, letrec_form, fender, clause_in, pattern_clause, all_clauses, inside}
 use Rattle.sx_expand.specs.Inside.{Inside}
 use Rattle.sx_expand.specs.Keywords as keywords
-use Rattle.sx_expand.specs.Keywords.{seen_in, keyword_in, all_keywords, with_keywords}
+use Rattle.sx_expand.specs.Keywords.{seen_in, expand_transformer_in, expand_transformers, with_keywords}
 use Rattle.sx_expand.proofs.Steps.{earlier_inside}
 use Rattle.sx_expand_laws.specs.States.{Later}
 use Rattle.sx_expand_laws.proofs.Acts.{Gave, gave-both, gave-after, gave-less, gave-if, gave-within, told, each-nil, each-cons}
@@ -61,17 +61,17 @@ use Rattle.sx_fresh_expansion_laws.specs.Events.{HasKnownEvents}
 use Rattle.sx_fresh_expansion_laws.specs.Forms.{WaitsHold, TakenHolds}
 use Rattle.sx_fresh_expansion_laws.specs.Known.{IsKnown, IsKnownFrame, IsNewAmong}
 use Rattle.sx_fresh_expansion_laws.specs.Living.{Lives}
-use Rattle.sx_fresh_expansion_laws.specs.States.{RecordsHold, StateHolds}
+use Rattle.sx_fresh_expansion_laws.specs.States.{RecordsHold, FreshStateHolds}
 use Rattle.sx_fresh_expansion_laws.proofs.Changing.{stamp-holds, stamps-hold}
 use Rattle.sx_fresh_expansion_laws.proofs.Forms as forms
 use Rattle.sx_fresh_expansion_laws.proofs.Items as items
-use Rattle.sx_fresh_expansion_laws.proofs.Settled.{inside-keeps}
+use Rattle.sx_fresh_expansion_laws.proofs.PlannedForm.{inside-keeps}
 use Rattle.sx_fresh_expansion_laws.proofs.Shapes.{FormalsHold, LambdaHolds, PatternCaseHolds}
 use Rattle.sx_fresh_expansion_laws.proofs.Standing as standing
-use Rattle.sx_reference_laws.specs.Expands.{counted, Expands, Performs, binds_all, Expand, none, more, Binds, binds_formals, Bind, no_case, case, Starts, starts_with, Start, no_init, init}
-use Rattle.sx_reference_laws.specs.Expands.{Matches, matches_pattern, Match, no_clause, clause, Asks, asks_nothing, asks_first, IsBody, is_body, Finish, no_line, next_line, Ends, declares, defines, defines_procedure, is_expression}
-use Rattle.sx_reference_laws.specs.Expands.{Means, means, Mean, no_keyword, keyword, BindsKeywords, binds_keywords, Takes, Take, none_taken, more_taken}
-use Rattle.sx_reference_laws.specs.Noted.{Reference, Expression, Noted, nothing, both, Told, lines, if_definition, if_expression, of_definitions, of_expressions, of_lines, of_body, named, IsExpression}
+use Rattle.sx_reference_laws.specs.Expands.{counted, Expands, Performs, binds_all, Expand, none, more, CaseBinds, binds_formals, ExpandedBind, no_case, case, Starts, starts_with, ExpansionStart, no_init, init}
+use Rattle.sx_reference_laws.specs.Expands.{ExpandsClause, matches_pattern, Match, no_clause, clause, Asks, asks_nothing, asks_first, IsBody, is_body, Finish, no_line, next_line, Ends, declares, defines, defines_procedure, is_expression}
+use Rattle.sx_reference_laws.specs.Expands.{KeywordMeans, means, Mean, no_keyword, keyword, BindsKeywords, binds_keywords, TakesForm, Take, none_taken, more_taken}
+use Rattle.sx_reference_laws.specs.Noted.{Reference, KeywordExpression, Noted, nothing, both, NotedLine, lines, if_definition, if_expression, of_definitions, of_expressions, of_lines, of_body, named, IsExpression}
 use Rattle.sx_reference_laws.specs.Namings.{Naming, namings, all_namings, init_namings, case_namings, clause_namings}
 use Rattle.sx_reference_laws.specs.Whole.{KeepsOnly}
 use Rattle.sx_reference_laws.proofs.Staying as staying
@@ -139,14 +139,14 @@ module _ (libs : List LibName) (own : LibName) (core : Among libs library.Core) 
   abbrev Made : (Noted → Type 0) → List Naming → State → State → Type 0
   Made R m s u = staying.Made libs own core new R m s u
 
-  abbrev Bound : (List Expression → Type 0) → State → State → Type 0
+  abbrev Bound : (List KeywordExpression → Type 0) → State → State → Type 0
   Bound R s u = staying.Bound libs own core new R s u
 
   -- a line, and its references
-  abbrev pub TellsLine : State → Told → Type 0
+  abbrev pub TellsLine : State → NotedLine → Type 0
   TellsLine u x = (line-said x.line ≡ named x.noted.references) × Each (Kept u) x.noted.references
 
-  module _ (rs : List LibRecord) where
+  module _ (rs : List CompiledLibrary) where
     -- What is told of what forms come to.
 
     abbrev pub FormMade : Span → ℕ → Tree → State → PlainCore → State → Type 0
@@ -156,7 +156,7 @@ module _ (libs : List LibName) (own : LibName) (core : Among libs library.Core) 
     FormsMade place level ts s cs u = Made (λ refs. Expand rs place level ts s cs u refs) (all_namings (cores cs)) s u
 
     abbrev pub CaseMade : Span → ℕ → Tree → FormalIds → List Tree → State → Lambda → State → Type 0
-    CaseMade place level t ids forms s c u = Made (λ refs. Binds rs place level t ids forms s c u refs) (namings c.body) s u
+    CaseMade place level t ids forms s c u = Made (λ refs. CaseBinds rs place level t ids forms s c u refs) (namings c.body) s u
 
     abbrev pub BodyMade : Span → ℕ → Tree → List Tree → State → PlainCore → State → Type 0
     BodyMade place level t forms s c u = Made (λ refs. IsBody rs place level t forms s c u refs) (namings c) s u
@@ -165,11 +165,11 @@ module _ (libs : List LibName) (own : LibName) (core : Among libs library.Core) 
     InitMade place level f b s i u = Made (λ refs. Starts rs place level f b s i u refs) (namings i.value) s u
 
     abbrev ClauseMade : Span → ℕ → List Tree → PatternCase → State → Clause → State → Type 0
-    ClauseMade place level literals x s c u = Made (λ refs. Matches rs place level literals x s c u refs) (clause-said c) s u
+    ClauseMade place level literals x s c u = Made (λ refs. ExpandsClause rs place level literals x s c u refs) (clause-said c) s u
 
     -- the lines of a body, with what is noted of each
     pub record LinesMade (level : ℕ) (ws : List Waiting) (s : State) (ls : List Line) (u : State) : Type 0 where
-      pub told : List Told
+      pub told : List NotedLine
       pub lines : lines told ≡ ls
       pub ends : Finish rs level ws s told u
       pub right : Each (TellsLine u) told
@@ -181,19 +181,19 @@ module _ (libs : List LibName) (own : LibName) (core : Among libs library.Core) 
 
     -- of the first pass over a form, and over forms
     abbrev pub TakesMade : BodyAt → ℕ → Taken → Tree → State → Taken → State → Type 0
-    TakesMade at depth d t s e u = Bound (λ es. Takes rs at depth d t s e u es) s u
+    TakesMade at depth d t s e u = Bound (λ es. TakesForm rs at depth d t s e u es) s u
 
     abbrev pub TakeMade : BodyAt → ℕ → Taken → List Tree → State → Taken → State → Type 0
     TakeMade at depth d ts s e u = Bound (λ es. Take rs at depth d ts s e u es) s u
 
     module _ (first : ℕ) (held : RecordsHold (P first) rs) (room : ℕ) where
       abbrev F : State → Type 0
-      F s = StateHolds own K P first s
+      F s = FreshStateHolds own K P first s
 
       abbrev go : Inside
       go = inside rs room
 
-      pub keeps : forms.Keeps own K J P lives first go
+      pub keeps : forms.KeepsFresh own K J P lives first go
       keeps = inside-keeps own K J P lives first rs room held
 
       moves : Moves own go
@@ -208,7 +208,7 @@ module _ (libs : List LibName) (own : LibName) (core : Among libs library.Core) 
       goes : (s u : State) → F s → Went s u → F u
       goes s u h w = staying.goes libs own core new first s u h w
 
-      from-to : (s u : State) → F s → StateHolds own K P s.names.number u → F u
+      from-to : (s u : State) → F s → FreshStateHolds own K P s.names.number u → F u
       from-to s u h k = standing.state-then own K J P lives first s u h k
 
       pub tree-up : (m n : ℕ) → m ≤ n → (t : Tree) → T m t → T n t
@@ -284,7 +284,7 @@ module _ (libs : List LibName) (own : LibName) (core : Among libs library.Core) 
             (traced.procedure place level (deeper depth) t ids fs (counted s) (counted-at s h) (items.formals-up own K J P lives first s.names.number (s.names.number + 1) (one-more s) ids k.1.0) (trees-up s.names.number (s.names.number + 1) (one-more s) fs k.1.1))
             (λ c u z.
             let code = procedure (record { 0 = s.names }) (cases (c ∷ [])) true in
-            staying.made-from libs own core new (λ refs. Binds rs place level t ids fs (counted s) c u refs) (λ refs. Ends rs level place (waits.Procedure l t ids fs) s (record { line = line.Define l code; noted = refs }) u)
+            staying.made-from libs own core new (λ refs. CaseBinds rs place level t ids fs (counted s) c u refs) (λ refs. Ends rs level place (waits.Procedure l t ids fs) s (record { line = line.Define l code; noted = refs }) u)
             (namings c.body) (namings code) s (counted s) u (told-self s) z (λ refs i. defines_procedure i) (append-nil (namings c.body)))
         line-made level place depth (waits.Expression t) s h k =
             gave-after (FormMade place level t s) (LineMade level (record { place = place; depth = depth; what = waits.Expression t }) s) (go.form place level depth t s) (λ c. give (line.Expr c)) (traced.form place level depth t s h k)
@@ -320,14 +320,14 @@ module _ (libs : List LibName) (own : LibName) (core : Among libs library.Core) 
         -- The expression of a keyword.
 
         abbrev MeansMade : Span → ℕ → BoundSpec → State → State → Type 0
-        MeansMade place level b s u = Bound (λ es. Means rs place level b s u es) s u
+        MeansMade place level b s u = Bound (λ es. KeywordMeans rs place level b s u es) s u
 
         means-kept : (place : Span) (level : ℕ) (b : BoundSpec) (s v : State) (c : PlainCore) → FormMade place (level + 1) b.init (record s { scope = [] }) c v
-            → Gave (λ x u. MeansMade place level b s u) (finish_keyword rs (place_of b.init place) b.label c (record v { scope = s.scope }))
+            → Gave (λ x u. MeansMade place level b s u) (evaluate_transformer rs (place_of b.init place) b.label c (record v { scope = s.scope }))
         means-kept place level b s v c h =
             let w : State = record v { scope = s.scope } in
-            let finished = finish_keyword rs (place_of b.init place) b.label c w in
-            let e : Expression = record { keyword = b.label; code = c; references = h.noted.references; state = v } in
+            let finished = evaluate_transformer rs (place_of b.init place) b.label c w in
+            let e : KeywordExpression = record { keyword = b.label; code = c; references = h.noted.references; state = v } in
             gave-less (λ x u. TellsBut b.label c w.keywords u.keywords × (finished ≡ Ok (x, u))) (λ x u. MeansMade place level b s u) finished
             (gave-both (λ x u. TellsBut b.label c w.keywords u.keywords) (λ x u. finished ≡ Ok (x, u)) finished (finish-told rs (place_of b.init place) b.label c w) (staying.gave-is finished))
             (λ x u q. record {
@@ -341,15 +341,15 @@ module _ (libs : List LibName) (own : LibName) (core : Among libs library.Core) 
             last ks refs l d (inl k) = inl k
             last ks refs l d (inr k) = inr (inl k)
 
-        pub means-made : (place : Span) (level depth : ℕ) (b : BoundSpec) (s : State) → F s → T s.names.number b.init → Gave (λ x u. MeansMade place level b s u) (keywords.keyword go place level depth b s)
-        unfolding keywords.keyword
+        pub means-made : (place : Span) (level depth : ℕ) (b : BoundSpec) (s : State) → F s → T s.names.number b.init → Gave (λ x u. MeansMade place level b s u) (keywords.expand_transformer go place level depth b s)
+        unfolding keywords.expand_transformer
         means-made place level depth b s h k =
             let z : State = record s { scope = [] } in
-            gave-after (λ c w. (v : State) × ((w ≡ record v { scope = s.scope }) × FormMade place (level + 1) b.init z c v)) (λ x u. MeansMade place level b s u) (apart (go.form place (level + 1) depth b.init) s) (finish_keyword go.earlier (place_of b.init place) b.label)
+            gave-after (λ c w. (v : State) × ((w ≡ record v { scope = s.scope }) × FormMade place (level + 1) b.init z c v)) (λ x u. MeansMade place level b s u) (apart (go.form place (level + 1) depth b.init) s) (evaluate_transformer go.earlier (place_of b.init place) b.label)
             (gave-after (FormMade place (level + 1) b.init z) (λ c w. (v : State) × ((w ≡ record v { scope = s.scope }) × FormMade place (level + 1) b.init z c v)) (go.form place (level + 1) depth b.init z) (restoring s.scope)
             (traced.form place (level + 1) depth b.init z (record { stage = h.stage; bindings = h.bindings }) k) (λ c v y. (v, (refl, y))))
-            (λ c w y. subst (λ (v : State). Gave (λ x u. MeansMade place level b s u) (finish_keyword go.earlier (place_of b.init place) b.label c v)) (sym y.1.0)
-            (subst (λ (es : List LibRecord). Gave (λ x u. MeansMade place level b s u) (finish_keyword es (place_of b.init place) b.label c (record y.0 { scope = s.scope }))) (sym (earlier_inside rs room))
+            (λ c w y. subst (λ (v : State). Gave (λ x u. MeansMade place level b s u) (evaluate_transformer go.earlier (place_of b.init place) b.label c v)) (sym y.1.0)
+            (subst (λ (es : List CompiledLibrary). Gave (λ x u. MeansMade place level b s u) (evaluate_transformer es (place_of b.init place) b.label c (record y.0 { scope = s.scope }))) (sym (earlier_inside rs room))
             (means-kept place level b s y.0 c y.1.1)))
 
         -- what was kept before, and then the expressions of these
@@ -361,17 +361,17 @@ module _ (libs : List LibName) (own : LibName) (core : Among libs library.Core) 
         seen-known false f b n h = h.0
 
         mean-made : (place : Span) (level depth : ℕ) (recursive : Bool) (f : FrameNo) (bs : List BoundSpec) (s : State) → F s → Each (InFrame f s.names.number) bs
-            → Gave (λ x u. Bound (λ es. Mean rs place level recursive f bs s u es) s u) (all_keywords go place level depth recursive f bs s)
+            → Gave (λ x u. Bound (λ es. Mean rs place level recursive f bs s u es) s u) (expand_transformers go place level depth recursive f bs s)
         unfolding gather
         mean-made place level depth recursive f [] s h k = staying.bound-none libs own core new (λ es. Mean rs place level recursive f [] s s es) s s no_keyword (told-self s)
         mean-made place level depth recursive f (b ∷ bs) s h k =
             let x : BoundSpec = seen_in recursive f b in
-            gave-after (λ e v. (StateHolds own K P s.names.number v × Unit {0}) × MeansMade place level x s v) (λ e u. Bound (λ es. Mean rs place level recursive f (b ∷ bs) s u es) s u) (keyword_in go place level depth recursive f tt b s) (λ e. gather (keyword_in go place level depth recursive f) e bs)
-            (staying.gave-and libs own core new first (λ n e. Unit {0}) (λ e v. MeansMade place level x s v) s (keywords.keyword go place level depth x s)
+            gave-after (λ e v. (FreshStateHolds own K P s.names.number v × Unit {0}) × MeansMade place level x s v) (λ e u. Bound (λ es. Mean rs place level recursive f (b ∷ bs) s u es) s u) (expand_transformer_in go place level depth recursive f tt b s) (λ e. gather (expand_transformer_in go place level depth recursive f) e bs)
+            (staying.gave-and libs own core new first (λ n e. Unit {0}) (λ e v. MeansMade place level x s v) s (keywords.expand_transformer go place level depth x s)
             (forms.keyword-holds own K J P lives first go keeps place level depth x s h (seen-known recursive f b s.names.number k.0)) (means-made place level depth x s h (seen-known recursive f b s.names.number k.0)))
-            (λ e v z. gave-less (λ d u. Bound (λ es. Mean rs place level recursive f bs v u es) v u) (λ d u. Bound (λ es. Mean rs place level recursive f (b ∷ bs) s u es) s u) (all_keywords go place level depth recursive f bs v)
+            (λ e v z. gave-less (λ d u. Bound (λ es. Mean rs place level recursive f bs v u es) v u) (λ d u. Bound (λ es. Mean rs place level recursive f (b ∷ bs) s u es) s u) (expand_transformers go place level depth recursive f bs v)
             (mean-made place level depth recursive f bs v (from-to s v h z.0.0) (each_mapped (InFrame f s.names.number) (InFrame f v.names.number) (forms.bound-in-up own K J P lives first f s.names.number v.names.number z.0.0.stage.up) bs k.1))
-            (λ d u y. staying.bound-joined libs own core new (λ es. Means rs place level x s v es) (λ es. Mean rs place level recursive f bs v u es) (λ es. Mean rs place level recursive f (b ∷ bs) s u es) s v u z.1 y (λ es others i j. keyword i j)))
+            (λ d u y. staying.bound-joined libs own core new (λ es. KeywordMeans rs place level x s v es) (λ es. Mean rs place level recursive f bs v u es) (λ es. Mean rs place level recursive f (b ∷ bs) s u es) s v u z.1 y (λ es others i j. keyword i j)))
 
         -- keywords, with the forms in which they stand
         abbrev KeywordsMade : Span → ℕ → Bool → List BindingSpec → List Tree → State → List Tree → State → Type 0
@@ -384,12 +384,12 @@ module _ (libs : List LibName) (own : LibName) (core : Among libs library.Core) 
             let hs = counted-at s h in
             let bound = bind_keywords f place level bs (counted s) in
             gave-after (λ x u. KeywordsMade place level recursive bs fs s (map (stamp f) fs) u) (KeywordsMade place level recursive bs fs s) (keywords.keywords go place level depth recursive bs f (counted s)) (λ _. give (map (stamp f) fs))
-            (gave-after (λ xs v. ((StateHolds own K P (counted s).names.number v × Each (standing.BoundHolds own K J P lives first v.names.number) xs) × (bound ≡ Ok (xs, v))) × Tells (counted s).keywords v.keywords) (λ x u. KeywordsMade place level recursive bs fs s (map (stamp f) fs) u) bound (all_keywords go place level depth recursive f)
-            (gave-both (λ xs v. (StateHolds own K P (counted s).names.number v × Each (standing.BoundHolds own K J P lives first v.names.number) xs) × (bound ≡ Ok (xs, v))) (λ xs v. Tells (counted s).keywords v.keywords) bound
+            (gave-after (λ xs v. ((FreshStateHolds own K P (counted s).names.number v × Each (standing.BoundHolds own K J P lives first v.names.number) xs) × (bound ≡ Ok (xs, v))) × Tells (counted s).keywords v.keywords) (λ x u. KeywordsMade place level recursive bs fs s (map (stamp f) fs) u) bound (expand_transformers go place level depth recursive f)
+            (gave-both (λ xs v. (FreshStateHolds own K P (counted s).names.number v × Each (standing.BoundHolds own K J P lives first v.names.number) xs) × (bound ≡ Ok (xs, v))) (λ xs v. Tells (counted s).keywords v.keywords) bound
             (staying.gave-from libs own core new first (λ n xs. Each (standing.BoundHolds own K J P lives first n) xs) (counted s) bound
             (standing.bind-keywords-holds own K J P lives first f place level bs (counted s) hs (each_mapped (standing.SpecAt own K J P lives first s.names.number) (standing.SpecAt own K J P lives first (s.names.number + 1)) (standing.spec-up own K J P lives first s.names.number (s.names.number + 1) (one-more s)) bs k)))
             (keywords-told f place level bs (counted s)))
-            (λ xs v z. gave-less (λ x u. Bound (λ es. Mean rs place level recursive f xs v u es) v u) (λ x u. KeywordsMade place level recursive bs fs s (map (stamp f) fs) u) (all_keywords go place level depth recursive f xs v)
+            (λ xs v z. gave-less (λ x u. Bound (λ es. Mean rs place level recursive f xs v u es) v u) (λ x u. KeywordsMade place level recursive bs fs s (map (stamp f) fs) u) (expand_transformers go place level depth recursive f xs v)
             (mean-made place level depth recursive f xs v (from-to (counted s) v hs z.0.0.0)
             (forms.all-bound-in own K J P lives first f v.names.number xs z.0.0.1 (lives.frames (s.names.number + 1) v.names.number f z.0.0.0.stage.up (standing.frame-made own K J P lives first s h))))
             (λ x u y. staying.bound-from libs own core new (λ es. Mean rs place level recursive f xs v u es) (λ es. BindsKeywords rs place level recursive bs fs s (map (stamp f) fs) u es) s v u z.1 y (λ es i. binds_keywords z.0.1 i))))
@@ -404,15 +404,15 @@ module _ (libs : List LibName) (own : LibName) (core : Among libs library.Core) 
         unfolding gather
         take-made at depth d [] s h k g q = staying.bound-none libs own core new (λ es. Take rs at depth d [] s d s es) s s none_taken (told-self s)
         take-made at depth d (t ∷ ts) s h k g q =
-            gave-after (λ e v. (StateHolds own K P s.names.number v × TakenAt v.names.number e) × TakesMade at depth d t s e v) (TakeMade at depth d (t ∷ ts) s) (go.item at depth d t s) (λ e. gather (go.item at depth) e ts)
+            gave-after (λ e v. (FreshStateHolds own K P s.names.number v × TakenAt v.names.number e) × TakesMade at depth d t s e v) (TakeMade at depth d (t ∷ ts) s) (go.item at depth d t s) (λ e. gather (go.item at depth) e ts)
             (staying.gave-and libs own core new first TakenAt (TakesMade at depth d t s) s (go.item at depth d t s) (keeps.item at depth d t s h k g.0 q) (traced.item at depth d t s h k g.0 q))
             (λ e v z. gave-less (TakeMade at depth e ts v) (TakeMade at depth d (t ∷ ts) s) (splice go at depth e ts v)
             (take-made at depth e ts v (from-to s v h z.0.0) z.0.1 (trees-up s.names.number v.names.number z.0.0.stage.up ts g.1) (lives.frames s.names.number v.names.number at.frame z.0.0.stage.up q))
-            (λ x u y. staying.bound-joined libs own core new (λ es. Takes rs at depth d t s e v es) (λ es. Take rs at depth e ts v x u es) (λ es. Take rs at depth d (t ∷ ts) s x u es) s v u z.1 y (λ es others i j. more_taken i j)))
+            (λ x u y. staying.bound-joined libs own core new (λ es. TakesForm rs at depth d t s e v es) (λ es. Take rs at depth e ts v x u es) (λ es. Take rs at depth d (t ∷ ts) s x u es) s v u z.1 y (λ es others i j. more_taken i j)))
 
         -- Bodies.
 
-        definitions-said : (xs : List Told) (u : State) → Each (TellsLine u) xs → init_namings (inits (inits_in (lines xs))) ≡ named (of_definitions xs)
+        definitions-said : (xs : List NotedLine) (u : State) → Each (TellsLine u) xs → init_namings (inits (inits_in (lines xs))) ≡ named (of_definitions xs)
         definitions-said [] u h = refl
         definitions-said (x ∷ xs) u h = by x.line h.0.0 (definitions-said xs u h.1) ∙ sym (named-joined (if_definition x.line x.noted.references) (of_definitions xs))
           where
@@ -420,7 +420,7 @@ module _ (libs : List LibName) (own : LibName) (core : Among libs library.Core) 
             by (line.Define l c) e others = λ i. e i ++ others i
             by (line.Expr c) e others = others
 
-        expressions-said : (xs : List Told) (u : State) → Each (TellsLine u) xs → all_namings (cores (values_in (lines xs))) ≡ named (of_expressions xs)
+        expressions-said : (xs : List NotedLine) (u : State) → Each (TellsLine u) xs → all_namings (cores (values_in (lines xs))) ≡ named (of_expressions xs)
         expressions-said [] u h = refl
         expressions-said (x ∷ xs) u h = by x.line h.0.0 (expressions-said xs u h.1) ∙ sym (named-joined (if_expression x.line x.noted.references) (of_expressions xs))
           where
@@ -428,13 +428,13 @@ module _ (libs : List LibName) (own : LibName) (core : Among libs library.Core) 
             by (line.Define l c) e others = others
             by (line.Expr c) e others = λ i. e i ++ others i
 
-        body-said : (xs : List Told) (u : State) → Each (TellsLine u) xs → namings (body_core (lines xs)) ≡ named (of_definitions xs ++ of_expressions xs)
+        body-said : (xs : List NotedLine) (u : State) → Each (TellsLine u) xs → namings (body_core (lines xs)) ≡ named (of_definitions xs ++ of_expressions xs)
         body-said xs u h =
             with-inits-said (inits_in (lines xs)) (sequence_of (values_in (lines xs)))
             ∙ (λ i. definitions-said xs u h i ++ (sequence-said (values_in (lines xs)) ∙ expressions-said xs u h) i)
             ∙ sym (named-joined (of_definitions xs) (of_expressions xs))
 
-        definitions-kept : (xs : List Told) (u : State) → Each (TellsLine u) xs → Each (Kept u) (of_definitions xs)
+        definitions-kept : (xs : List NotedLine) (u : State) → Each (TellsLine u) xs → Each (Kept u) (of_definitions xs)
         definitions-kept [] u h = tt
         definitions-kept (x ∷ xs) u h = each_both (Kept u) (if_definition x.line x.noted.references) (of_definitions xs) (by x.line) (definitions-kept xs u h.1)
           where
@@ -442,7 +442,7 @@ module _ (libs : List LibName) (own : LibName) (core : Among libs library.Core) 
             by (line.Define l c) = h.0.1
             by (line.Expr c) = tt
 
-        expressions-kept : (xs : List Told) (u : State) → Each (TellsLine u) xs → Each (Kept u) (of_expressions xs)
+        expressions-kept : (xs : List NotedLine) (u : State) → Each (TellsLine u) xs → Each (Kept u) (of_expressions xs)
         expressions-kept [] u h = tt
         expressions-kept (x ∷ xs) u h = each_both (Kept u) (if_expression x.line x.noted.references) (of_expressions xs) (by x.line) (expressions-kept xs u h.1)
           where
@@ -471,7 +471,7 @@ module _ (libs : List LibName) (own : LibName) (core : Among libs library.Core) 
             let at = lambda_at f place level in
             let pass = splice go at depth begun (map (stamp f) fs) (counted s) in
             gave-within (BodyMade place level t fs s) (λ v. after (fresh_frame v) (body_in go place level depth t fs)) s
-            (gave-after (λ d v. (StateHolds own K P (counted s).names.number v × TakenHolds (P v.names.number) d) × TakeMade at depth begun (map (stamp f) fs) (counted s) d v) (λ c u. BodyMade place level t fs s c (cut n u)) pass (finish go place level t)
+            (gave-after (λ d v. (FreshStateHolds own K P (counted s).names.number v × TakenHolds (P v.names.number) d) × TakeMade at depth begun (map (stamp f) fs) (counted s) d v) (λ c u. BodyMade place level t fs s c (cut n u)) pass (finish go place level t)
             (staying.gave-and libs own core new first (λ n d. TakenHolds (P n) d) (TakeMade at depth begun (map (stamp f) fs) (counted s)) (counted s) pass (forms.splice-holds own K J P lives first go keeps at depth begun (map (stamp f) fs) (counted s) hs tt all made)
             (take-made at depth begun (map (stamp f) fs) (counted s) hs tt all made))
             (λ d v z. gave-less (FinishMade level d v) (λ c u. BodyMade place level t fs s c (cut n u)) (finish go place level t d v) (finish-made place level t d v (from-to (counted s) v hs z.0.0) z.0.1)
@@ -500,18 +500,18 @@ module _ (libs : List LibName) (own : LibName) (core : Among libs library.Core) 
             let hs = counted-at s h in
             let bound = bind_formals f place level ids (counted s) in
             gave-within (CaseMade place level t ids fs s) (λ v. after (fresh_frame v) (case_in go place level depth t ids fs)) s
-            (gave-after (λ x v. (StateHolds own K P (counted s).names.number v × Unit {0}) × (bound ≡ Ok (x, v))) (λ c u. CaseMade place level t ids fs s c (cut n u)) bound (λ x v. after (body go place level depth t (map (stamp f) fs) v) (λ c. give (record { formals = x; body = c })))
+            (gave-after (λ x v. (FreshStateHolds own K P (counted s).names.number v × Unit {0}) × (bound ≡ Ok (x, v))) (λ c u. CaseMade place level t ids fs s c (cut n u)) bound (λ x v. after (body go place level depth t (map (stamp f) fs) v) (λ c. give (record { formals = x; body = c })))
             (staying.gave-from libs own core new first (λ n x. Unit {0}) (counted s) bound (standing.bind-formals-holds own K J P lives first f place level ids (counted s) hs (items.formals-up own K J P lives first s.names.number (s.names.number + 1) (one-more s) ids k)))
             (λ x v z. gave-after (BodyMade place level t (map (stamp f) fs) v) (λ c u. CaseMade place level t ids fs s c (cut n u)) (body go place level depth t (map (stamp f) fs) v) (λ c. give (record { formals = x; body = c }))
             (body-made place level depth t (map (stamp f) fs) v (from-to (counted s) v hs z.0.0)
             (stamps-hold own K J P lives v.names.number f fs (lives.frames (s.names.number + 1) v.names.number f z.0.0.stage.up (standing.frame-made own K J P lives first s h)) (trees-up s.names.number v.names.number (let up : s.names.number + 1 ≤ v.names.number = z.0.0.stage.up in omega (arith, up)) fs g)))
             (λ c u y.
-            let Case : Noted → Type 0 = λ refs. Binds rs place level t ids fs s (record { formals = x; body = c }) (cut n u) refs in
+            let Case : Noted → Type 0 = λ refs. CaseBinds rs place level t ids fs s (record { formals = x; body = c }) (cut n u) refs in
             staying.made-cut libs own core new Case Case (namings c) n s u
             (staying.made-from libs own core new (λ refs. IsBody rs place level t (map (stamp f) fs) v c u refs) Case (namings c) (namings c) s v u (told-by (counted s) v bound x (formals-same f place level ids (counted s)) z.1) y (λ refs i. binds_formals z.1 i) refl) (λ refs i. i))))
 
         abbrev Case : Span → ℕ → Tree → LambdaCase → State → Lambda → State → Noted → Type 0
-        Case place level t x s c u refs = Binds rs place level t x.formals x.body s c u refs
+        Case place level t x s c u refs = CaseBinds rs place level t x.formals x.body s c u refs
 
         case-went : (place : Span) (level depth : ℕ) (t : Tree) (x : LambdaCase) (s : State) → F s → LambdaHolds (P s.names.number) x → Gave (λ c u. Went s u × Made (Case place level t x s c u) (namings c.body) s u) (one_case go place level depth t x s)
         case-went place level depth t x s h k =
@@ -524,9 +524,9 @@ module _ (libs : List LibName) (own : LibName) (core : Among libs library.Core) 
         lambda-case-up m n le x h = (items.formals-up own K J P lives first m n le x.formals h.0, trees-up m n le x.body h.1)
 
         pub cases-went : (place : Span) (level depth : ℕ) (t : Tree) (xs : List LambdaCase) (s : State) → F s → Each (LambdaHolds (P s.names.number)) xs
-            → Gave (λ cs u. Went s u × Made (Bind rs place level t xs s cs u) (case_namings (cases cs)) s u) (all_cases go place level depth t xs s)
+            → Gave (λ cs u. Went s u × Made (ExpandedBind rs place level t xs s cs u) (case_namings (cases cs)) s u) (all_cases go place level depth t xs s)
         cases-went place level depth t xs s h k =
-            each-went (one_case go place level depth t) (λ n x. LambdaHolds (P n) x) lambda-case-up (Case place level t) (λ xs s cs u refs. Bind rs place level t xs s cs u refs) (λ (c : Lambda). namings c.body) (λ cs. case_namings (cases cs))
+            each-went (one_case go place level depth t) (λ n x. LambdaHolds (P n) x) lambda-case-up (Case place level t) (λ xs s cs u refs. ExpandedBind rs place level t xs s cs u refs) (λ (c : Lambda). namings c.body) (λ cs. case_namings (cases cs))
             (λ s. no_case) (λ x xs s v u c cs refs others i j. case i j) refl (λ c cs. refl) (λ x s h k. case-went place level depth t x s h k) xs s h k
 
         -- `letrec` and `letrec*`.
@@ -539,9 +539,9 @@ module _ (libs : List LibName) (own : LibName) (core : Among libs library.Core) 
             (λ c u z. (z.0, staying.made-so libs own core new (λ refs. Expands rs place level (stamp f b.init) s c u refs) (λ refs. Starts rs place level f b s (record { label = b.label; value = c }) u refs) (namings c) (namings c) s u z.1 (λ refs i. starts_with i) refl))
 
         inits-went : (place : Span) (level depth : ℕ) (f : FrameNo) (bs : List BoundSpec) (s : State) → F s → Each (forms.BoundIn own K J P lives first f s.names.number) bs
-            → Gave (λ is u. Went s u × Made (Start rs place level f bs s is u) (init_namings (inits is)) s u) (all_inits go place level depth f bs s)
+            → Gave (λ is u. Went s u × Made (ExpansionStart rs place level f bs s is u) (init_namings (inits is)) s u) (all_inits go place level depth f bs s)
         inits-went place level depth f bs s h k =
-            each-went (one_init go place level depth f) (λ n b. forms.BoundIn own K J P lives first f n b) (forms.bound-in-up own K J P lives first f) (λ b s i u refs. Starts rs place level f b s i u refs) (λ bs s is u refs. Start rs place level f bs s is u refs)
+            each-went (one_init go place level depth f) (λ n b. forms.BoundIn own K J P lives first f n b) (forms.bound-in-up own K J P lives first f) (λ b s i u refs. Starts rs place level f b s i u refs) (λ bs s is u refs. ExpansionStart rs place level f bs s is u refs)
             (λ (i : Init). namings i.value) (λ is. init_namings (inits is)) (λ s. no_init) (λ b bs s v u i is refs others x y. init x y) refl (λ i is. refl) (λ b s h k. init-went place level depth f b s h k) bs s h k
 
         pub letrec-made : (place : Span) (level depth : ℕ) (t : Tree) (star : Bool) (bs : List BindingSpec) (fs : List Tree) (s : State) → F s → Each (standing.SpecAt own K J P lives first s.names.number) bs → Ts s.names.number fs
@@ -556,13 +556,13 @@ module _ (libs : List LibName) (own : LibName) (core : Among libs library.Core) 
             let bound = bind_specs f place level bs (counted s) in
             let So : PlainCore → State → Type 0 = λ c u. PlanMade place level t (plans.Letrec star bs fs) s c (cut n u) in
             gave-within (PlanMade place level t (plans.Letrec star bs fs) s) (λ v. after (fresh_frame v) (letrec_in go place level depth t star bs fs)) s
-            (gave-after (λ ls v. (StateHolds own K P (counted s).names.number v × Each (standing.BoundHolds own K J P lives first v.names.number) ls) × (bound ≡ Ok (ls, v))) So bound _
+            (gave-after (λ ls v. (FreshStateHolds own K P (counted s).names.number v × Each (standing.BoundHolds own K J P lives first v.names.number) ls) × (bound ≡ Ok (ls, v))) So bound _
             (staying.gave-from libs own core new first (λ n ls. Each (standing.BoundHolds own K J P lives first n) ls) (counted s) bound
             (standing.bind-specs-holds own K J P lives first f place level bs (counted s) hs (each_mapped (standing.SpecAt own K J P lives first s.names.number) (standing.SpecAt own K J P lives first (s.names.number + 1)) (standing.spec-up own K J P lives first s.names.number (s.names.number + 1) one) bs k)))
             (λ ls v z.
             let hv = from-to (counted s) v hs z.0.0 in
             let up : s.names.number + 1 ≤ v.names.number = z.0.0.stage.up in
-            gave-after (λ is w. Went v w × Made (Start rs place level f ls v is w) (init_namings (inits is)) v w) So (all_inits go place level depth f ls v) _
+            gave-after (λ is w. Went v w × Made (ExpansionStart rs place level f ls v is w) (init_namings (inits is)) v w) So (all_inits go place level depth f ls v) _
             (inits-went place level depth f ls v hv (forms.all-bound-in own K J P lives first f v.names.number ls z.0.1 (lives.frames (s.names.number + 1) v.names.number f up made)))
             (λ is w y.
             let more-up = y.0.from.stage.up in
@@ -574,7 +574,7 @@ module _ (libs : List LibName) (own : LibName) (core : Among libs library.Core) 
             let m = init_namings (inits is) ++ namings c in
             staying.made-cut libs own core new All All m n s u
             (staying.made-from libs own core new All All m m s v u (told-by (counted s) v bound ls (specs-same f place level bs (counted s)) z.1)
-            (staying.made-joined libs own core new (Start rs place level f ls v is w) (λ refs. IsBody rs place level t (map (stamp f) fs) w c u refs) All
+            (staying.made-joined libs own core new (ExpansionStart rs place level f ls v is w) (λ refs. IsBody rs place level t (map (stamp f) fs) w c u refs) All
             (init_namings (inits is)) (namings c) v w u x.0 y.1 x.1 (λ refs others i j. binds_all z.1 i j)) (λ refs i. i) refl) (λ refs i. i)))))
 
         -- `syntax-case`.
@@ -598,14 +598,14 @@ module _ (libs : List LibName) (own : LibName) (core : Among libs library.Core) 
             let compiled = pattern_of literals place x.pattern (counted s) in
             let So : Clause → State → Type 0 = λ c u. ClauseMade place level literals x s c (cut n u) in
             gave-within (ClauseMade place level literals x s) (λ v. after (fresh_frame v) (clause_in go place level depth literals x)) s
-            (gave-after (λ p v. (StateHolds own K P (counted s).names.number v × standing.CompiledHolds own K J P lives first v.names.number p) × (compiled ≡ Ok (p, v))) So compiled _
+            (gave-after (λ p v. (FreshStateHolds own K P (counted s).names.number v × standing.CompiledHolds own K J P lives first v.names.number p) × (compiled ≡ Ok (p, v))) So compiled _
             (staying.gave-from libs own core new first (standing.CompiledHolds own K J P lives first) (counted s) compiled
             (standing.pattern-holds own K J P lives first literals place x.pattern (counted s) hs (tree-up s.names.number (s.names.number + 1) one x.pattern k.0)))
             (λ p v z.
             let hv = from-to (counted s) v hs z.0.0 in
             let up : s.names.number + 1 ≤ v.names.number = z.0.0.stage.up in
             let bound = bind_pattern f place level p.variables v in
-            gave-after (λ e w. (StateHolds own K P v.names.number w × Unit {0}) × (bound ≡ Ok (e, w))) So bound _
+            gave-after (λ e w. (FreshStateHolds own K P v.names.number w × Unit {0}) × (bound ≡ Ok (e, w))) So bound _
             (staying.gave-from libs own core new first (λ n e. Unit {0}) v bound (standing.bind-pattern-holds own K J P lives first f place level p.variables v hv z.0.1.1))
             (λ e w y.
             let hw = from-to v w hv y.0.0 in
@@ -618,7 +618,7 @@ module _ (libs : List LibName) (own : LibName) (core : Among libs library.Core) 
             (form-went place level depth (stamp f x.output) b (goes w b hw q.0)
             (stamp-holds own K J P lives b.names.number f x.output (lives.frames (s.names.number + 1) b.names.number f (omega (arith, up, up-more, up-last)) made) (tree-up s.names.number b.names.number (omega (arith, one, up, up-more, up-last)) x.output k.1.1)))
             (λ c u r.
-            let One : Noted → Type 0 = Matches rs place level literals x s (record { pattern = p.pattern; fender = o; output = c }) (cut n u) in
+            let One : Noted → Type 0 = ExpandsClause rs place level literals x s (record { pattern = p.pattern; fender = o; output = c }) (cut n u) in
             let m = fender-namings o ++ namings c in
             let tells = told-then (counted s) v w (told-by (counted s) v compiled p (pattern-same literals place x.pattern (counted s)) z.1) (told-by v w bound e (bind-pattern-same f place level p.variables v) y.1) in
             staying.made-cut libs own core new One One m n s u
@@ -636,5 +636,5 @@ module _ (libs : List LibName) (own : LibName) (core : Among libs library.Core) 
         pub clauses-went : (place : Span) (level depth : ℕ) (literals : List Tree) (xs : List PatternCase) (s : State) → F s → Each (PatternCaseHolds (P s.names.number)) xs
             → Gave (λ cs u. Went s u × Made (Match rs place level literals xs s cs u) (clause_namings (clauses cs)) s u) (all_clauses go place level depth literals xs s)
         clauses-went place level depth literals xs s h k =
-            each-went (pattern_clause go place level depth literals) (λ n x. PatternCaseHolds (P n) x) (forms.pattern-case-up own K J P lives first go keeps) (λ x s c u refs. Matches rs place level literals x s c u refs) (λ xs s cs u refs. Match rs place level literals xs s cs u refs)
+            each-went (pattern_clause go place level depth literals) (λ n x. PatternCaseHolds (P n) x) (forms.pattern-case-up own K J P lives first go keeps) (λ x s c u refs. ExpandsClause rs place level literals x s c u refs) (λ xs s cs u refs. Match rs place level literals xs s cs u refs)
             clause-said (λ cs. clause_namings (clauses cs)) (λ s. no_clause) (λ x xs s v u c cs refs others i j. clause i j) refl clauses-said (λ x s h k. clause-went place level depth literals x s h k) xs s h k

@@ -22,8 +22,8 @@ use Rattle.sx_fresh_laws.specs.Leaves.{TreeHolds}
 use Rattle.sx_fresh_laws.proofs.Eachs.{each_mapped}
 use Rattle.sx_fresh_expansion_laws.specs.Events.{HasKnownEvents}
 use Rattle.sx_fresh_expansion_laws.specs.Known.{IsNewAmong}
-use Rattle.sx_reference_laws.specs.Noted.{Reference, Expression}
-use Rattle.sx_reference_laws.specs.Whole.{IsCaptured, IsRight, IsRightExpression, FormsAreHygienic}
+use Rattle.sx_reference_laws.specs.Noted.{Reference, KeywordExpression}
+use Rattle.sx_reference_laws.specs.Whole.{IsCaptured, IsRightReference, IsRightExpression, FormsAreHygienic}
 use Rattle.sx_reference_laws.proofs.Capturing.{captures-hygienic}
 use Rattle.sx_reference_laws.proofs.Naming.{mentions-named}
 use Rattle.sx_reference_laws.proofs.Performing.{all-traced}
@@ -60,17 +60,17 @@ module _ (libs : List LibName) (own : LibName) (core : Among libs library.Core) 
       by (vector p d) e = absurd (true≢false (sym (subst (λ (y : Tree). is_leaf y ≡ true) e leafy)))
 
   -- a reference that was taken is right
-  right-so : (u : State) (r : Reference) → Kept libs own core new u r → IsRight libs own u r
+  right-so : (u : State) (r : Reference) → Kept libs own core new u r → IsRightReference libs own u r
   right-so u r h = record { code = h.code; stood = h.stood; captured = captured-so r.state.names.number u r.leaf r.label h.leafy h.known h.now }
 
-  pub all-right : (u : State) (refs : List Reference) → Each (Kept libs own core new u) refs → Each (IsRight libs own u) refs
-  all-right u refs h = each_mapped (Kept libs own core new u) (IsRight libs own u) (right-so u) refs h
+  pub all-right : (u : State) (refs : List Reference) → Each (Kept libs own core new u) refs → Each (IsRightReference libs own u) refs
+  all-right u refs h = each_mapped (Kept libs own core new u) (IsRightReference libs own u) (right-so u) refs h
 
   -- so are expressions of keywords
-  right-expression : (e : Expression) → KeptExpression libs own core new e → IsRightExpression libs own e
+  right-expression : (e : KeywordExpression) → KeptExpression libs own core new e → IsRightExpression libs own e
   right-expression e h = record { all = h.0; mentions = mentions-named e.code e.references h.0; right = all-right e.state e.references h.1 }
 
-  pub all-expressions : (es : List Expression) → Each (KeptExpression libs own core new) es → Each (IsRightExpression libs own) es
+  pub all-expressions : (es : List KeywordExpression) → Each (KeptExpression libs own core new) es → Each (IsRightExpression libs own) es
   all-expressions es h = each_mapped (KeptExpression libs own core new) (IsRightExpression libs own) right-expression es h
 
 pub forms-hygienic : FormsAreHygienic

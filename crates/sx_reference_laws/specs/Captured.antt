@@ -18,7 +18,7 @@ abbrev pub IsIntroducedBy : Mark → List Event → Type 0
 IsIntroducedBy m es = (f : Option FrameNo) × Among es (introduced m f)
 
 -- A leaf that was made with these marks, after these events, and the row of the binder that captures it.
-pub record IsHygienic (fs : Scope) (r : Row) (s : Option Span) (x : List ℕ) (ms : List Mark) (es : List Event) : Type 0 where
+pub record IsHygienicReference (fs : Scope) (r : Row) (s : Option Span) (x : List ℕ) (ms : List Mark) (es : List Event) : Type 0 where
   -- A binder that a use introduced captures the leaf only if the same use introduced the leaf, or this was made with the mark, as a temporary is.
   pub binder : (m : Mark) → IsOfUse m r → Among ms m ⊎ IsIntroducedBy m es
   -- Where a use introduced the leaf, the binder is one that the same use introduced, or it captures the leaf as this stood in the template before.
@@ -27,4 +27,4 @@ pub record IsHygienic (fs : Scope) (r : Row) (s : Option Span) (x : List ℕ) (m
 -- Each leaf that an expansion comes to has such a history, and is captured so, whatever frames there are.
 abbrev pub CapturesAreHygienic : Type 0
 CapturesAreHygienic = (libs : List LibName) (own : LibName) (n : ℕ) (s : Option Span) (x : List ℕ) (c : LeafContext) (h : HasKnownEvents libs own n c) (fs : Scope) (r : Row)
-    → Captures fs r (leaf s x c) → IsHygienic fs r s x h.marks h.events
+    → Captures fs r (leaf s x c) → IsHygienicReference fs r s x h.marks h.events

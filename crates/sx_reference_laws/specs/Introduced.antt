@@ -18,7 +18,7 @@ use Rattle.sx_value.specs.declared.value.Value.{Value}
 use Rattle.sx_hygiene_laws.specs.Marked.{Among}
 use Rattle.sx_fresh_laws.specs.Leaves.{TreeHolds, ValueHolds}
 use Rattle.sx_fresh_expansion_laws.specs.Known.{IsKnown, HasKnown, IsNewAmong}
-use Rattle.sx_fresh_expansion_laws.specs.States.{StageHolds, StateHolds}
+use Rattle.sx_fresh_expansion_laws.specs.States.{StageHolds, FreshStateHolds}
 
 -- it is a leaf of the form as it was, or the use of m introduced it last
 abbrev pub IsOfFormOrUse : Mark → Tree → LeafContext → Type 0
@@ -30,5 +30,5 @@ pub record UsesIntroduceTheRest : Type 0 where
       → StageHolds own (IsKnown libs own) (HasKnown libs own) g.names.number g → ValueHolds (HasKnown libs own g.names.number) v → TreeHolds (HasKnown libs own g.names.number) t
       → transform_marked place v t frame (record { 0 = g.names }) (record g { names = name_after g.names }) ≡ Ok (o, h) → TreeHolds (IsOfFormOrUse (record { 0 = g.names }) t) o
   pub records : (libs : List LibName) (own : LibName) (place : Span) (t : Tree) (f : CoreForm) (frame : Option FrameNo) (s u : State) (o : Tree) → Among libs library.Core → IsNewAmong libs own
-      → StateHolds own (IsKnown libs own) (HasKnown libs own) s.names.number s → TreeHolds (HasKnown libs own s.names.number) t
+      → FreshStateHolds own (IsKnown libs own) (HasKnown libs own) s.names.number s → TreeHolds (HasKnown libs own s.names.number) t
       → record_marked place t f frame (record { 0 = s.names }) (record s { names = name_after s.names }) ≡ Ok (o, u) → TreeHolds (IsOfFormOrUse (record { 0 = s.names }) t) o

@@ -11,7 +11,7 @@ use Rattle.sx_scope.specs.Stands.{stands}
 use Rattle.sx_core.specs.References.{mentions}
 use Rattle.sx_core.specs.declared.binding.Binding.{Binding}
 use Rattle.sx_core.specs.declared.binding.Binding.TheVariants as binding
-use Rattle.sx_core.specs.declared.record.LibRecord.{LibRecord}
+use Rattle.sx_core.specs.declared.record.CompiledLibrary.{CompiledLibrary}
 use Rattle.sx_core.specs.declared.record.Line.{Line}
 use Rattle.sx_core.specs.declared.record.Line.TheVariants as line
 use Rattle.sx_eval.specs.Codes.{Codes}
@@ -30,8 +30,8 @@ use Rattle.sx_fresh_expansion_laws.specs.Known.{libraries_of, IsNewAmong}
 use Rattle.sx_fresh_expansion_laws.specs.RecordMarks.{HasOnly, RecordHasOnly, WasRead}
 use Rattle.sx_reference_laws.specs.Expands.{Take, Finish}
 use Rattle.sx_reference_laws.specs.Namings.{Naming, namings}
-use Rattle.sx_reference_laws.specs.Noted.{Expression, Told, lines, of_lines, mentioned, named, IsExpression}
-use Rattle.sx_reference_laws.specs.Whole.{IsCaptured, IsRight, IsRightExpression}
+use Rattle.sx_reference_laws.specs.Noted.{KeywordExpression, NotedLine, lines, of_lines, mentioned, named, IsExpression}
+use Rattle.sx_reference_laws.specs.Whole.{IsCaptured, IsRightReference, IsRightExpression}
 
 abbrev pub line_mentions : Line → List Label
 line_mentions (line.Define l c) = mentions c
@@ -42,13 +42,13 @@ line_namings (line.Define l c) = namings c
 line_namings (line.Expr c) = namings c
 
 -- a line, and its references in a state
-pub record IsRightLine (libs : List LibName) (own : LibName) (u : State) (x : Told) : Type 0 where
+pub record IsRightLine (libs : List LibName) (own : LibName) (u : State) (x : NotedLine) : Type 0 where
   pub all : line_namings x.line ≡ named x.noted.references
   pub mentions : line_mentions x.line ≡ mentioned x.noted.references
-  pub right : Each (IsRight libs own u) x.noted.references
+  pub right : Each (IsRightReference libs own u) x.noted.references
 
 -- where a binding has the expression of a keyword, that is one of these
-abbrev pub IsBoundTo : List Expression → Label → Binding → Type 0
+abbrev pub IsBoundTo : List KeywordExpression → Label → Binding → Type 0
 IsBoundTo es l (binding.Macro level (Some c)) = IsExpression es l c
 IsBoundTo es l _ = Unit {0}
 
@@ -70,13 +70,13 @@ AreRightExports libs own first last f (e ∷ es) [] = ⊥
 -- The lines of a record are those of what the first pass took, and their references are right in the last state, whose rows the record has. Its keywords
 -- have the expressions that were expanded in the first pass and in the second, and the references of these are right, each to the end of its expression. Its
 -- exports are what their identifiers stand for.
-pub record RunIsRight (libs : List LibName) (own : LibName) (records : List LibRecord) (start : State) (at : TopAt) (exports : List (List ℕ × Tree)) (forms : List Tree) (r : LibRecord) : Type 0 where
+pub record RunIsRight (libs : List LibName) (own : LibName) (records : List CompiledLibrary) (start : State) (at : TopAt) (exports : List (List ℕ × Tree)) (forms : List Tree) (r : CompiledLibrary) : Type 0 where
   pub taken : Taken
   pub first : State
-  pub bound : List Expression
+  pub bound : List KeywordExpression
   pub exported : List (List ℕ × Label)
   pub between : State
-  pub told : List Told
+  pub told : List NotedLine
   pub last : State
   pub takes : top.first_pass (inside records full_room) at forms start ≡ Ok (taken, first)
   pub taking : Take records (top.body_at at start.library) 0 begun (map (stamp at.frame) forms) start taken first bound
@@ -92,7 +92,7 @@ pub record RunIsRight (libs : List LibName) (own : LibName) (records : List LibR
 
 -- So it is of the record of each library with a new name, behind records and codes of texts whose leaves have histories.
 abbrev pub RecordsAreHygienic : Type 0
-RecordsAreHygienic = (own : LibName) (path : List ℕ) (records : List LibRecord) (imports : List (List ℕ × Label)) (version : List ℕ) (place : Span) (exports : List (List ℕ × Tree)) (forms : List Tree) (codes : Codes) (r : LibRecord)
+RecordsAreHygienic = (own : LibName) (path : List ℕ) (records : List CompiledLibrary) (imports : List (List ℕ × Label)) (version : List ℕ) (place : Span) (exports : List (List ℕ × Tree)) (forms : List Tree) (codes : Codes) (r : CompiledLibrary)
     → IsNewAmong (libraries_of records) own → Each (RecordHasOnly HasEvents (libraries_of records)) records → CodesHold (HasOnly HasEvents (libraries_of records)) codes → Each WasRead forms → Each (λ (e : List ℕ × Tree). WasRead e.1) exports
     → library_record (ready own path records imports codes) records version place exports forms ≡ Ok r
     → RunIsRight (libraries_of records) own records (started own records imports codes) (body_of (ready own path records imports codes) version place) exports forms r

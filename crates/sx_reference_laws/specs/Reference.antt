@@ -6,26 +6,26 @@ use Rattle.sx_tree.specs.Context.{LeafContext}
 use Rattle.sx_tree.specs.Tree.{leaf}
 use Rattle.sx_frames.specs.Rows.{Row}
 use Rattle.sx_core.specs.Core.{PlainCore}
-use Rattle.sx_core.specs.declared.record.LibRecord.{LibRecord}
+use Rattle.sx_core.specs.declared.record.CompiledLibrary.{CompiledLibrary}
 use Rattle.sx_standing.specs.State.{State}
 use Rattle.sx_hygiene_laws.specs.Binder.{Captures}
 use Rattle.sx_hygiene_laws.specs.History.{Event}
 use Rattle.sx_expand.specs.Expression.{inside}
-use Rattle.sx_expand.specs.Settle.{linked_code}
+use Rattle.sx_expand.specs.ExpandUses.{linked_code}
 use Rattle.sx_expand_laws.specs.Named.{RefersTo, IsUse}
 use Rattle.sx_fresh_expansion_laws.specs.Events.{HasKnownEvents}
 use Rattle.sx_base.specs.declared.name.Mark.{Mark}
-use Rattle.sx_reference_laws.specs.Captured.{IsHygienic}
+use Rattle.sx_reference_laws.specs.Captured.{IsHygienicReference}
 
 -- It refers to the label of the binder that captures it, as its history allows.
 pub record NamesItsBinder (s : State) (p : Option Span) (x : List ℕ) (k : LeafContext) (ms : List Mark) (es : List Event) (c : PlainCore) : Type 0 where
   pub row : Row
   pub captures : Captures s.frames row (leaf p x k)
   pub refers : RefersTo s (Some row.label) c
-  pub hygienic : IsHygienic s.frames row p x ms es
+  pub hygienic : IsHygienicReference s.frames row p x ms es
 
 -- Each identifier that an expansion comes to, whatever form it lies in, becomes such a reference, or it is a use of a keyword.
 abbrev pub ReferencesAreHygienic : Type 0
-ReferencesAreHygienic = (libs : List LibName) (own : LibName) (n : ℕ) (records : List LibRecord) (room : ℕ) (place : Span) (level depth : ℕ) (p : Option Span) (x : List ℕ) (k : LeafContext) (s u : State) (c : PlainCore)
+ReferencesAreHygienic = (libs : List LibName) (own : LibName) (n : ℕ) (records : List CompiledLibrary) (room : ℕ) (place : Span) (level depth : ℕ) (p : Option Span) (x : List ℕ) (k : LeafContext) (s u : State) (c : PlainCore)
     → (h : HasKnownEvents libs own n k) → (inside records room).form place level depth (leaf p x k) s ≡ Ok (c, u)
     → (NamesItsBinder s p x k h.marks h.events c × (u ≡ linked_code (leaf p x k) c s)) ⊎ IsUse s (leaf p x k)

@@ -119,7 +119,7 @@ pub record IsPatternVariable (s : State) (place : Span) (level : ℕ) (r : Refer
 
 -- A template of a form: its pattern variables are those that these leaves of the form stand for, which are all that stand for one of the level, in the order in
 -- which they stand there, and all other identifiers in it are identifiers of the form as they are.
-pub record IsTemplate (s : State) (place : Span) (level : ℕ) (t : Tree) (x : PlainTemplate) (refs : List Reference) : Type 0 where
+pub record IsTemplateOf (s : State) (place : Span) (level : ℕ) (t : Tree) (x : PlainTemplate) (refs : List Reference) : Type 0 where
   pub are : refs ≡ variables_in s place level false t
   pub all : template_namings x ≡ named refs
   pub variables : Each (IsPatternVariable s place level) refs

@@ -25,7 +25,7 @@ use Rattle.sx_template.specs.Lengths.{lengths, items_lengths, differing, agree, 
 use Rattle.sx_template.specs.Instance.{then_add, turned, item, counts, is_end, ending, instance, parts}
 use Rattle.sx_template_laws.specs.Ready.{HasDepth}
 use Rattle.sx_template_laws.proofs.Sight.{Sees, AllSeen, ItemsSeen, agreed_all, seen_next, seen_ready}
-use Rattle.sx_report_laws.specs.Instances.{IsBound, IsTurn, IsReached, IsSeen, HasLength, AreLengths, AreItemLengths, AllAre, IsAgreed, IsListed, IsNil, IsInstance, IsEnd, AreInstances, AreRepeated, AreTurns, IsItem, AreUneven, IsUneven, InstancesAreGiven}
+use Rattle.sx_report_laws.specs.Instances.{HasBinds, IsTurn, IsReached, IsSeen, HasLength, AreLengths, AreItemLengths, AllAre, IsAgreed, IsListed, IsNil, IsInstance, IsEnd, AreInstances, AreRepeated, AreTurns, IsItem, AreUneven, IsUneven, InstancesAreGiven}
 use Rattle.sx_report_laws.specs.Instances as r
 
 -- Variables.
@@ -39,14 +39,14 @@ label-self l = (same_name_cases l.0 l.0).1 refl
 other-label : (m l : Label) → same_name m.0 l.0 ≡ false → m ≡ l → ⊥
 other-label m l e s = let f : false ≡ true = sym e ∙ subst (λ (k : Label). same_name k.0 l.0 ≡ true) (sym s) (label-self l) in let g : ⊥ = cc in g
 
-is-bound : (binds : Binds) (l : Label) (b : PlainBind) → looked_up binds l ≡ Some b → IsBound l binds b
+is-bound : (binds : Binds) (l : Label) (b : PlainBind) → looked_up binds l ≡ Some b → HasBinds l binds b
 is-bound [] l b h = absurd (cc)
 is-bound (x ∷ xs) l b h = by (same_name x.0.0 l.0) refl h (is-bound xs l b)
   where
-    by : (c : Bool) → same_name x.0.0 l.0 ≡ c → (if c then Some x.1 else looked_up xs l) ≡ Some b → (looked_up xs l ≡ Some b → IsBound l xs b) → IsBound l (x ∷ xs) b
+    by : (c : Bool) → same_name x.0.0 l.0 ≡ c → (if c then Some x.1 else looked_up xs l) ≡ Some b → (looked_up xs l ≡ Some b → HasBinds l xs b) → HasBinds l (x ∷ xs) b
     by true e k rest =
         let same : x.1 ≡ b = cc in
-        subst (λ a. IsBound l ((x.0, x.1) ∷ xs) a) same (subst (λ m. IsBound l ((m, x.1) ∷ xs) x.1) (sym (label-is x.0 l e)) r.bound_first)
+        subst (λ a. HasBinds l ((x.0, x.1) ∷ xs) a) same (subst (λ m. HasBinds l ((m, x.1) ∷ xs) x.1) (sym (label-is x.0 l e)) r.bound_first)
     by false e k rest = r.bound_behind (other-label x.0 l e) (rest k)
 
 is-turn : (bs : PlainBinds) (i : ℕ) (b : PlainBind) → slice_get (listed bs) i ≡ Some b → IsTurn i bs b

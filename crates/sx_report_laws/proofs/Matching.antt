@@ -8,7 +8,7 @@ use Rattle.sx_tree.specs.Tree.{Tree, atom, leaf, pair, vector}
 use Rattle.sx_frames.specs.Scope.{Scope}
 use Rattle.sx_core.specs.Pattern.{PlainPattern, PlainPatterns, none, more, dots}
 use Rattle.sx_value.specs.Bind.{PlainBind, many, turns}
-use Rattle.sx_value.specs.Cells.{FitsIn, Whole, string_at}
+use Rattle.sx_value.specs.Cells.{FitsIn, WholeCells, string_at}
 use Rattle.sx_value.specs.declared.cell.Cell.{Cell}
 use Rattle.sx_value.specs.declared.value.Value.{Value}
 use Rattle.sx_value.specs.declared.value.Value.TheVariants as value
@@ -17,13 +17,13 @@ use Rattle.sx_pattern.specs.Columns.{empty_columns, with_bind, grown, closed}
 use Rattle.sx_pattern.specs.Matched.{matched, nothing, limit, one_more}
 use Rattle.sx_pattern.specs.Matched as matching
 use Rattle.sx_pattern.specs.declared.columns.Column.{Column}
-use Rattle.sx_pattern.specs.declared.columns.Found.{Found}
+use Rattle.sx_pattern.specs.declared.columns.PatternBinds.{PatternBinds}
 use Rattle.sx_match_laws.specs.Matches.{Bindings, pair_of, stacked}
 use Rattle.sx_match_laws.specs.Matches as m
 use Rattle.sx_match_laws.proofs.Sound.{rightly}
 use Rattle.sx_template_laws.specs.Repeating.{variables}
 use Rattle.sx_template_laws.proofs.Columns.{labels, column_labels, labels_none, AllLong, long_none, RowsFit, rows_fit}
-use Rattle.sx_report_laws.specs.Matching.{IsAtom, plain_atom, written_atom, stored_string, IsPair, stored_pair, written_pair, IsVector, stored_vector, written_vector, RefersAs, refers, Begins, IsLast, first_bind, gathered, Matches, Fills, Repeats, IsRight}
+use Rattle.sx_report_laws.specs.Matching.{IsAtom, plain_atom, written_atom, stored_string, IsPairValue, stored_pair, written_pair, IsVectorValue, stored_vector, written_vector, RefersAs, refers, Begins, IsLast, first_bind, gathered, MatchesPattern, FillsElements, RepeatsPattern, IsRight}
 use Rattle.sx_report_laws.specs.Matching as r
 
 some-is : {A : Type 0} (x y : A) → Some x ≡ Some y → x ≡ y
@@ -57,23 +57,23 @@ module _ (cells : List Cell) where
   pairs-same : (p q : Value × Value) → Some p ≡ Some q → (p.0 ≡ q.0) × (p.1 ≡ q.1)
   pairs-same p q h = let e = some-is p q h in (ap (λ (x : Value × Value). x.0) e, ap (λ (x : Value × Value). x.1) e)
 
-  a-pair : (x d v : Value) → pair_of cells v ≡ Some (x, d) → IsPair cells x d v
+  a-pair : (x d v : Value) → pair_of cells v ≡ Some (x, d) → IsPairValue cells x d v
   a-pair x d (value.Pair p) e = stored_pair e
   a-pair x d (value.Syn (pair s a b)) e =
       let k = pairs-same (value.Syn a, value.Syn b) (x, d) e in
-      subst (λ y. IsPair cells y d (value.Syn (pair s a b))) k.0 (subst (λ y. IsPair cells (value.Syn a) y (value.Syn (pair s a b))) k.1 written_pair)
+      subst (λ y. IsPairValue cells y d (value.Syn (pair s a b))) k.0 (subst (λ y. IsPairValue cells (value.Syn a) y (value.Syn (pair s a b))) k.1 written_pair)
   a-pair x d _ e = absurd (cc)
 
-  pair-is : (x d v : Value) → IsPair cells x d v → pair_of cells v ≡ Some (x, d)
+  pair-is : (x d v : Value) → IsPairValue cells x d v → pair_of cells v ≡ Some (x, d)
   pair-is x d _ (stored_pair e) = e
   pair-is _ _ _ written_pair = refl
 
-  a-vector : (xs : List Value) (v : Value) → vector_of cells v ≡ Some xs → IsVector cells xs v
+  a-vector : (xs : List Value) (v : Value) → vector_of cells v ≡ Some xs → IsVectorValue cells xs v
   a-vector xs (value.Vector p) e = stored_vector e
-  a-vector xs (value.Syn (vector s t)) e = subst (λ ys. IsVector cells ys (value.Syn (vector s t))) (some-is _ xs e) written_vector
+  a-vector xs (value.Syn (vector s t)) e = subst (λ ys. IsVectorValue cells ys (value.Syn (vector s t))) (some-is _ xs e) written_vector
   a-vector xs _ e = absurd (cc)
 
-  vector-is : (xs : List Value) (v : Value) → IsVector cells xs v → vector_of cells v ≡ Some xs
+  vector-is : (xs : List Value) (v : Value) → IsVectorValue cells xs v → vector_of cells v ≡ Some xs
   vector-is xs _ (stored_vector e) = e
   vector-is _ _ written_vector = refl
 
@@ -174,7 +174,7 @@ gathered-is p rows h =
 
 module _ (fs : Scope) (cells : List Cell) where
   mutual
-    matches : {p : PlainPattern} {v : Value} {bs : Bindings} {n : ℕ} → m.Matches fs cells p v bs n → Matches fs cells p v bs n
+    matches : {p : PlainPattern} {v : Value} {bs : Bindings} {n : ℕ} → m.Matches fs cells p v bs n → MatchesPattern fs cells p v bs n
     matches m.takes_any = r.anything
     matches m.takes_variable = r.is_bound
     matches (m.takes_literal {t = t} {v = v} e) = r.same_literal (refers-as fs t v e)
@@ -182,18 +182,18 @@ module _ (fs : Scope) (cells : List Cell) where
     matches (m.takes_list {ps = ps} {r = x} b e f k) = r.fills_list (begins cells b) (a-last cells ps x e) (fills f) (matches k)
     matches (m.takes_vector {v = v} {xs = xs} e f) = r.fills_vector (a-vector cells xs v e) (fills f)
 
-    fills : {ps : PlainPatterns} {xs : List Value} {bs : Bindings} {n : ℕ} → m.Fills fs cells ps xs bs n → Fills fs cells ps xs bs n
+    fills : {ps : PlainPatterns} {xs : List Value} {bs : Bindings} {n : ℕ} → m.Fills fs cells ps xs bs n → FillsElements fs cells ps xs bs n
     fills m.no_more = r.no_more
     fills (m.one_more k f) = r.one_more (matches k) (fills f)
     fills (m.all_but {p = p} {ps = ps} {xs = xs} {ys = ys} {rows = rows} {cs = cs} {m = i} {n = n} k long f) =
-        subst (λ bs. Fills fs cells (dots p ps) (xs ++ ys) (bs ++ cs) (i + n)) (sym (gathered-is p rows (rows_fit k))) (r.repeated (repeats k) (long ∙ sym (count-is ps)) (fills f))
+        subst (λ bs. FillsElements fs cells (dots p ps) (xs ++ ys) (bs ++ cs) (i + n)) (sym (gathered-is p rows (rows_fit k))) (r.repeated (repeats k) (long ∙ sym (count-is ps)) (fills f))
 
-    repeats : {p : PlainPattern} {xs : List Value} {rows : List Bindings} {n : ℕ} → m.Repeats fs cells p xs rows n → Repeats fs cells p xs rows n
+    repeats : {p : PlainPattern} {xs : List Value} {rows : List Bindings} {n : ℕ} → m.Repeats fs cells p xs rows n → RepeatsPattern fs cells p xs rows n
     repeats m.no_rows = r.no_rows
     repeats (m.one_row k f) = r.one_row (matches k) (repeats f)
 
   mutual
-    matched-so : {p : PlainPattern} {v : Value} {bs : Bindings} {n : ℕ} → Matches fs cells p v bs n → m.Matches fs cells p v bs n
+    matched-so : {p : PlainPattern} {v : Value} {bs : Bindings} {n : ℕ} → MatchesPattern fs cells p v bs n → m.Matches fs cells p v bs n
     matched-so r.anything = m.takes_any
     matched-so r.is_bound = m.takes_variable
     matched-so (r.same_literal {t = t} {v = v} e) = m.takes_literal (is-alike fs t v e)
@@ -201,20 +201,20 @@ module _ (fs : Scope) (cells : List Cell) where
     matched-so (r.fills_list {ps = ps} {r = x} b e f k) = m.takes_list (begun cells b) (last-is cells ps x e) (filled-so f) (matched-so k)
     matched-so (r.fills_vector {v = v} {xs = xs} e f) = m.takes_vector (vector-is cells xs v e) (filled-so f)
 
-    filled-so : {ps : PlainPatterns} {xs : List Value} {bs : Bindings} {n : ℕ} → Fills fs cells ps xs bs n → m.Fills fs cells ps xs bs n
+    filled-so : {ps : PlainPatterns} {xs : List Value} {bs : Bindings} {n : ℕ} → FillsElements fs cells ps xs bs n → m.Fills fs cells ps xs bs n
     filled-so r.no_more = m.no_more
     filled-so (r.one_more k f) = m.one_more (matched-so k) (filled-so f)
     filled-so (r.repeated {p = p} {ps = ps} {xs = xs} {ys = ys} {rows = rows} {cs = cs} {m = i} {n = n} k long f) =
         let old = repeated-so k in
         subst (λ bs. m.Fills fs cells (dots p ps) (xs ++ ys) (bs ++ cs) (i + n)) (gathered-is p rows (rows_fit old)) (m.all_but old (long ∙ count-is ps) (filled-so f))
 
-    repeated-so : {p : PlainPattern} {xs : List Value} {rows : List Bindings} {n : ℕ} → Repeats fs cells p xs rows n → m.Repeats fs cells p xs rows n
+    repeated-so : {p : PlainPattern} {xs : List Value} {rows : List Bindings} {n : ℕ} → RepeatsPattern fs cells p xs rows n → m.Repeats fs cells p xs rows n
     repeated-so r.no_rows = m.no_rows
     repeated-so (r.one_row k f) = m.one_row (matched-so k) (repeated-so f)
 
-  pub is-right : Whole cells → (p : PlainPattern) (v : Value) → FitsIn cells v → IsRight fs cells p v (matched fs cells p v (nothing 0))
+  pub is-right : WholeCells cells → (p : PlainPattern) (v : Value) → FitsIn cells v → IsRight fs cells p v (matched fs cells p v (nothing 0))
   is-right w p v h = by (matched fs cells p v (nothing 0)) (rightly fs cells w p v h)
     where
-      by : (o : Option Found) → m.IsRight fs cells p v o → IsRight fs cells p v o
+      by : (o : Option PatternBinds) → m.IsRight fs cells p v o → IsRight fs cells p v o
       by (Some f) k = matches k
       by None k = λ bs n x. k bs n (matched-so x)

@@ -22,9 +22,9 @@ use Rattle.sx_template_laws.specs.Ready.{Ready}
 -- Variables.
 
 -- what a variable is bound to: its first bind counts
-pub data IsBound (l : Label) : Binds → PlainBind → Type 0 where
-  bound_first : {b : PlainBind} {bs : Binds} → IsBound l ((l, b) ∷ bs) b
-  bound_behind : {m : Label} {a b : PlainBind} {bs : Binds} → (m ≡ l → ⊥) → IsBound l bs b → IsBound l ((m, a) ∷ bs) b
+pub data HasBinds (l : Label) : Binds → PlainBind → Type 0 where
+  bound_first : {b : PlainBind} {bs : Binds} → HasBinds l ((l, b) ∷ bs) b
+  bound_behind : {m : Label} {a b : PlainBind} {bs : Binds} → (m ≡ l → ⊥) → HasBinds l bs b → HasBinds l ((m, a) ∷ bs) b
 
 -- the bind of a turn, counted from 0
 pub data IsTurn : ℕ → PlainBinds → PlainBind → Type 0 where
@@ -38,7 +38,7 @@ pub data IsReached : PlainBind → List ℕ → PlainBind → Type 0 where
 
 -- a variable takes its innermost turns, so many
 pub data IsSeen (binds : Binds) (l : Label) (depth : ℕ) (turns : List ℕ) (b : PlainBind) : Type 0 where
-  seen : {a : PlainBind} → IsBound l binds a → IsReached a (drop (length turns - depth) turns) b → IsSeen binds l depth turns b
+  seen : {a : PlainBind} → HasBinds l binds a → IsReached a (drop (length turns - depth) turns) b → IsSeen binds l depth turns b
 
 -- Lengths at an ellipsis inside which so many others stand, in order of place: of each variable that has a turn for it.
 

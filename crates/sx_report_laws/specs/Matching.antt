@@ -17,7 +17,7 @@ use Rattle.sx_value.specs.Cells.{pair_at, vector_at, string_at}
 use Rattle.sx_value.specs.declared.cell.Cell.{Cell}
 use Rattle.sx_value.specs.declared.value.Value.{Value}
 use Rattle.sx_value.specs.declared.value.Value.TheVariants as value
-use Rattle.sx_pattern.specs.declared.columns.Found.{Found}
+use Rattle.sx_pattern.specs.declared.columns.PatternBinds.{PatternBinds}
 use Rattle.sx_template_laws.specs.Repeating.{variables}
 
 -- Values, of the store or in a syntax tree.
@@ -29,14 +29,14 @@ pub data IsAtom (cells : List Cell) : Atom → Value → Type 0 where
   stored_string : {p : Place} {text : List ℕ} → string_at cells p.0 ≡ Some text → IsAtom cells (Str text) (value.Str p)
 
 -- a pair, with its car and its cdr
-pub data IsPair (cells : List Cell) : Value → Value → Value → Type 0 where
-  stored_pair : {p : Place} {x d : Value} → pair_at cells p.0 ≡ Some (x, d) → IsPair cells x d (value.Pair p)
-  written_pair : {span : Option Span} {a d : Tree} → IsPair cells (value.Syn a) (value.Syn d) (value.Syn (pair span a d))
+pub data IsPairValue (cells : List Cell) : Value → Value → Value → Type 0 where
+  stored_pair : {p : Place} {x d : Value} → pair_at cells p.0 ≡ Some (x, d) → IsPairValue cells x d (value.Pair p)
+  written_pair : {span : Option Span} {a d : Tree} → IsPairValue cells (value.Syn a) (value.Syn d) (value.Syn (pair span a d))
 
 -- a vector, with its elements
-pub data IsVector (cells : List Cell) : List Value → Value → Type 0 where
-  stored_vector : {p : Place} {xs : List Value} → vector_at cells p.0 ≡ Some xs → IsVector cells xs (value.Vector p)
-  written_vector : {span : Option Span} {t : Tree} → IsVector cells (map value.Syn (elements t)) (value.Syn (vector span t))
+pub data IsVectorValue (cells : List Cell) : List Value → Value → Type 0 where
+  stored_vector : {p : Place} {xs : List Value} → vector_at cells p.0 ≡ Some xs → IsVectorValue cells xs (value.Vector p)
+  written_vector : {span : Option Span} {t : Tree} → IsVectorValue cells (map value.Syn (elements t)) (value.Syn (vector span t))
 
 -- an identifier that refers to what another refers to
 pub data RefersAs (fs : Scope) (t : Tree) : Value → Type 0 where
@@ -45,7 +45,7 @@ pub data RefersAs (fs : Scope) (t : Tree) : Value → Type 0 where
 -- a value is these elements and then a rest, the cdr behind them
 pub data Begins (cells : List Cell) : List Value → Value → Value → Type 0 where
   here : {v : Value} → Begins cells [] v v
-  next : {x d r v : Value} {xs : List Value} → IsPair cells x d v → Begins cells xs r d → Begins cells (x ∷ xs) r v
+  next : {x d r v : Value} {xs : List Value} → IsPairValue cells x d v → Begins cells xs r d → Begins cells (x ∷ xs) r v
 
 -- Patterns of elements.
 
@@ -53,7 +53,7 @@ pub data Begins (cells : List Cell) : List Value → Value → Value → Type 0 
 abbrev pub IsLast : List Cell → PlainPatterns → Value → Type 0
 IsLast cells none r = Unit {0}
 IsLast cells (more p ps) r = IsLast cells ps r
-IsLast cells (dots p ps) r = (x d : Value) → IsPair cells x d r → ⊥
+IsLast cells (dots p ps) r = (x d : Value) → IsPairValue cells x d r → ⊥
 
 -- how many patterns there are, those with an ellipsis aside
 abbrev pub count : PlainPatterns → ℕ
@@ -75,37 +75,37 @@ gathered (l ∷ ls) rows = (l, many (turns (flat_map first_bind rows))) ∷ gath
 
 -- A pattern matches a value with these binds; its ellipses take so many elements.
 mutual
-  pub data Matches (fs : Scope) (cells : List Cell) : PlainPattern → Value → Bindings → ℕ → Type 0 where
+  pub data MatchesPattern (fs : Scope) (cells : List Cell) : PlainPattern → Value → Bindings → ℕ → Type 0 where
     -- `_` matches anything
-    anything : {v : Value} → Matches fs cells any v [] 0
+    anything : {v : Value} → MatchesPattern fs cells any v [] 0
     -- a pattern variable matches anything, and is bound to it
-    is_bound : {l : Label} {v : Value} → Matches fs cells (variable l) v ((l, one v) ∷ []) 0
+    is_bound : {l : Label} {v : Value} → MatchesPattern fs cells (variable l) v ((l, one v) ∷ []) 0
     -- a literal matches an identifier that refers to the same
-    same_literal : {t : Tree} {v : Value} → RefersAs fs t v → Matches fs cells (literal t) v [] 0
+    same_literal : {t : Tree} {v : Value} → RefersAs fs t v → MatchesPattern fs cells (literal t) v [] 0
     -- a datum matches the same datum
-    same_atom : {a : Atom} {v : Value} → IsAtom cells a v → Matches fs cells (pattern.atom a) v [] 0
+    same_atom : {a : Atom} {v : Value} → IsAtom cells a v → MatchesPattern fs cells (pattern.atom a) v [] 0
     -- `(pattern ... . pattern)`, with an ellipsis or without
     fills_list : {ps : PlainPatterns} {t : PlainPattern} {v r : Value} {xs : List Value} {bs cs : Bindings} {m n : ℕ}
-        → Begins cells xs r v → IsLast cells ps r → Fills fs cells ps xs bs m → Matches fs cells t r cs n → Matches fs cells (list ps t) v (bs ++ cs) (m + n)
+        → Begins cells xs r v → IsLast cells ps r → FillsElements fs cells ps xs bs m → MatchesPattern fs cells t r cs n → MatchesPattern fs cells (list ps t) v (bs ++ cs) (m + n)
     -- `#(pattern ...)`
-    fills_vector : {ps : PlainPatterns} {v : Value} {xs : List Value} {bs : Bindings} {n : ℕ} → IsVector cells xs v → Fills fs cells ps xs bs n → Matches fs cells (pattern.vector ps) v bs n
+    fills_vector : {ps : PlainPatterns} {v : Value} {xs : List Value} {bs : Bindings} {n : ℕ} → IsVectorValue cells xs v → FillsElements fs cells ps xs bs n → MatchesPattern fs cells (pattern.vector ps) v bs n
 
   -- elements by patterns: the last ones by those behind an ellipsis, one each, and all between by the repeated one
-  pub data Fills (fs : Scope) (cells : List Cell) : PlainPatterns → List Value → Bindings → ℕ → Type 0 where
-    no_more : Fills fs cells none [] [] 0
+  pub data FillsElements (fs : Scope) (cells : List Cell) : PlainPatterns → List Value → Bindings → ℕ → Type 0 where
+    no_more : FillsElements fs cells none [] [] 0
     one_more : {p : PlainPattern} {ps : PlainPatterns} {x : Value} {xs : List Value} {bs cs : Bindings} {m n : ℕ}
-        → Matches fs cells p x bs m → Fills fs cells ps xs cs n → Fills fs cells (more p ps) (x ∷ xs) (bs ++ cs) (m + n)
+        → MatchesPattern fs cells p x bs m → FillsElements fs cells ps xs cs n → FillsElements fs cells (more p ps) (x ∷ xs) (bs ++ cs) (m + n)
     repeated : {p : PlainPattern} {ps : PlainPatterns} {xs ys : List Value} {rows : List Bindings} {cs : Bindings} {m n : ℕ}
-        → Repeats fs cells p xs rows m → length ys ≡ count ps → Fills fs cells ps ys cs n
-        → Fills fs cells (dots p ps) (xs ++ ys) (gathered (variables p) rows ++ cs) (m + n)
+        → RepeatsPattern fs cells p xs rows m → length ys ≡ count ps → FillsElements fs cells ps ys cs n
+        → FillsElements fs cells (dots p ps) (xs ++ ys) (gathered (variables p) rows ++ cs) (m + n)
 
   -- each element by one pattern, with a row of binds for each
-  pub data Repeats (fs : Scope) (cells : List Cell) : PlainPattern → List Value → List Bindings → ℕ → Type 0 where
-    no_rows : {p : PlainPattern} → Repeats fs cells p [] [] 0
+  pub data RepeatsPattern (fs : Scope) (cells : List Cell) : PlainPattern → List Value → List Bindings → ℕ → Type 0 where
+    no_rows : {p : PlainPattern} → RepeatsPattern fs cells p [] [] 0
     one_row : {p : PlainPattern} {x : Value} {xs : List Value} {row : Bindings} {rows : List Bindings} {m n : ℕ}
-        → Matches fs cells p x row m → Repeats fs cells p xs rows n → Repeats fs cells p (x ∷ xs) (row ∷ rows) (suc (m + n))
+        → MatchesPattern fs cells p x row m → RepeatsPattern fs cells p xs rows n → RepeatsPattern fs cells p (x ∷ xs) (row ∷ rows) (suc (m + n))
 
 -- the binds are those of the relation, and without any there are none
-abbrev pub IsRight : Scope → List Cell → PlainPattern → Value → Option Found → Type 0
-IsRight fs cells p v (Some f) = Matches fs cells p v f.binds f.taken
-IsRight fs cells p v None = (bs : Bindings) (n : ℕ) → Matches fs cells p v bs n → ⊥
+abbrev pub IsRight : Scope → List Cell → PlainPattern → Value → Option PatternBinds → Type 0
+IsRight fs cells p v (Some f) = MatchesPattern fs cells p v f.binds f.taken
+IsRight fs cells p v None = (bs : Bindings) (n : ℕ) → MatchesPattern fs cells p v bs n → ⊥

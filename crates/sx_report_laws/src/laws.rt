@@ -3,7 +3,7 @@
 ghost use Rattle.std.specs.Prelude.{List};
 ghost use Rattle.sx_frames.specs.Scope.{Scope};
 ghost use Rattle.sx_core.specs.Pattern.{PlainPattern};
-ghost use Rattle.sx_value.specs.Cells.{FitsIn, Whole};
+ghost use Rattle.sx_value.specs.Cells.{FitsIn, WholeCells};
 ghost use Rattle.sx_value.specs.declared.cell.Cell.{Cell};
 ghost use Rattle.sx_value.specs.declared.value.Value.{Value};
 ghost use Rattle.sx_pattern.specs.Matched.{matched, nothing};
@@ -12,7 +12,7 @@ ghost use Rattle.sx_report_laws.specs.Matching.{IsRight};
 
 /// What the matcher finds is a match by the cases of the report, and it finds nothing only where there is none.
 pub fn a_match_is_that_of_the_report()
-    ensures { (fs : Scope) (cells : List Cell) → Whole cells → (p : PlainPattern) (v : Value) → FitsIn cells v →
+    ensures { (fs : Scope) (cells : List Cell) → WholeCells cells → (p : PlainPattern) (v : Value) → FitsIn cells v →
         IsRight fs cells p v (matched fs cells p v (nothing 0)) }
 {}
 

@@ -2,11 +2,11 @@
 use Rattle.std.proofs.Common.{◌≡◌, ℕ, Bool, true, false, List, length, Option, Some, None, Result, Ok, Err, refl, sym, ap, ◌∙◌}
 use Rattle.std.specs.Prelude.{nat_lt, if◌then◌else◌, IfSome, IfOk}
 use Rattle.sx_base.specs.declared.memory.Memory.{Memory}
-use Rattle.sx_core.specs.declared.record.LibRecord.{LibRecord}
+use Rattle.sx_core.specs.declared.record.CompiledLibrary.{CompiledLibrary}
 use Rattle.sx_load.specs.declared.found.Found.{Found}
 use Rattle.sx_outside.specs.Causes.{Rose}
 use Rattle.sx_outside.specs.Contents.{Paths, at_path, bytes, longer, absent, read_of}
-use Rattle.sx_reuse.specs.Entries.{Kept, entry_limit, entry_in, if_fits, if_short, if_suits}
+use Rattle.sx_reuse.specs.Entries.{CacheInputs, entry_limit, entry_in, if_fits, if_short, if_suits}
 use Rattle.sx_reuse.specs.Turns.{Asked}
 use Rattle.sx_reuse.proofs.Told.{if_told, if_any}
 
@@ -22,9 +22,9 @@ was_found (Some x) max held h = by (nat_lt max (length x)) refl h
     by true e g = absurd (cc)
     by false e g = let same : held ≡ x = cc in record { is = ap (λ y. Some y) (sym same); short = ap (λ y. nat_lt max (length y)) same ∙ e }
 
-module _ (k : Kept) (records : List LibRecord) (f : Found) where
+module _ (k : CacheInputs) (records : List CompiledLibrary) (f : Found) where
   -- the record in what is held
-  abbrev in_held : List ℕ → Option LibRecord
+  abbrev in_held : List ℕ → Option CompiledLibrary
   in_held held = if_suits records f (if_fits k f (entry_in held))
 
   pub found_is : (r : Option (List ℕ)) (held : List ℕ) → bytes held ≡ read_of r entry_limit → if_suits records f (if_fits k f (entry_in held)) ≡ if_short k records f r
@@ -48,16 +48,16 @@ module _ (k : Kept) (records : List LibRecord) (f : Found) where
       by true g = refl
       by false g = absurd (cc)
 
-pub asked_of : (o stored : Option LibRecord) (before after : ℕ) → o ≡ stored → Asked (Ok o) before after stored
+pub asked_of : (o stored : Option CompiledLibrary) (before after : ℕ) → o ≡ stored → Asked (Ok o) before after stored
 asked_of None stored before after e = λ q. sym e
 asked_of (Some r) stored before after e = sym e
 
 -- what a call for the entry in a place answers
-module _ (told : Option Paths) (k : Kept) (records : List LibRecord) (f : Found) (place : List ℕ) (before after : ℕ) where
-  abbrev stored_at : Paths → Option LibRecord
+module _ (told : Option Paths) (k : CacheInputs) (records : List CompiledLibrary) (f : Found) (place : List ℕ) (before after : ℕ) where
+  abbrev stored_at : Paths → Option CompiledLibrary
   stored_at x = if_short k records f (at_path x place)
 
-  pub asked_found : (held : List ℕ) (result : Result (Option LibRecord) Memory) → IfSome told (λ x. bytes held ≡ read_of (at_path x place) entry_limit)
+  pub asked_found : (held : List ℕ) (result : Result (Option CompiledLibrary) Memory) → IfSome told (λ x. bytes held ≡ read_of (at_path x place) entry_limit)
       → IfOk result (λ o. o ≡ if_suits records f (if_fits k f (entry_in held))) → IfSome told (λ x. Asked result before after (stored_at x))
   asked_found held (Ok o) h is =
       if_told told (λ x. bytes held ≡ read_of (at_path x place) entry_limit) (λ x. Asked (Ok o) before after (stored_at x))

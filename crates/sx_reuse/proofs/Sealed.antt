@@ -4,7 +4,7 @@ use Rattle.std.specs.Prelude.{IfOk, if◌then◌else◌}
 use Rattle.sx_base.specs.declared.memory.Memory.{Memory}
 use Rattle.sx_cache.specs.Fitting.{fitting_record, sealed_record, stored_in}
 use Rattle.sx_cache.specs.Seal.{is_sealed, sealed}
-use Rattle.sx_core.specs.declared.record.LibRecord.{LibRecord}
+use Rattle.sx_core.specs.declared.record.CompiledLibrary.{CompiledLibrary}
 use Rattle.sx_load.specs.declared.found.Source.{Source}
 use Rattle.sx_reuse.specs.Entries.{decoded, entry_in}
 
@@ -14,9 +14,9 @@ module _ (roots : List (List ℕ)) (sources : List Source) (chosen held : List �
   by_seal true = refl
   by_seal false = refl
 
-  pub sealed_fits : (result : Result (Option LibRecord) Memory) → IfOk result (λ o. o ≡ sealed_record roots sources chosen held)
+  pub sealed_fits : (result : Result (Option CompiledLibrary) Memory) → IfOk result (λ o. o ≡ sealed_record roots sources chosen held)
       → IfOk result (λ o. o ≡ stored_in roots sources chosen (entry_in held))
-  sealed_fits result h = subst (λ (r : Option LibRecord). IfOk result (λ o. o ≡ r)) (by_seal (is_sealed held)) h
+  sealed_fits result h = subst (λ (r : Option CompiledLibrary). IfOk result (λ o. o ≡ r)) (by_seal (is_sealed held)) h
 
 -- ---- the bytes of an entry, by whether it has a spelling
 

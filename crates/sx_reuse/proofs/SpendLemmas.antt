@@ -3,7 +3,7 @@ use Rattle.std.proofs.Common.{◌≡◌, ℕ, ◌+◌, Bool, List, Option, Resul
 use Rattle.std.specs.Prelude.{string_bytes, IfOk, OnOk}
 use Rattle.sx_base.specs.declared.fault.Fault.{Fault}
 use Rattle.sx_base.specs.declared.fault.Stop.{Stop}
-use Rattle.sx_core.specs.declared.record.LibRecord.{LibRecord}
+use Rattle.sx_core.specs.declared.record.CompiledLibrary.{CompiledLibrary}
 use Rattle.sx_derived.specs.Derived.{derived_record, derived_spent}
 use Rattle.sx_eval.specs.Codes.{Codes}
 use Rattle.sx_forms.specs.Form.{program_body}
@@ -11,41 +11,41 @@ use Rattle.sx_library.specs.Loaded.{found_spent}
 use Rattle.sx_load.specs.declared.found.Found.{Found}
 use Rattle.sx_outside.specs.Contents.{Paths}
 use Rattle.sx_outside.specs.Store.{WhereTold}
-use Rattle.sx_reuse.specs.Entries.{Kept}
+use Rattle.sx_reuse.specs.Entries.{CacheInputs}
 use Rattle.sx_reuse.specs.Fuel.{progress_spent, came_spent, TurnsSpend, WritesSpending}
-use Rattle.sx_reuse.specs.Progress.{Progress, begun}
+use Rattle.sx_reuse.specs.Progress.{ReuseProgress, begun}
 use Rattle.sx_reuse.specs.Texts.{Text, with_flags, TextGives, took}
 use Rattle.sx_reuse.specs.Turns.{TakeFrom}
 use Rattle.sx_reuse.specs.declared.texts.Came.{Came}
 use Rattle.sx_reuse.specs.declared.texts.Came.TheVariants as came
-use Rattle.sx_reuse.specs.declared.texts.Written.{Written}
+use Rattle.sx_reuse.specs.declared.texts.WrittenProgram.{WrittenProgram}
 use Rattle.sx_reuse.proofs.FuelLemmas.{derived_then}
 use Rattle.sx_reuse.proofs.Told.{told_by}
 
 module _ (prelude : Result Codes Fault) where
   -- behind the derived library, whatever the turns come to
-  pub all_turns : (derived : LibRecord) (p : Progress) (fs : List Found) (r : Result Progress Stop) (start middle after : ℕ) → p ≡ begun derived → middle ≡ start + derived_spent prelude
-      → IfOk r (λ (q : Progress). TurnsSpend prelude p fs q middle after) → IfOk r (λ (q : Progress). after ≡ start + progress_spent prelude fs q)
+  pub all_turns : (derived : CompiledLibrary) (p : ReuseProgress) (fs : List Found) (r : Result ReuseProgress Stop) (start middle after : ℕ) → p ≡ begun derived → middle ≡ start + derived_spent prelude
+      → IfOk r (λ (q : ReuseProgress). TurnsSpend prelude p fs q middle after) → IfOk r (λ (q : ReuseProgress). after ≡ start + progress_spent prelude fs q)
   all_turns derived p fs (Ok q) start middle after is first turns = derived_then prelude derived p q fs start middle after is first turns
   all_turns derived p fs (Err stop) start middle after is first turns = tt
 
   -- the program, behind the records of a progress
-  pub program_spent : (f : Found) (p : Progress) (records : List LibRecord) (before after : ℕ) → records ≡ p.records → after ≡ before + found_spent prelude records f (program_body f.opened.«data»)
+  pub program_spent : (f : Found) (p : ReuseProgress) (records : List CompiledLibrary) (before after : ℕ) → records ≡ p.records → after ≡ before + found_spent prelude records f (program_body f.opened.«data»)
       → after ≡ before + came_spent prelude (came.Program f) p
-  program_spent f p records before after is rose = rose ∙ ap (λ (rs : List LibRecord). before + found_spent prelude rs f (program_body f.opened.«data»)) is
+  program_spent f p records before after is rose = rose ∙ ap (λ (rs : List CompiledLibrary). before + found_spent prelude rs f (program_body f.opened.«data»)) is
 
-module _ (k : Kept) (prelude : Result Codes Fault) (c : Came) (fs : List Found) (before after : Paths) (fa fb start middle last : ℕ) where
-  text_spends : (d : Result LibRecord Fault) (p : Progress) (w : Written) → derived_record prelude ≡ d → TakeFrom k prelude d (Ok p) fs before after fa fb → TextGives prelude (Ok w) c p
+module _ (k : CacheInputs) (prelude : Result Codes Fault) (c : Came) (fs : List Found) (before after : Paths) (fa fb start middle last : ℕ) where
+  text_spends : (d : Result CompiledLibrary Fault) (p : ReuseProgress) (w : WrittenProgram) → derived_record prelude ≡ d → TakeFrom k prelude d (Ok p) fs before after fa fb → TextGives prelude (Ok w) c p
       → middle ≡ start + progress_spent prelude fs p → last ≡ middle + came_spent prelude c p → WritesSpending k prelude c fs before fa after fb (Ok (string_bytes w.text, w.reused)) start last
   text_spends (Ok derived) p w is turns h one two =
       subst (λ (x : Result Text Fault). WritesSpending k prelude c fs before fa after fb x start last)
       (ap (with_flags p.reused) h.0 ∙ ap (λ (flags : List Bool). Ok (string_bytes w.text, flags)) (sym h.1)) (record { writes = took derived p is turns; rose = omega (arith, one, two) })
   text_spends (Err fault) p w is turns h one two = absurd turns
 
-module _ (k : Kept) (prelude : Result Codes Fault) (told after : Option Paths) (c : Came) (fs : List Found) (fa fb start middle last : ℕ) where
-  pub turns_spend : (p : Progress) (r : Result Written Stop) → WhereTold told after (λ a b. TakeFrom k prelude (derived_record prelude) (Ok p) fs a b fa fb) → TextGives prelude r c p
+module _ (k : CacheInputs) (prelude : Result Codes Fault) (told after : Option Paths) (c : Came) (fs : List Found) (fa fb start middle last : ℕ) where
+  pub turns_spend : (p : ReuseProgress) (r : Result WrittenProgram Stop) → WhereTold told after (λ a b. TakeFrom k prelude (derived_record prelude) (Ok p) fs a b fa fb) → TextGives prelude r c p
       → middle ≡ start + progress_spent prelude fs p → OnOk r (last ≡ middle + came_spent prelude c p)
-      → IfOk r (λ (w : Written). WhereTold told after (λ a b. WritesSpending k prelude c fs a fa b fb (Ok (string_bytes w.text, w.reused)) start last))
+      → IfOk r (λ (w : WrittenProgram). WhereTold told after (λ a b. WritesSpending k prelude c fs a fa b fb (Ok (string_bytes w.text, w.reused)) start last))
   turns_spend p (Ok w) h text one two =
       told_by told after (λ a b. TakeFrom k prelude (derived_record prelude) (Ok p) fs a b fa fb) (λ a b. WritesSpending k prelude c fs a fa b fb (Ok (string_bytes w.text, w.reused)) start last)
       (λ a b turns. text_spends k prelude c fs a b fa fb start middle last (derived_record prelude) p w refl turns text one two) h

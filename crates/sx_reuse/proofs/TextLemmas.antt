@@ -5,31 +5,31 @@ use Rattle.sx_base.specs.declared.fault.Fault.{Fault}
 use Rattle.sx_base.specs.declared.fault.Stop.{Stop}
 use Rattle.sx_base.specs.declared.fault.Stop.TheVariants as stop
 use Rattle.sx_base.specs.Gives.{Stops as Stops-of}
-use Rattle.sx_core.specs.declared.record.LibRecord.{LibRecord}
+use Rattle.sx_core.specs.declared.record.CompiledLibrary.{CompiledLibrary}
 use Rattle.sx_derived.specs.Derived.{derived_record}
 use Rattle.sx_eval.specs.Codes.{Codes}
 use Rattle.sx_load.specs.declared.found.Found.{Found}
 use Rattle.sx_outside.specs.Contents.{Paths}
 use Rattle.sx_outside.specs.Store.{WhereTold}
-use Rattle.sx_reuse.specs.Entries.{Kept}
+use Rattle.sx_reuse.specs.Entries.{CacheInputs}
 use Rattle.sx_reuse.specs.Expansion.{text_after}
-use Rattle.sx_reuse.specs.Progress.{Progress, begun}
+use Rattle.sx_reuse.specs.Progress.{ReuseProgress, begun}
 use Rattle.sx_reuse.specs.Texts.{Text, with_flags, TextGives, Writes, took, stopped, unready, Leaves, untouched, turned, Answers}
-use Rattle.sx_reuse.specs.Turns.{State, state, Turns, done, next, Stops, here, later, BreaksOff, between, within, behind, nothing_put, TakeFrom}
+use Rattle.sx_reuse.specs.Turns.{TurnState, state, ReuseTurns, done, next, TurnsStop, here, later, BreaksOff, between, within, behind, nothing_put, TakeFrom}
 use Rattle.sx_reuse.specs.declared.texts.Came.{Came}
 use Rattle.sx_reuse.specs.declared.texts.Came.TheVariants as came
-use Rattle.sx_reuse.specs.declared.texts.Written.{Written}
+use Rattle.sx_reuse.specs.declared.texts.WrittenProgram.{WrittenProgram}
 use Rattle.sx_reuse.proofs.Told.{told_by}
 use Rattle.sx_reuse.proofs.TurnLemmas.{same_count}
 
-module _ (k : Kept) (prelude : Result Codes Fault) where
+module _ (k : CacheInputs) (prelude : Result Codes Fault) where
   -- all turns were taken, and then memory ran out
-  pub taken_off : (s last : State) (fs : List Found) → Turns k prelude s fs last → BreaksOff k prelude last.store last.faults s fs
+  pub taken_off : (s last : TurnState) (fs : List Found) → ReuseTurns k prelude s fs last → BreaksOff k prelude last.store last.faults s fs
   taken_off s last fs done = between refl (same_count s.faults)
   taken_off s last fs (next {t = t} {fs = rest} turn turns) = behind turn (taken_off t last rest turns)
 
   -- the turns before a fault
-  stopped_off : (fault : Fault) (store : Paths) (faults : ℕ) (s : State) (fs : List Found) → Stops k prelude fault store faults s fs → BreaksOff k prelude store faults s fs
+  stopped_off : (fault : Fault) (store : Paths) (faults : ℕ) (s : TurnState) (fs : List Found) → TurnsStop k prelude fault store faults s fs → BreaksOff k prelude store faults s fs
   stopped_off fault store faults s fs (here at) = within (nothing_put at.same at.later)
   stopped_off fault store faults s fs (later {t = t} {fs = rest} turn stops) = behind turn (stopped_off fault store faults t rest stops)
 
@@ -40,7 +40,7 @@ module _ (k : Kept) (prelude : Result Codes Fault) where
     writes_leave made (stopped derived fault is stops) = turned derived is (stopped_off fault after fb (state (begun derived) before fa) fs stops)
     writes_leave made (unready fault is same) = untouched same
 
-    text_is : (derived : LibRecord) (p : Progress) (r : Result Written Stop) → derived_record prelude ≡ Ok derived → Turns k prelude (state (begun derived) before fa) fs (state p after fb) → TextGives prelude r c p
+    text_is : (derived : CompiledLibrary) (p : ReuseProgress) (r : Result WrittenProgram Stop) → derived_record prelude ≡ Ok derived → ReuseTurns k prelude (state (begun derived) before fa) fs (state p after fb) → TextGives prelude r c p
         → Answers k prelude r c fs before fa after fb
     text_is derived p (Ok w) is turns h =
         subst (λ (x : Result Text Fault). Writes k prelude c fs before fa after fb x)
@@ -48,11 +48,11 @@ module _ (k : Kept) (prelude : Result Codes Fault) where
     text_is derived p (Err (stop.Fault fault)) is turns h = subst (λ (x : Result Text Fault). Writes k prelude c fs before fa after fb x) (ap (with_flags p.reused) h) (took derived p is turns)
     text_is derived p (Err stop.Memory) is turns h = turned derived is (taken_off (state (begun derived) before fa) (state p after fb) fs turns)
 
-    by_turns : (d : Result LibRecord Fault) (p : Progress) (r : Result Written Stop) → derived_record prelude ≡ d → TakeFrom k prelude d (Ok p) fs before after fa fb → TextGives prelude r c p → Answers k prelude r c fs before fa after fb
+    by_turns : (d : Result CompiledLibrary Fault) (p : ReuseProgress) (r : Result WrittenProgram Stop) → derived_record prelude ≡ d → TakeFrom k prelude d (Ok p) fs before after fa fb → TextGives prelude r c p → Answers k prelude r c fs before fa after fb
     by_turns (Ok derived) p r is turns h = text_is derived p r is turns h
     by_turns (Err fault) p r is turns h = absurd turns
 
-    by_stop : (d : Result LibRecord Fault) (x : Stop) → derived_record prelude ≡ d → TakeFrom k prelude d (Err x) fs before after fa fb → Answers k prelude (Err x) c fs before fa after fb
+    by_stop : (d : Result CompiledLibrary Fault) (x : Stop) → derived_record prelude ≡ d → TakeFrom k prelude d (Err x) fs before after fa fb → Answers k prelude (Err x) c fs before fa after fb
     by_stop (Ok derived) (stop.Fault fault) is h = stopped derived fault is h
     by_stop (Ok derived) stop.Memory is h = turned derived is h
     by_stop (Err fault) (stop.Fault f) is h = unready f (is ∙ ap (λ (x : Fault). Err x) (sym h.0)) h.1
@@ -60,16 +60,16 @@ module _ (k : Kept) (prelude : Result Codes Fault) where
 
   -- ---- the text of the program
 
-  pub text_stops : (x : Stop) (f : Found) (p : Progress) (records : List LibRecord) → records ≡ p.records → Stops-of x (text_after prelude records f) → TextGives prelude (Err x) (came.Program f) p
-  text_stops (stop.Fault fault) f p records is h = ap (λ (rs : List LibRecord). text_after prelude rs f) (sym is) ∙ h
+  pub text_stops : (x : Stop) (f : Found) (p : ReuseProgress) (records : List CompiledLibrary) → records ≡ p.records → Stops-of x (text_after prelude records f) → TextGives prelude (Err x) (came.Program f) p
+  text_stops (stop.Fault fault) f p records is h = ap (λ (rs : List CompiledLibrary). text_after prelude rs f) (sym is) ∙ h
   text_stops stop.Memory f p records is h = tt
 
-  pub text_done : (w : Written) (f : Found) (p : Progress) (records : List LibRecord) → records ≡ p.records → w.reused ≡ p.reused → text_after prelude records f ≡ Ok (string_bytes w.text)
+  pub text_done : (w : WrittenProgram) (f : Found) (p : ReuseProgress) (records : List CompiledLibrary) → records ≡ p.records → w.reused ≡ p.reused → text_after prelude records f ≡ Ok (string_bytes w.text)
       → TextGives prelude (Ok w) (came.Program f) p
-  text_done w f p records is flags h = (ap (λ (rs : List LibRecord). text_after prelude rs f) (sym is) ∙ h, flags)
+  text_done w f p records is flags h = (ap (λ (rs : List CompiledLibrary). text_after prelude rs f) (sym is) ∙ h, flags)
 
   module _ (told after : Option Paths) (c : Came) (fs : List Found) (fa fb : ℕ) where
-    pub behind_turns : (p : Progress) (r : Result Written Stop) → WhereTold told after (λ a b. TakeFrom k prelude (derived_record prelude) (Ok p) fs a b fa fb) → TextGives prelude r c p
+    pub behind_turns : (p : ReuseProgress) (r : Result WrittenProgram Stop) → WhereTold told after (λ a b. TakeFrom k prelude (derived_record prelude) (Ok p) fs a b fa fb) → TextGives prelude r c p
         → WhereTold told after (λ a b. Answers k prelude r c fs a fa b fb)
     behind_turns p r h text = told_by told after (λ a b. TakeFrom k prelude (derived_record prelude) (Ok p) fs a b fa fb) (λ a b. Answers k prelude r c fs a fa b fb)
         (λ a b turns. by_turns c fs a fa b fb (derived_record prelude) p r refl turns text) h

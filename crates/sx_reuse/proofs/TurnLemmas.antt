@@ -7,7 +7,7 @@ use Rattle.sx_base.specs.declared.fault.Stop.TheVariants as stop
 use Rattle.sx_base.specs.declared.memory.Memory.{Memory}
 use Rattle.sx_base.specs.Gives.{Stops}
 use Rattle.sx_cache.specs.declared.entry.Entry.{Entry}
-use Rattle.sx_core.specs.declared.record.LibRecord.{LibRecord}
+use Rattle.sx_core.specs.declared.record.CompiledLibrary.{CompiledLibrary}
 use Rattle.sx_eval.specs.Codes.{Codes}
 use Rattle.sx_forms.specs.Form.{library_body}
 use Rattle.sx_library.specs.Loaded.{expand_found}
@@ -15,11 +15,11 @@ use Rattle.sx_load.specs.declared.found.Found.{Found}
 use Rattle.sx_outside.specs.Causes.{Rose}
 use Rattle.sx_outside.specs.Contents.{Paths, at_path}
 use Rattle.sx_outside.specs.Store.{KeepsOthers, Sets, WhereTold}
-use Rattle.sx_reuse.specs.Entries.{Kept, entry_limit, if_short, made, place_of, spelled}
-use Rattle.sx_reuse.specs.Progress.{Progress, begun, with_record}
+use Rattle.sx_reuse.specs.Entries.{CacheInputs, entry_limit, if_short, made, place_of, spelled}
+use Rattle.sx_reuse.specs.Progress.{ReuseProgress, begun, with_record}
 use Rattle.sx_reuse.specs.declared.turns.Recorded.{Recorded}
 use Rattle.sx_reuse.specs.Turns as turns
-use Rattle.sx_reuse.specs.Turns.{IsPut, put, too_long, unspelled, failed, PutsEntry, Quiet, State, state, Turn, reused, expanded, Breaks, nothing_put, entry_put, BreaksOff, between, Keeps, Records, TakesTurn, TakeTurns, TakeFrom}
+use Rattle.sx_reuse.specs.Turns.{IsPut, put, too_long, unspelled, failed, PutsEntry, Quiet, TurnState, state, ReuseTurn, reused, expanded, Breaks, nothing_put, entry_put, BreaksOff, between, Keeps, Records, TakesTurn, TakeTurns, TakeFrom}
 use Rattle.sx_reuse.proofs.Told.{told_same, told_by, told_here, told_where, rose_later}
 
 up_to : (a b c : ℕ) → a ≤ b → b ≤ c → a ≤ c
@@ -28,10 +28,10 @@ up_to a b c h k = omega (arith, h, k)
 pub same_count : (a : ℕ) → a ≤ a
 same_count a = omega arith
 
-abbrev pub anew : LibRecord → Recorded
+abbrev pub anew : CompiledLibrary → Recorded
 anew r = record { library = r; reused = false }
 
-abbrev pub again : LibRecord → Recorded
+abbrev pub again : CompiledLibrary → Recorded
 again r = record { library = r; reused = true }
 
 -- what was called left all as it was
@@ -62,10 +62,10 @@ pub spelling_put : (fa fb : ℕ) (place piece : List ℕ) (o : Option (List ℕ)
     → WhereTold told after (λ a c. PutsEntry result fa fb place a (Some piece) c) → WhereTold told after (λ a c. PutsEntry result fa fb place a o c)
 spelling_put fa fb place piece o told after result is h = subst (λ (x : Option (List ℕ)). WhereTold told after (λ a c. PutsEntry result fa fb place a x c)) is h
 
-module _ (k : Kept) (prelude : Result Codes Fault) where
+module _ (k : CacheInputs) (prelude : Result Codes Fault) where
   -- ---- what was expanded, and its entry
 
-  module _ (records : List LibRecord) (f : Found) (place : List ℕ) (fa : ℕ) where
+  module _ (records : List CompiledLibrary) (f : Found) (place : List ℕ) (fa : ℕ) where
     -- it stopped before anything was put
     pub keeps_nothing : (told : Option Paths) (fb : ℕ) (x : Stop) → Stops x (expand_found prelude records f (library_body f.opened.«data»))
         → WhereTold told told (λ a c. Keeps k prelude records f place (Err x) a c fa fb)
@@ -76,22 +76,22 @@ module _ (k : Kept) (prelude : Result Codes Fault) where
       pub keep_lost : (memory : Memory) → WhereTold told after (λ a c. PutsEntry (Err memory) fa fb place a (spelled e) c) → WhereTold told after (λ a c. Keeps k prelude records f place (Err stop.Memory) a c fa fb)
       keep_lost memory h = told_by told after (λ a c. PutsEntry (Err memory) fa fb place a (spelled e) c) (λ a c. Keeps k prelude records f place (Err stop.Memory) a c fa fb) (λ a c same. same) h
 
-      pub keep_done : (q : Recorded) (r : LibRecord) (u : Unit) → q ≡ anew e.stored → e ≡ made k f r → expand_found prelude records f (library_body f.opened.«data») ≡ Ok r
+      pub keep_done : (q : Recorded) (r : CompiledLibrary) (u : Unit) → q ≡ anew e.stored → e ≡ made k f r → expand_found prelude records f (library_body f.opened.«data») ≡ Ok r
           → WhereTold told after (λ a c. PutsEntry (Ok u) fa fb place a (spelled e) c) → WhereTold told after (λ a c. Keeps k prelude records f place (Ok q) a c fa fb)
       keep_done q r u new is expands h =
           let stored : q.library ≡ r = ap (λ (x : Recorded). x.library) new ∙ ap (λ (x : Entry). x.stored) is in
           let whole : e ≡ made k f q.library = is ∙ ap (made k f) (sym stored) in
           told_by told after (λ a c. PutsEntry (Ok u) fa fb place a (spelled e) c) (λ a c. Keeps k prelude records f place (Ok q) a c fa fb)
-          (λ a c kept. (expands ∙ ap (λ (x : LibRecord). Ok x) (sym stored), subst (λ (x : Entry). IsPut fa fb place a (spelled x) c) whole kept, ap (λ (x : Recorded). x.reused) new)) h
+          (λ a c kept. (expands ∙ ap (λ (x : CompiledLibrary). Ok x) (sym stored), subst (λ (x : Entry). IsPut fa fb place a (spelled x) c) whole kept, ap (λ (x : Recorded). x.reused) new)) h
 
   -- ---- the turn of one library
 
   -- what is left where memory runs out behind a turn
-  broken_off : (s t : State) (f : Found) → Turn k prelude s f t → Breaks k prelude s f t.store t.faults
+  broken_off : (s t : TurnState) (f : Found) → ReuseTurn k prelude s f t → Breaks k prelude s f t.store t.faults
   broken_off s t f (reused r faults more stored) = nothing_put refl more
   broken_off s t f (expanded r asked faults left more further misses expands kept) = entry_put r asked more further expands kept
 
-  module _ (p : Progress) (f : Found) (fa : ℕ) where
+  module _ (p : ReuseProgress) (f : Found) (fa : ℕ) where
     abbrev Records-as : Result Recorded Stop → Option Paths → Option Paths → ℕ → Type 0
     Records-as result told after fb = WhereTold told after (λ a c. Records k prelude result (state p a fa) f c fb)
 
@@ -100,13 +100,13 @@ module _ (k : Kept) (prelude : Result Codes Fault) where
     no_turn told after fb same more = still told after (λ a c. Records k prelude (Err stop.Memory) (state p a fa) f c fb) same (λ a. nothing_put refl more)
 
     module _ (place : List ℕ) (is : place ≡ place_of k f) (fb : ℕ) (more : fa ≤ fb) where
-      abbrev stored_at : Paths → Option LibRecord
+      abbrev stored_at : Paths → Option CompiledLibrary
       stored_at a = if_short k p.records f (at_path a place)
 
       stored_is : (a : Paths) → stored_at a ≡ turns.stored k prelude (state p a fa) f
       stored_is a = ap (λ (x : List ℕ). if_short k p.records f (at_path a x)) is
 
-      pub reuse_turn : (told after : Option Paths) (r : LibRecord) → after ≡ told → IfSome told (λ a. stored_at a ≡ Some r) → Records-as (Ok (again r)) told after fb
+      pub reuse_turn : (told after : Option Paths) (r : CompiledLibrary) → after ≡ told → IfSome told (λ a. stored_at a ≡ Some r) → Records-as (Ok (again r)) told after fb
       reuse_turn told after r same h =
           subst (λ (t : Option Paths). WhereTold told t (λ a c. Records k prelude (Ok (again r)) (state p a fa) f c fb)) (sym same)
           (told_here told (λ a. stored_at a ≡ Some r) (λ a c. Records k prelude (Ok (again r)) (state p a fa) f c fb) (λ a stored. reused r fb more (sym (stored_is a) ∙ stored)) h)
@@ -115,7 +115,7 @@ module _ (k : Kept) (prelude : Result Codes Fault) where
         one : (result : Result Recorded Stop) (a c : Paths) → (Quiet fa fb → stored_at a ≡ None) → Keeps k prelude p.records f place result a c fb fc → Records k prelude result (state p a fa) f c fc
         one (Ok q) a c misses m =
             let kept : IsPut fb fc (place_of k f) a (spelled (made k f q.library)) c = subst (λ (x : List ℕ). IsPut fb fc x a (spelled (made k f q.library)) c) is m.1 in
-            subst (λ (again : Bool). Turn k prelude (state p a fa) f (state (with_record p q.library again) c fc)) (sym m.2)
+            subst (λ (again : Bool). ReuseTurn k prelude (state p a fa) f (state (with_record p q.library again) c fc)) (sym m.2)
             (expanded q.library fb fc c more further (λ quiet. sym (stored_is a) ∙ misses quiet) m.0 kept)
         one (Err (stop.Fault fault)) a c misses m = record {
           later = up_to fa fb fc more further;
@@ -134,7 +134,7 @@ module _ (k : Kept) (prelude : Result Codes Fault) where
     -- ---- the progress behind the turn
 
     module _ (told after : Option Paths) (fb : ℕ) where
-      abbrev Takes-as : Result Progress Stop → Type 0
+      abbrev Takes-as : Result ReuseProgress Stop → Type 0
       Takes-as result = WhereTold told after (λ a c. TakesTurn k prelude result (state p a fa) f c fb)
 
       stops_so : (x : Stop) (a c : Paths) → Records k prelude (Err x) (state p a fa) f c fb → TakesTurn k prelude (Err x) (state p a fa) f c fb
@@ -149,23 +149,23 @@ module _ (k : Kept) (prelude : Result Codes Fault) where
           told_by told after (λ a c. Records k prelude (Ok r) (state p a fa) f c fb) (λ a c. TakesTurn k prelude (Err stop.Memory) (state p a fa) f c fb)
           (λ a c turn. broken_off (state p a fa) (state (with_record p r.library r.reused) c fb) f turn) h
 
-      pub turn_taken : (r : Recorded) (q : Progress) → q ≡ with_record p r.library r.reused → Records-as (Ok r) told after fb → Takes-as (Ok q)
+      pub turn_taken : (r : Recorded) (q : ReuseProgress) → q ≡ with_record p r.library r.reused → Records-as (Ok r) told after fb → Takes-as (Ok q)
       turn_taken r q is h =
           told_by told after (λ a c. Records k prelude (Ok r) (state p a fa) f c fb) (λ a c. TakesTurn k prelude (Ok q) (state p a fa) f c fb)
-          (λ a c turn. subst (λ (x : Progress). Turn k prelude (state p a fa) f (state x c fb)) (sym is) turn) h
+          (λ a c turn. subst (λ (x : ReuseProgress). ReuseTurn k prelude (state p a fa) f (state x c fb)) (sym is) turn) h
 
   -- ---- behind the derived library
 
   module _ (told : Option Paths) (fa : ℕ) (fs : List Found) where
-    pub without_derived : (derived : Result LibRecord Fault) (x : Stop) → Stops x derived → WhereTold told told (λ a c. TakeFrom k prelude derived (Err x) fs a c fa fa)
+    pub without_derived : (derived : Result CompiledLibrary Fault) (x : Stop) → Stops x derived → WhereTold told told (λ a c. TakeFrom k prelude derived (Err x) fs a c fa fa)
     without_derived derived (stop.Fault fault) h =
-        subst (λ (d : Result LibRecord Fault). WhereTold told told (λ a c. TakeFrom k prelude d (Err (stop.Fault fault)) fs a c fa fa)) (sym h)
+        subst (λ (d : Result CompiledLibrary Fault). WhereTold told told (λ a c. TakeFrom k prelude d (Err (stop.Fault fault)) fs a c fa fa)) (sym h)
         (told_same told (λ a c. (fault ≡ fault) × (c ≡ a)) (λ a. (refl, refl)))
     without_derived (Ok d) stop.Memory h = told_same told (λ a c. BreaksOff k prelude c fa (state (begun d) a fa) fs) (λ a. between refl (same_count fa))
     without_derived (Err fault) stop.Memory h = told_same told (λ a c. c ≡ a) (λ a. refl)
 
-    pub behind_derived : (after : Option Paths) (fb : ℕ) (derived : Result LibRecord Fault) (d : LibRecord) (p : Progress) (result : Result Progress Stop) → derived ≡ Ok d → p ≡ begun d
+    pub behind_derived : (after : Option Paths) (fb : ℕ) (derived : Result CompiledLibrary Fault) (d : CompiledLibrary) (p : ReuseProgress) (result : Result ReuseProgress Stop) → derived ≡ Ok d → p ≡ begun d
         → WhereTold told after (λ a c. TakeTurns k prelude result (state p a fa) fs c fb) → WhereTold told after (λ a c. TakeFrom k prelude derived result fs a c fa fb)
     behind_derived after fb derived d p result is begin h =
-        subst (λ (x : Result LibRecord Fault). WhereTold told after (λ a c. TakeFrom k prelude x result fs a c fa fb)) (sym is)
-        (subst (λ (x : Progress). WhereTold told after (λ a c. TakeTurns k prelude result (state x a fa) fs c fb)) begin h)
+        subst (λ (x : Result CompiledLibrary Fault). WhereTold told after (λ a c. TakeFrom k prelude x result fs a c fa fb)) (sym is)
+        (subst (λ (x : ReuseProgress). WhereTold told after (λ a c. TakeTurns k prelude result (state x a fa) fs c fb)) begin h)

@@ -8,7 +8,7 @@ use Rattle.sx_cache.specs.Fitting.{stored_in}
 use Rattle.sx_cache.specs.Place.{place}
 use Rattle.sx_cache.specs.Seal.{sealed}
 use Rattle.sx_cache.specs.declared.entry.Entry.{Entry}
-use Rattle.sx_core.specs.declared.record.LibRecord.{LibRecord}
+use Rattle.sx_core.specs.declared.record.CompiledLibrary.{CompiledLibrary}
 use Rattle.sx_core_laws.specs.Follows.{follows}
 use Rattle.sx_library.specs.Records.{needed_records}
 use Rattle.sx_load.specs.declared.found.Found.{Found}
@@ -22,7 +22,7 @@ entry_limit = 8388608
 
 -- what entries of a run are made of beside their records, and where they are kept: the directory, the roots, all that the
 -- run has read, and the groups of the libraries in the order of loading
-pub record Kept : Type 0 where
+pub record CacheInputs : Type 0 where
   pub dir : List ℕ
   pub roots : List (List ℕ)
   pub sources : List Source
@@ -31,7 +31,7 @@ pub record Kept : Type 0 where
 -- ---- an entry, and its bytes
 
 -- the entry of a library and its record
-abbrev pub made : Kept → Found → LibRecord → Entry
+abbrev pub made : CacheInputs → Found → CompiledLibrary → Entry
 made k f r = record { path = f.opened.path; roots = k.roots; sources = picked k.sources (chosen k.groups f); stored = r }
 
 -- its bytes, where it has a spelling
@@ -65,30 +65,30 @@ source_at sources None = []
 source_at sources (Some g) = bytes_of (slice_get sources g.own)
 
 -- the bytes of its own file
-abbrev pub own_source : Kept → Found → List ℕ
+abbrev pub own_source : CacheInputs → Found → List ℕ
 own_source k f = source_at k.sources (slice_get k.groups f.place)
 
-abbrev pub place_of : Kept → Found → List ℕ
+abbrev pub place_of : CacheInputs → Found → List ℕ
 place_of k f = place k.dir f.opened.path (own_source k f)
 
 -- ---- the record that a store has for a library
 
 -- the records before a library, of those that the run has made
-abbrev pub earlier : List LibRecord → Found → List LibRecord
+abbrev pub earlier : List CompiledLibrary → Found → List CompiledLibrary
 earlier records f = needed_records records (true ∷ f.needs)
 
 -- a record can stand for that of the library
-abbrev pub suits : List LibRecord → Found → LibRecord → Bool
+abbrev pub suits : List CompiledLibrary → Found → CompiledLibrary → Bool
 suits records f r = same_library r.name f.opened.form.name && (pointwise nat_eq r.version f.opened.form.version && (same_text r.path f.opened.path && follows r (earlier records f)))
 
-abbrev pub if_suits : List LibRecord → Found → Option LibRecord → Option LibRecord
+abbrev pub if_suits : List CompiledLibrary → Found → Option CompiledLibrary → Option CompiledLibrary
 if_suits records f None = None
 if_suits records f (Some r) = if suits records f r then Some r else None
 
 -- the record of an entry of its roots and sources
-abbrev pub if_fits : Kept → Found → Option Entry → Option LibRecord
+abbrev pub if_fits : CacheInputs → Found → Option Entry → Option CompiledLibrary
 if_fits k f o = stored_in k.roots k.sources (chosen k.groups f) o
 
-abbrev pub if_short : Kept → List LibRecord → Found → Option (List ℕ) → Option LibRecord
+abbrev pub if_short : CacheInputs → List CompiledLibrary → Found → Option (List ℕ) → Option CompiledLibrary
 if_short k records f None = None
 if_short k records f (Some held) = if nat_lt entry_limit (length held) then None else if_suits records f (if_fits k f (entry_in held))

@@ -3,18 +3,18 @@ use Rattle.std.specs.Prelude.{◌≡◌, ℕ, Bool, List, map, Result, Ok, Err, 
 use Rattle.sx_base.specs.declared.fault.Fault.{Fault}
 use Rattle.sx_base.specs.declared.fault.Stop.{Stop}
 use Rattle.sx_base.specs.declared.fault.Stop.TheVariants as stop
-use Rattle.sx_core.specs.declared.record.LibRecord.{LibRecord}
+use Rattle.sx_core.specs.declared.record.CompiledLibrary.{CompiledLibrary}
 use Rattle.sx_derived.specs.Derived.{derived_record}
 use Rattle.sx_eval.specs.Codes.{Codes}
 use Rattle.sx_load.specs.declared.found.Found.{Found}
 use Rattle.sx_outside.specs.Contents.{Paths}
-use Rattle.sx_reuse.specs.Entries.{Kept}
+use Rattle.sx_reuse.specs.Entries.{CacheInputs}
 use Rattle.sx_reuse.specs.Expansion.{text_after}
-use Rattle.sx_reuse.specs.Progress.{Progress, begun}
-use Rattle.sx_reuse.specs.Turns.{state, Turns, Stops, BreaksOff}
+use Rattle.sx_reuse.specs.Progress.{ReuseProgress, begun}
+use Rattle.sx_reuse.specs.Turns.{state, ReuseTurns, TurnsStop, BreaksOff}
 use Rattle.sx_reuse.specs.declared.texts.Came.{Came}
 use Rattle.sx_reuse.specs.declared.texts.Came.TheVariants as came
-use Rattle.sx_reuse.specs.declared.texts.Written.{Written}
+use Rattle.sx_reuse.specs.declared.texts.WrittenProgram.{WrittenProgram}
 
 -- a text, beside which libraries were reused
 abbrev pub Text : Type 0
@@ -29,32 +29,32 @@ found_in rows = map (λ (row : List ℕ × Found). row.1) rows
 
 module _ (prelude : Result Codes Fault) where
   -- the text of the program behind the records of its libraries; or the fault that ended loading
-  abbrev pub text_behind : Came → Progress → Result (List ℕ) Fault
+  abbrev pub text_behind : Came → ReuseProgress → Result (List ℕ) Fault
   text_behind (came.Program f) p = text_after prelude p.records f
   text_behind (came.Fault fault) p = Err fault
 
   -- what a call answers behind the turns
-  abbrev pub TextGives : Result Written Stop → Came → Progress → Type 0
+  abbrev pub TextGives : Result WrittenProgram Stop → Came → ReuseProgress → Type 0
   TextGives (Ok w) c p = (text_behind c p ≡ Ok (string_bytes w.text)) × (w.reused ≡ p.reused)
   TextGives (Err (stop.Fault fault)) c p = text_behind c p ≡ Err fault
   TextGives (Err stop.Memory) c p = Unit {0}
 
-module _ (k : Kept) (prelude : Result Codes Fault) where
+module _ (k : CacheInputs) (prelude : Result Codes Fault) where
   -- what the turns of the libraries come to, and what they leave of the store
   pub data Writes (c : Came) (fs : List Found) (before : Paths) (faults_before : ℕ) (after : Paths) (faults : ℕ) : Result Text Fault → Type 0 where
-    took : (derived : LibRecord) (p : Progress) → derived_record prelude ≡ Ok derived → Turns k prelude (state (begun derived) before faults_before) fs (state p after faults)
+    took : (derived : CompiledLibrary) (p : ReuseProgress) → derived_record prelude ≡ Ok derived → ReuseTurns k prelude (state (begun derived) before faults_before) fs (state p after faults)
         → Writes c fs before faults_before after faults (with_flags p.reused (text_behind prelude c p))
-    stopped : (derived : LibRecord) (fault : Fault) → derived_record prelude ≡ Ok derived → Stops k prelude fault after faults (state (begun derived) before faults_before) fs
+    stopped : (derived : CompiledLibrary) (fault : Fault) → derived_record prelude ≡ Ok derived → TurnsStop k prelude fault after faults (state (begun derived) before faults_before) fs
         → Writes c fs before faults_before after faults (Err fault)
     unready : (fault : Fault) → derived_record prelude ≡ Err fault → after ≡ before → Writes c fs before faults_before after faults (Err fault)
 
   -- what is left of the store, wherever the turns end
   pub data Leaves (fs : List Found) (before : Paths) (faults_before : ℕ) (after : Paths) (faults : ℕ) : Type 0 where
     untouched : after ≡ before → Leaves fs before faults_before after faults
-    turned : (derived : LibRecord) → derived_record prelude ≡ Ok derived → BreaksOff k prelude after faults (state (begun derived) before faults_before) fs → Leaves fs before faults_before after faults
+    turned : (derived : CompiledLibrary) → derived_record prelude ≡ Ok derived → BreaksOff k prelude after faults (state (begun derived) before faults_before) fs → Leaves fs before faults_before after faults
 
   -- what a call answers
-  abbrev pub Answers : Result Written Stop → Came → List Found → Paths → ℕ → Paths → ℕ → Type 0
+  abbrev pub Answers : Result WrittenProgram Stop → Came → List Found → Paths → ℕ → Paths → ℕ → Type 0
   Answers (Ok w) c fs before faults_before after faults = Writes c fs before faults_before after faults (Ok (string_bytes w.text, w.reused))
   Answers (Err (stop.Fault fault)) c fs before faults_before after faults = Writes c fs before faults_before after faults (Err fault)
   Answers (Err stop.Memory) c fs before faults_before after faults = Leaves fs before faults_before after faults

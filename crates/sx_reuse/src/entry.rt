@@ -16,7 +16,7 @@ use sx_cache::entry::{Entry, encode_entry};
 use sx_cache::fitting::sealed_record;
 use sx_cache::place::place;
 use sx_cache::seal::seal;
-use sx_core::record::LibRecord;
+use sx_core::record::CompiledLibrary;
 use sx_load::found::{Found, Source};
 
 /// The most bytes of an entry.
@@ -35,9 +35,9 @@ pub struct Cache<'a> {
 }
 
 impl<'a> Model for Cache<'a> {
-    ghost use Rattle.sx_reuse.specs.Entries.{Kept};
+    ghost use Rattle.sx_reuse.specs.Entries.{CacheInputs};
 
-    ghost Value = { Kept };
+    ghost Value = { CacheInputs };
 
     ghost view = { λ c. record { dir = c.dir.now; roots = c.roots.now; sources = c.sources.now; groups = c.groups.now } };
 }
@@ -111,7 +111,7 @@ impl<'a> Cache<'a> {
         alloc: Global,
         found: &Found,
         bytes: &[u8],
-    ) -> Result<Option<LibRecord>, Memory>
+    ) -> Result<Option<CompiledLibrary>, Memory>
         ensures { IfOk result (λ o. o ≡ if_fits self.now found.now (entry_in bytes.now)) }
     {
         let chosen = chosen(alloc, self.groups, found)?;
@@ -127,7 +127,7 @@ fn record_sealed(
     roots: &[Symbol],
     sources: &[Source],
     chosen: &[usize],
-) -> Result<Option<LibRecord>, Memory>
+) -> Result<Option<CompiledLibrary>, Memory>
     ensures { IfOk result (λ o. o ≡ stored_in roots.now sources.now chosen.now (entry_in bytes.now)) }
 {
     sealed_record(alloc, bytes, roots, sources, chosen)
@@ -150,7 +150,7 @@ pub struct Unmade {
 
 impl Unmade {
     /// The entry with its record. It takes no memory.
-    pub fn with(self, stored: LibRecord) -> Entry
+    pub fn with(self, stored: CompiledLibrary) -> Entry
         ensures { result ≡ record { path = self.path; roots = self.roots; sources = self.sources; stored = stored } }
     {
         let Unmade {

@@ -15,7 +15,7 @@ use sx_base::fault::Stop;
 use sx_base::items::Items;
 use sx_base::memory::Memory;
 use sx_base::symbol::Symbol;
-use sx_core::record::LibRecord;
+use sx_core::record::CompiledLibrary;
 use sx_core_text::whole::core_text;
 use sx_derived::implementation::Implementation;
 use sx_expand::tally::Tally;
@@ -24,7 +24,7 @@ use sx_forms::form::{LibraryForm, library_body, program_body};
 use sx_library::library::{Unexpanded, body_of, expand_body};
 use sx_library::records::{Needed, Records};
 use sx_load::found::{Found, Opened};
-use sx_pattern_bytes::held::Held;
+use sx_pattern_bytes::held::HeldReading;
 use sx_plan::planned::planned;
 
 /// What a file holds.
@@ -68,7 +68,7 @@ fn without_data(found: Found) -> (Symbol, LibraryForm)
 
 /// What an expansion is given: the implementation, and the records so far.
 #[derive(Drop)]
-pub struct Behind<'a> {
+pub struct ExpansionInputs<'a> {
     pub alloc: Global,
     pub implementation: &'a Implementation<'a>,
     pub records: &'a Records,
@@ -77,7 +77,7 @@ pub struct Behind<'a> {
 // The record and the links of what a file holds, behind the records that it needs. Its data go once they are syntax
 // objects.
 fn linked<N: Ledger, L: Ledger>(
-    behind: &Behind,
+    behind: &ExpansionInputs,
     file: File,
     found: Found,
     tally: &mut Tally<N, L>,
@@ -101,7 +101,7 @@ fn linked<N: Ledger, L: Ledger>(
 }
 
 // The record of an expansion, without its links.
-fn without_links(linked: Linked) -> LibRecord
+fn without_links(linked: Linked) -> CompiledLibrary
     ensures { result ≡ linked.library }
 {
     let Linked { library, .. } = linked;
@@ -110,11 +110,11 @@ fn without_links(linked: Linked) -> LibRecord
 
 /// The record of what a file holds, behind those that it needs.
 pub(crate) fn record_of<N: Ledger, L: Ledger>(
-    behind: &Behind,
+    behind: &ExpansionInputs,
     file: File,
     found: Found,
     tally: &mut Tally<N, L>,
-) -> Result<LibRecord, Stop>
+) -> Result<CompiledLibrary, Stop>
     ensures record { Gives (λ r. r) result (expand_found (kept behind.now.implementation.now.prelude) behind.now.records.now found
         (body_in file found.opened.«data»)) }
     ensures fuel { OnOk result (tally.new.fuel ≡ tally.old.fuel + found_spent (kept behind.now.implementation.now.prelude) behind.now.records.now found
@@ -125,7 +125,7 @@ pub(crate) fn record_of<N: Ledger, L: Ledger>(
 }
 
 // A program, with the libraries that it needs when it runs before it.
-fn planned_text(alloc: Global, records: &[LibRecord], program: &LibRecord) -> Result<String, Stop>
+fn planned_text(alloc: Global, records: &[CompiledLibrary], program: &CompiledLibrary) -> Result<String, Stop>
     ensures { Gives string_bytes result (planned_text records.now program.now) }
 {
     let plan = planned(alloc, records, program)?;
@@ -145,13 +145,13 @@ pub(crate) fn text_after<N: Ledger, L: Ledger>(
     ensures fuel { OnOk result (tally.new.fuel ≡ tally.old.fuel + found_spent (kept implementation.now.prelude) records found
         (program_body found.opened.«data»)) }
 {
-    let records = Held::new(records);
-    let behind = Behind {
+    let records = HeldReading::new(records);
+    let behind = ExpansionInputs {
         alloc,
         implementation,
         records: &records.value,
     };
     let program = record_of(&behind, File::Program, found, tally)?;
-    let records = Held::new(records.take().into_records());
+    let records = HeldReading::new(records.take().into_records());
     planned_text(alloc, &records.value, &program)
 }

@@ -9,7 +9,7 @@ use std::alloc::Global;
 use sx_base::items::Items;
 use sx_base::memory::Memory;
 use sx_base::symbol::Symbol;
-use sx_import::table::Table;
+use sx_import::table::NameTable;
 use sx_load::found::{Found, Source};
 
 /// Where the sources of a file stand: the paths under earlier roots, at which nothing stood, and its own path last.
@@ -68,8 +68,8 @@ fn group_behind(groups: &[Group], begun: Option<usize>) -> Option<Group>
 // That of the library at a place.
 fn group_of(
     all: &Items<Group>,
-    begun: &Table<()>,
-    done: &Table<Found>,
+    begun: &NameTable<()>,
+    done: &NameTable<Found>,
     place: usize,
 ) -> Option<Group>
     ensures { result ≡ group_of all.now begun.now (slice_get done.now place) }
@@ -81,8 +81,8 @@ fn group_of(
 /// The groups of libraries, in the order of loading.
 pub fn groups_of(
     alloc: Global,
-    begun: &Table<()>,
-    done: &Table<Found>,
+    begun: &NameTable<()>,
+    done: &NameTable<Found>,
     sources: &[Source],
 ) -> Result<Items<Group>, Memory>
     ensures { IfOk result (λ gs. AreGroups (groups_from 0 0 sources.now) begun.now done.now gs) }

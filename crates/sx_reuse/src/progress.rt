@@ -8,24 +8,24 @@ use std::alloc::Global;
 use std::marker::Model;
 use sx_base::items::Items;
 use sx_base::memory::Memory;
-use sx_core::record::LibRecord;
-use sx_follows::earlier::{Earlier, Places};
+use sx_core::record::CompiledLibrary;
+use sx_follows::earlier::{NeededEarlier, Places};
 use sx_library::records::Records;
-use sx_pattern_bytes::held::Held;
+use sx_pattern_bytes::held::HeldReading;
 
 /// The records so far, that of the derived library first, what they bind and define, and which of the others were reused.
 #[derive(Drop)]
 pub struct Turned {
-    records: Held<Records>,
+    records: HeldReading<Records>,
     places: Places,
     reused: Items<bool>,
 }
 
 impl Model for Turned {
     ghost use Rattle.sx_follows.specs.Earlier.{ArePlaces};
-    ghost use Rattle.sx_reuse.specs.Progress.{Progress, progress_code};
+    ghost use Rattle.sx_reuse.specs.Progress.{ReuseProgress, progress_code};
 
-    ghost Value = { Progress };
+    ghost Value = { ReuseProgress };
 
     ghost coded = { progress_code };
 
@@ -36,7 +36,7 @@ impl Model for Turned {
 
 impl Turned {
     /// The derived library alone.
-    pub fn new(alloc: Global, derived: LibRecord) -> Result<Turned, Memory>
+    pub fn new(alloc: Global, derived: CompiledLibrary) -> Result<Turned, Memory>
         ensures { IfOk result (λ t. t ≡ begun derived) }
     {
         let mut places = Places::new(alloc);
@@ -45,7 +45,7 @@ impl Turned {
         records.push(alloc, derived)?;
         let reused = Items::new(alloc);
         Ok(Turned {
-            records: Held::new(records),
+            records: HeldReading::new(records),
             places,
             reused,
         })
@@ -59,14 +59,14 @@ impl Turned {
 
     /// The records that are marked.
     #[tactic(auto, using(sx_library::proofs::PlaceLemmas::at_marks))]
-    pub fn earlier<'a>(&'a self, marks: &'a [bool]) -> Earlier<'a>
+    pub fn earlier<'a>(&'a self, marks: &'a [bool]) -> NeededEarlier<'a>
         ensures { result ≡ needed_records self.now.records marks.now }
     {
-        Earlier::new(self.records.value.ready().as_slice(), &self.places, marks)
+        NeededEarlier::new(self.records.value.ready().as_slice(), &self.places, marks)
     }
 
     /// The records, and one more behind them.
-    pub fn with(self, alloc: Global, last: LibRecord, reused: bool) -> Result<Turned, Memory>
+    pub fn with(self, alloc: Global, last: CompiledLibrary, reused: bool) -> Result<Turned, Memory>
         ensures { IfOk result (λ t. t ≡ with_record self last reused) }
     {
         let Turned {

@@ -15,7 +15,7 @@ use std::sync::ledger::Ledger;
 use sx_base::fault::{Fault, Stop};
 use sx_base::items::Items;
 use sx_expand::tally::Tally;
-use sx_import::table::Table;
+use sx_import::table::NameTable;
 use sx_load::found::Found;
 use sx_outside::Store;
 
@@ -28,14 +28,14 @@ pub enum Came {
 
 /// What was loaded: the libraries, in the order of loading, and then the program or the fault.
 #[derive(Drop)]
-pub struct Loaded {
-    pub libraries: Table<Found>,
+pub struct LoadedLibraries {
+    pub libraries: NameTable<Found>,
     pub came: Came,
 }
 
 /// The core text of a program, and which of its libraries were reused.
 #[derive(Drop)]
-pub struct Written {
+pub struct WrittenProgram {
     pub text: String,
     pub reused: Items<bool>,
 }
@@ -46,13 +46,13 @@ fn program_text<N: Ledger, L: Ledger>(
     turned: Turned,
     found: Found,
     tally: &mut Tally<N, L>,
-) -> Result<Written, Stop>
+) -> Result<WrittenProgram, Stop>
     ensures text { TextGives (kept turning.now.implementation.now.prelude) result (came.Program found) turned }
     ensures fuel { OnOk result (tally.new.fuel ≡ tally.old.fuel + came_spent (kept turning.now.implementation.now.prelude) (came.Program found) turned) }
 {
     let (records, reused) = turned.into_parts();
     let text = text_after(turning.alloc, turning.implementation, records, found, tally)?;
-    Ok(Written { text, reused })
+    Ok(WrittenProgram { text, reused })
 }
 
 // What comes of what was loaded, behind the libraries that took their turns.
@@ -61,7 +61,7 @@ fn text_behind<N: Ledger, L: Ledger>(
     turned: Turned,
     came: Came,
     tally: &mut Tally<N, L>,
-) -> Result<Written, Stop>
+) -> Result<WrittenProgram, Stop>
     ensures text { TextGives (kept turning.now.implementation.now.prelude) result came turned }
     ensures fuel { OnOk result (tally.new.fuel ≡ tally.old.fuel + came_spent (kept turning.now.implementation.now.prelude) came turned) }
 {
@@ -74,10 +74,10 @@ fn text_behind<N: Ledger, L: Ledger>(
 /// The core text of a program, whose libraries take their turns before it; or the first fault.
 pub fn write_program<S: Store, N: Ledger, L: Ledger>(
     turning: &Turning,
-    loaded: Loaded,
+    loaded: LoadedLibraries,
     store: &mut S,
     tally: &mut Tally<N, L>,
-) -> Result<Written, Stop>
+) -> Result<WrittenProgram, Stop>
     ensures later { S.faults store.old ≤ S.faults store.new }
     ensures answers { WhereTold (S.told store.old) (S.told store.new) (λ before after.
         Answers turning.now.cache.now (kept turning.now.implementation.now.prelude) result loaded.came (found_in loaded.libraries)
@@ -86,7 +86,7 @@ pub fn write_program<S: Store, N: Ledger, L: Ledger>(
         WritesSpending turning.now.cache.now (kept turning.now.implementation.now.prelude) loaded.came (found_in loaded.libraries)
         before (S.faults store.old) after (S.faults store.new) (Ok (string_bytes w.text, w.reused)) tally.old.fuel tally.new.fuel)) }
 {
-    let Loaded { libraries, came } = loaded;
+    let LoadedLibraries { libraries, came } = loaded;
     match take_turns(turning, libraries, store, tally) {
         Ok(turned) => text_behind(turning, turned, came, tally),
         Err(stop) => Err(stop),

@@ -15,22 +15,22 @@ ghost use Rattle.sx_reuse.specs.Progress.{with_record};
 ghost use Rattle.sx_reuse.specs.Turns.{Asked, Keeps, PutsEntry, Records, TakesTurn, TakeTurns, TakeFrom, state};
 
 use crate::entry::{Cache, Due, ENTRY_LIMIT, spelled};
-use crate::expansion::{Behind, File, record_of, with_derived};
+use crate::expansion::{ExpansionInputs, File, record_of, with_derived};
 use crate::progress::Turned;
 use std::alloc::Global;
 use std::sync::ledger::Ledger;
 use sx_base::fault::Stop;
 use sx_base::memory::Memory;
 use sx_cache::entry::Entry;
-use sx_core::record::LibRecord;
+use sx_core::record::CompiledLibrary;
 use sx_derived::derived::derived_record;
 use sx_derived::implementation::Implementation;
 use sx_expand::tally::Tally;
 use sx_follows::follows::follows;
-use sx_import::table::Table;
+use sx_import::table::NameTable;
 use sx_load::found::Found;
 use sx_outside::{OutsideError, Store, StoreAnswer};
-use sx_pattern_bytes::held::Held;
+use sx_pattern_bytes::held::HeldReading;
 
 /// What each turn of a run is given.
 #[derive(Drop)]
@@ -43,7 +43,7 @@ pub struct Turning<'a> {
 /// The record of a library, and whether it was reused.
 #[derive(Drop)]
 pub struct Recorded {
-    pub library: LibRecord,
+    pub library: CompiledLibrary,
     pub reused: bool,
 }
 
@@ -59,7 +59,7 @@ fn of_expansion(entry: Entry) -> Recorded
 }
 
 // Whether a record can stand for that of a library.
-fn suits(alloc: Global, turned: &Turned, found: &Found, one: &LibRecord) -> Result<bool, Memory>
+fn suits(alloc: Global, turned: &Turned, found: &Found, one: &CompiledLibrary) -> Result<bool, Memory>
     ensures { IfOk result (λ b. b ≡ suits turned.now.records found.now one.now) }
 {
     let form = &found.opened.form;
@@ -82,13 +82,13 @@ fn stored_in(
     turned: &Turned,
     found: &Found,
     held: &[u8],
-) -> Result<Option<LibRecord>, Memory>
+) -> Result<Option<CompiledLibrary>, Memory>
     ensures { IfOk result (λ o. o ≡ if_suits turned.now.records found.now (if_fits turning.now.cache.now found.now (entry_in held.now))) }
 {
     let Some(stored) = turning.cache.record_in(turning.alloc, found, held)? else {
         return Ok(None);
     };
-    let stored = Held::new(stored);
+    let stored = HeldReading::new(stored);
     if suits(turning.alloc, turned, found, &stored.value)? {
         Ok(Some(stored.take()))
     } else {
@@ -102,7 +102,7 @@ fn ask<S: Store>(
     turned: &Turned,
     due: &Due,
     store: &mut S,
-) -> Result<Option<LibRecord>, Memory>
+) -> Result<Option<CompiledLibrary>, Memory>
     ensures same { S.told store.new ≡ S.told store.old }
     ensures later { S.faults store.old ≤ S.faults store.new }
     ensures answer { IfSome (S.told store.old) (λ before. Asked result (S.faults store.old) (S.faults store.new)
@@ -152,13 +152,13 @@ fn expanded<N: Ledger, L: Ledger>(
     turned: &Turned,
     found: Found,
     tally: &mut Tally<N, L>,
-) -> Result<LibRecord, Stop>
+) -> Result<CompiledLibrary, Stop>
     ensures record { Gives (λ r. r) result (expand_found (kept turning.now.implementation.now.prelude) turned.now.records found
         (library_body found.opened.«data»)) }
     ensures fuel { OnOk result (tally.new.fuel ≡ tally.old.fuel + found_spent (kept turning.now.implementation.now.prelude) turned.now.records found
         (library_body found.opened.«data»)) }
 {
-    let behind = Behind {
+    let behind = ExpansionInputs {
         alloc: turning.alloc,
         implementation: turning.implementation,
         records: turned.records(),
@@ -244,7 +244,7 @@ fn take_turn<S: Store, N: Ledger, L: Ledger>(
 fn take_each<S: Store, N: Ledger, L: Ledger>(
     turning: &Turning,
     turned: Turned,
-    libraries: Table<Found>,
+    libraries: NameTable<Found>,
     store: &mut S,
     tally: &mut Tally<N, L>,
 ) -> Result<Turned, Stop>
@@ -264,7 +264,7 @@ fn take_each<S: Store, N: Ledger, L: Ledger>(
 /// The record of the derived library, and behind it those of others, in the order of loading.
 pub(crate) fn take_turns<S: Store, N: Ledger, L: Ledger>(
     turning: &Turning,
-    libraries: Table<Found>,
+    libraries: NameTable<Found>,
     store: &mut S,
     tally: &mut Tally<N, L>,
 ) -> Result<Turned, Stop>

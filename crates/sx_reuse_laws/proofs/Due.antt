@@ -4,21 +4,21 @@ use Rattle.std.specs.Prelude.{slice_get}
 use Rattle.sx_base.specs.declared.fault.Fault.{Fault}
 use Rattle.sx_cache.specs.FitsLaws.{fits_exactly}
 use Rattle.sx_cache.specs.declared.entry.Entry.{Entry}
-use Rattle.sx_core.specs.declared.record.LibRecord.{LibRecord}
+use Rattle.sx_core.specs.declared.record.CompiledLibrary.{CompiledLibrary}
 use Rattle.sx_load.specs.Load.{load}
 use Rattle.sx_load.specs.declared.found.Found.{Found}
 use Rattle.sx_load.specs.declared.found.Loading.{Loading}
 use Rattle.sx_load.specs.declared.found.Source.{Source}
 use Rattle.sx_load_laws.specs.Laws.{Libraries, IsAt}
 use Rattle.sx_load_laws.proofs.LoadLemmas.{loads_all, loads_until}
-use Rattle.sx_local_laws.specs.Behind.{Base}
-use Rattle.sx_local_laws.specs.Local.{IsNext, ReuseIsRight, group_of}
+use Rattle.sx_local_laws.specs.Behind.{RunBase}
+use Rattle.sx_local_laws.specs.Local.{IsNextLibrary, ReuseIsRight, group_of}
 use Rattle.sx_local_laws.proofs.Local.{reuse_right, are_loaded}
 use Rattle.sx_local_laws.proofs.Groups.{groups_all, groups_until, all_as_held}
 use Rattle.sx_outside.specs.Contents.{Paths, at_path}
-use Rattle.sx_reuse.specs.Entries.{Kept, if_short, made, place_of}
+use Rattle.sx_reuse.specs.Entries.{CacheInputs, if_short, made, place_of}
 use Rattle.sx_reuse.specs.Groups.{chosen}
-use Rattle.sx_reuse.specs.Turns.{State, stored}
+use Rattle.sx_reuse.specs.Turns.{TurnState, stored}
 use Rattle.sx_reuse_laws.specs.Due.{HoldsFitting, KeptAreFitting, MakesWhatSuits, FittingAreReused}
 use Rattle.sx_reuse_laws.specs.Runs.{SourcesAreThoseOfFiles, SourcesAreThere, kept}
 use Rattle.sx_reuse_laws.specs.Sound.{as_entry, IsHonest}
@@ -27,15 +27,15 @@ use Rattle.sx_reuse_laws.proofs.Read.{Picks, picked_there}
 use Rattle.sx_reuse_laws.proofs.Sources.{of_loaded, of_stopped, there_loaded, there_stopped}
 use Rattle.sx_reuse_laws.proofs.Turned.{at_length}
 
-module _ (base : Base) (k : Kept) (group : Found → List Source) (loaded : Libraries) (right : ReuseIsRight base group k.roots loaded)
+module _ (base : RunBase) (k : CacheInputs) (group : Found → List Source) (loaded : Libraries) (right : ReuseIsRight base group k.roots loaded)
     (picks : (place : ℕ) (file : List ℕ) (f : Found) → IsAt loaded place file f → Picks base k group loaded f) where
-  pub fitting_reused : (others : List LibRecord) (f : Found) → IsNext base group loaded others f → MakesWhatSuits base others f → (now : State) → now.progress.records ≡ base.derived ∷ others → IsHonest base.prelude now.store
+  pub fitting_reused : (others : List CompiledLibrary) (f : Found) → IsNextLibrary base group loaded others f → MakesWhatSuits base others f → (now : TurnState) → now.progress.records ≡ base.derived ∷ others → IsHonest base.prelude now.store
       → (e : Entry) → HoldsFitting k now.store f e → stored k base.prelude now f ≡ Some e.stored
   fitting_reused others f n suit now is honest e x =
       let own = picks (length n.before) n.file f (subst (λ (ls : Libraries). slice_get ls (length n.before) ≡ Some (n.file, f)) (sym n.parts) (at_length n.before (n.file, f) n.after)) in
       let sources = picked_there k.sources e.sources (chosen k.groups f) ((fits_exactly e k.roots k.sources (chosen k.groups f)).0 x.fit).1 ∙ own in
       let made = right.hold others f n (as_entry e) (honest (place_of k f) x.held e x.there x.is) sources in
-      ap (λ (rs : List LibRecord). if_short k rs f (at_path now.store (place_of k f))) is ∙ has_entry k (base.derived ∷ others) now.store f e x (suit e.stored made)
+      ap (λ (rs : List CompiledLibrary). if_short k rs f (at_path now.store (place_of k f))) is ∙ has_entry k (base.derived ∷ others) now.store f e x (suit e.stored made)
 
 kept_fitting : (files : Paths) (roots : List (List ℕ)) (s : Loading) → SourcesAreThere s → KeptAreFitting files roots s
 kept_fitting files roots s there dir groups are place file f at r store h = record {
@@ -46,7 +46,7 @@ kept_fitting files roots s there dir groups are place file f at r store h = reco
   fit = (fits_exactly (made (kept dir roots s groups) f r) roots s.sources (chosen groups f)).1 (refl, sym (there groups are place file f at));
 }
 
-module _ (base : Base) (files : Paths) (roots : List (List ℕ)) (s : Loading) (sources : SourcesAreThoseOfFiles files roots s) (right : ReuseIsRight base (group_of files roots) roots s.done) where
+module _ (base : RunBase) (files : Paths) (roots : List (List ℕ)) (s : Loading) (sources : SourcesAreThoseOfFiles files roots s) (right : ReuseIsRight base (group_of files roots) roots s.done) where
   all_reused : FittingAreReused base files roots s
   all_reused dir groups are = fitting_reused base (kept dir roots s groups) (group_of files roots) s.done right (sources groups are)
 
@@ -57,7 +57,7 @@ module _ (files : Paths) (roots : List (List ℕ)) (path : List ℕ) where
   pub kept_stopped : (s : Loading) (fault : Fault) → load files roots path ≡ Err (s, fault) → KeptAreFitting files roots s
   kept_stopped s fault h = kept_fitting files roots s (there_stopped files roots path s fault h)
 
-module _ (files : Paths) (roots : List (List ℕ)) (path : List ℕ) (base : Base) where
+module _ (files : Paths) (roots : List (List ℕ)) (path : List ℕ) (base : RunBase) where
   pub due_loaded : (program : Found) (s : Loading) → load files roots path ≡ Ok (program, s) → FittingAreReused base files roots s
   due_loaded program s h =
       all_reused base files roots s (of_loaded files roots path program s h)

@@ -4,11 +4,11 @@ use Rattle.std.specs.Prelude.{nat_lt, if◌then◌else◌}
 use Rattle.sx_base.specs.declared.fault.Fault.{Fault}
 use Rattle.sx_cache.specs.Fits.{fits}
 use Rattle.sx_cache.specs.declared.entry.Entry.{Entry}
-use Rattle.sx_core.specs.declared.record.LibRecord.{LibRecord}
+use Rattle.sx_core.specs.declared.record.CompiledLibrary.{CompiledLibrary}
 use Rattle.sx_eval.specs.Codes.{Codes}
 use Rattle.sx_load.specs.declared.found.Found.{Found}
 use Rattle.sx_outside.specs.Contents.{Paths, at_path}
-use Rattle.sx_reuse.specs.Entries.{Kept, entry_limit, entry_in, if_short, if_suits, if_fits, place_of, suits}
+use Rattle.sx_reuse.specs.Entries.{CacheInputs, entry_limit, entry_in, if_short, if_suits, if_fits, place_of, suits}
 use Rattle.sx_reuse.specs.Groups.{chosen}
 use Rattle.sx_reuse.specs.Turns.{stored}
 use Rattle.sx_reuse_laws.specs.Due.{HoldsFitting, StoredExactly}
@@ -19,15 +19,15 @@ not_long most n h = grind (arith, h)
 within : (most n : ℕ) → nat_lt most n ≡ false → n ≤ most
 within most n h = grind (arith, h)
 
-module _ (k : Kept) where
+module _ (k : CacheInputs) where
   -- the entry of a record that the store has
-  pub record IsFrom (records : List LibRecord) (store : Paths) (f : Found) (r : LibRecord) : Type 0 where
+  pub record IsFrom (records : List CompiledLibrary) (store : Paths) (f : Found) (r : CompiledLibrary) : Type 0 where
     pub entry : Entry
     pub holds : HoldsFitting k store f entry
     pub suit : suits records f entry.stored ≡ true
     pub is : entry.stored ≡ r
 
-  pub from_entry : (records : List LibRecord) (store : Paths) (f : Found) (r : LibRecord) → if_short k records f (at_path store (place_of k f)) ≡ Some r → IsFrom records store f r
+  pub from_entry : (records : List CompiledLibrary) (store : Paths) (f : Found) (r : CompiledLibrary) → if_short k records f (at_path store (place_of k f)) ≡ Some r → IsFrom records store f r
   from_entry records store f r h = by (at_path store (place_of k f)) refl h
     where
       by_suit : (e : Entry) (b : Bool) → HoldsFitting k store f e → suits records f e.stored ≡ b → (if b then Some e.stored else None) ≡ Some r → IsFrom records store f r
@@ -52,7 +52,7 @@ module _ (k : Kept) where
       by None at h = absurd (cc)
       by (Some held) at h = by_length held (nat_lt entry_limit (length held)) at refl h
 
-  pub has_entry : (records : List LibRecord) (store : Paths) (f : Found) (e : Entry) → HoldsFitting k store f e → suits records f e.stored ≡ true → if_short k records f (at_path store (place_of k f)) ≡ Some e.stored
+  pub has_entry : (records : List CompiledLibrary) (store : Paths) (f : Found) (e : Entry) → HoldsFitting k store f e → suits records f e.stored ≡ true → if_short k records f (at_path store (place_of k f)) ≡ Some e.stored
   has_entry records store f e x suit =
       ap (if_short k records f) x.there
       ∙ ap (λ b. if b then None else if_suits records f (if_fits k f (entry_in x.held))) (not_long entry_limit (length x.held) x.short)
@@ -60,7 +60,7 @@ module _ (k : Kept) where
       ∙ ap (λ b. if_suits records f (if b then Some e.stored else None)) x.fit
       ∙ ap (λ b. if b then Some e.stored else None) suit
 
-module _ (k : Kept) (prelude : Result Codes Fault) where
+module _ (k : CacheInputs) (prelude : Result Codes Fault) where
   pub stored_exactly : StoredExactly k prelude
   stored_exactly = record {
     only = λ now f r h. let x = from_entry k now.progress.records now.store f r h in (x.entry, x.holds, x.suit, x.is);

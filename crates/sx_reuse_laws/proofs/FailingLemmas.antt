@@ -2,13 +2,13 @@
 use Rattle.std.proofs.Common.{◌≡◌, ℕ, ◌≤◌, ◌+◌, ◌-◌, ◌^◌, min, Bool, true, false, List, Option, Some, None, Result, refl, arith}
 use Rattle.std.specs.Prelude.{is_some, nat_le, if◌then◌else◌}
 use Rattle.sx_base.specs.declared.fault.Fault.{Fault}
-use Rattle.sx_core.specs.declared.record.LibRecord.{LibRecord}
+use Rattle.sx_core.specs.declared.record.CompiledLibrary.{CompiledLibrary}
 use Rattle.sx_eval.specs.Codes.{Codes}
 use Rattle.sx_load.specs.declared.found.Found.{Found}
 use Rattle.sx_outside.specs.Causes.{Rose, raised}
 use Rattle.sx_outside.specs.Contents.{Paths}
-use Rattle.sx_reuse.specs.Entries.{Kept}
-use Rattle.sx_reuse.specs.Turns.{State, stored, Misses, Quiet, Turn, reused, expanded, IsPut, put, too_long, unspelled, failed, Turns, done, next}
+use Rattle.sx_reuse.specs.Entries.{CacheInputs}
+use Rattle.sx_reuse.specs.Turns.{TurnState, stored, Misses, Quiet, ReuseTurn, reused, expanded, IsPut, put, too_long, unspelled, failed, ReuseTurns, done, next}
 use Rattle.sx_reuse_laws.specs.Failing.{unput, overlooked, unkept, all_overlooked, all_unkept, AtMostRisen, FailuresAreCounted}
 
 -- a count that can't but have risen has risen
@@ -37,11 +37,11 @@ none_more a b h = omega (arith, h)
 one_more : (a b : ℕ) → Rose a b → min (a + 1) (2 ^ 64 - 1) ≤ b
 one_more a b h = omega (arith, h)
 
-module _ (k : Kept) (prelude : Result Codes Fault) where
-  get_counted : (s : State) (f : Found) (asked : ℕ) → s.faults ≤ asked → Misses k prelude s f asked → AtMostRisen s.faults (if is_some (stored k prelude s f) then 1 else 0) asked
+module _ (k : CacheInputs) (prelude : Result Codes Fault) where
+  get_counted : (s : TurnState) (f : Found) (asked : ℕ) → s.faults ≤ asked → Misses k prelude s f asked → AtMostRisen s.faults (if is_some (stored k prelude s f) then 1 else 0) asked
   get_counted s f asked later misses = by (stored k prelude s f) refl
     where
-      by : (o : Option LibRecord) → stored k prelude s f ≡ o → AtMostRisen s.faults (if is_some o then 1 else 0) asked
+      by : (o : Option CompiledLibrary) → stored k prelude s f ≡ o → AtMostRisen s.faults (if is_some o then 1 else 0) asked
       by None e = none_more s.faults asked later
       by (Some x) e = one_more s.faults asked (rose_or s.faults asked (λ quiet. let no = misses quiet in absurd (cc)))
 
@@ -52,17 +52,17 @@ module _ (k : Kept) (prelude : Result Codes Fault) where
   put_counted a b place before after (Some piece) later (failed rose others) = one_more a b rose
 
   -- a get that failed, and a put
-  one_turn : (s t : State) (f : Found) (turn : Turn k prelude s f t) → AtMostRisen s.faults (overlooked k prelude turn + unkept k prelude turn) t.faults
+  one_turn : (s t : TurnState) (f : Found) (turn : ReuseTurn k prelude s f t) → AtMostRisen s.faults (overlooked k prelude turn + unkept k prelude turn) t.faults
   one_turn s t f (reused r faults later found) = none_more s.faults faults later
   one_turn s t f (expanded r asked faults left later further misses made kept) =
       together s.faults asked faults (if is_some (stored k prelude s f) then 1 else 0) (unput kept) (get_counted s f asked later misses) (put_counted asked faults _ s.store left _ further kept)
 
-  risen : (s last : State) (fs : List Found) (turns : Turns k prelude s fs last) → AtMostRisen s.faults (all_overlooked k prelude turns + all_unkept k prelude turns) last.faults
+  risen : (s last : TurnState) (fs : List Found) (turns : ReuseTurns k prelude s fs last) → AtMostRisen s.faults (all_overlooked k prelude turns + all_unkept k prelude turns) last.faults
   risen s last fs done = none_more s.faults s.faults (omega arith)
   risen s last fs (next {t = t} {f = f} {fs = rest} turn turns) =
       sorted s.faults t.faults last.faults (overlooked k prelude turn) (unkept k prelude turn) (all_overlooked k prelude turns) (all_unkept k prelude turns) (one_turn s t f turn) (risen t last rest turns)
 
-  pub counted : (s last : State) (fs : List Found) (turns : Turns k prelude s fs last) → FailuresAreCounted k prelude s last fs turns
+  pub counted : (s last : TurnState) (fs : List Found) (turns : ReuseTurns k prelude s fs last) → FailuresAreCounted k prelude s last fs turns
   counted s last fs turns = record {
     overlooked = first_of s.faults last.faults (all_overlooked k prelude turns) (all_unkept k prelude turns) (risen s last fs turns);
     unkept = second_of s.faults last.faults (all_overlooked k prelude turns) (all_unkept k prelude turns) (risen s last fs turns);

@@ -11,7 +11,7 @@ use Rattle.sx_cache.specs.Fits as cached
 use Rattle.sx_cache.specs.FitsLaws.{fits_exactly}
 use Rattle.sx_cache.specs.Seal.{sealed}
 use Rattle.sx_cache.specs.declared.entry.Entry.{Entry}
-use Rattle.sx_core.specs.declared.record.LibRecord.{LibRecord}
+use Rattle.sx_core.specs.declared.record.CompiledLibrary.{CompiledLibrary}
 use Rattle.sx_core_laws.specs.Follows.{follows}
 use Rattle.sx_eval.specs.Codes.{Codes}
 use Rattle.sx_forms.specs.Form.{library_body}
@@ -19,15 +19,15 @@ use Rattle.sx_import.specs.Turns.{turns}
 use Rattle.sx_load.specs.declared.found.Found.{Found}
 use Rattle.sx_load.specs.declared.found.Source.{Source}
 use Rattle.sx_load_laws.specs.Laws.{Libraries, IsAt, AreLoadedOnce}
-use Rattle.sx_local_laws.specs.Behind.{Base, expand_behind, behind_next, records_behind}
-use Rattle.sx_local_laws.specs.Local.{IsNext, ReuseIsRight}
+use Rattle.sx_local_laws.specs.Behind.{RunBase, expand_behind, behind_next, records_behind}
+use Rattle.sx_local_laws.specs.Local.{IsNextLibrary, ReuseIsRight}
 use Rattle.sx_outside.specs.Contents.{Paths, at_path}
-use Rattle.sx_reuse.specs.Entries.{Kept, entry_limit, entry_in, decoded, earlier, if_short, made, place_of, spelled}
+use Rattle.sx_reuse.specs.Entries.{CacheInputs, entry_limit, entry_in, decoded, earlier, if_short, made, place_of, spelled}
 use Rattle.sx_reuse.specs.Groups.{chosen, picked}
 use Rattle.sx_reuse.specs.Texts.{found_in}
-use Rattle.sx_reuse.specs.Turns.{State, Quiet, Turn, reused, expanded, IsPut, put, too_long, unspelled, failed, Turns, done, next, Stops, here, later}
+use Rattle.sx_reuse.specs.Turns.{TurnState, Quiet, ReuseTurn, reused, expanded, IsPut, put, too_long, unspelled, failed, ReuseTurns, done, next, TurnsStop, here, later}
 use Rattle.sx_reuse_laws.proofs.Unsealed.{unsealed_body}
-use Rattle.sx_reuse_laws.specs.Kept.{HoldsEntry, IsAlone, CanBeKept}
+use Rattle.sx_reuse_laws.specs.Kept.{HoldsShortEntry, IsAlone, CanBeKept}
 use Rattle.sx_reuse_laws.specs.Failing.{unput, unkept, FailedAt}
 use Rattle.sx_reuse_laws.specs.Others.{IsElsewhere}
 use Rattle.sx_reuse_laws.specs.Seals.{TurnsHonestly}
@@ -47,12 +47,12 @@ first true b h = refl
 first false b h = h
 
 -- what is sealed of an entry with a spelling is that entry
-sealed_is : (k : Kept) (f : Found) (r : LibRecord) → has_spelling (made k f r) ≡ true → entry_in (sealed (encode (made k f r))) ≡ Some (made k f r)
+sealed_is : (k : CacheInputs) (f : Found) (r : CompiledLibrary) → has_spelling (made k f r) ≡ true → entry_in (sealed (encode (made k f r))) ≡ Some (made k f r)
 sealed_is k f r spelling = ap decoded (unsealed_body (sealed (encode (made k f r))) (encode (made k f r)) refl) ∙ decodes (made k f r) spelling
 
-module _ (k : Kept) where
+module _ (k : CacheInputs) where
   -- where the store is honest that is its entry
-  reused_holds : (prelude : Result Codes Fault) (records : List LibRecord) (store : Paths) (f : Found) (r : LibRecord) → IsHonest prelude store → if_short k records f (at_path store (place_of k f)) ≡ Some r → HoldsEntry k store f r
+  reused_holds : (prelude : Result Codes Fault) (records : List CompiledLibrary) (store : Paths) (f : Found) (r : CompiledLibrary) → IsHonest prelude store → if_short k records f (at_path store (place_of k f)) ≡ Some r → HoldsShortEntry k store f r
   reused_holds prelude records store f r honest h = record { held = x.holds.held; there = x.holds.there; short = x.holds.short; is = x.holds.is ∙ ap (λ (e : Entry). Some e) same }
     where
       x : IsFrom k records store f r
@@ -79,7 +79,7 @@ module _ (k : Kept) where
       same : x.entry ≡ made k f r
       same = λ i. record { path = path i; roots = fits.0 i; sources = sources i; stored = x.is i }
 
-  put_holds : (a b : ℕ) (f : Found) (r : LibRecord) (before after : Paths) (o : Option (List ℕ)) → spelled (made k f r) ≡ o → CanBeKept k f r → Quiet a b → IsPut a b (place_of k f) before o after → HoldsEntry k after f r
+  put_holds : (a b : ℕ) (f : Found) (r : CompiledLibrary) (before after : Paths) (o : Option (List ℕ)) → spelled (made k f r) ≡ o → CanBeKept k f r → Quiet a b → IsPut a b (place_of k f) before o after → HoldsShortEntry k after f r
   put_holds a b f r before after (Some piece) is can quiet (put short sets) =
       let whole = sym (ap (λ c. if c then Some (sealed (encode (made k f r))) else None) can.0) ∙ is in
       let same : sealed (encode (made k f r)) ≡ piece = cc in
@@ -95,7 +95,7 @@ module _ (k : Kept) where
   put_holds a b f r before after (Some piece) is can quiet (failed rose others) = absurd (quiet rose)
 
   -- or its put failed
-  put_or : (a b : ℕ) (f : Found) (r : LibRecord) (before after : Paths) (o : Option (List ℕ)) → spelled (made k f r) ≡ o → CanBeKept k f r → (p : IsPut a b (place_of k f) before o after) → HoldsEntry k after f r ⊎ (unput p ≡ 1)
+  put_or : (a b : ℕ) (f : Found) (r : CompiledLibrary) (before after : Paths) (o : Option (List ℕ)) → spelled (made k f r) ≡ o → CanBeKept k f r → (p : IsPut a b (place_of k f) before o after) → HoldsShortEntry k after f r ⊎ (unput p ≡ 1)
   put_or a b f r before after (Some piece) is can (put short sets) =
       let whole = sym (ap (λ c. if c then Some (sealed (encode (made k f r))) else None) can.0) ∙ is in
       let same : sealed (encode (made k f r)) ≡ piece = cc in
@@ -112,10 +112,10 @@ module _ (k : Kept) where
 
 -- ---- the turns of all libraries
 
-module _ (base : Base) (k : Kept) (group : Found → List Source) (loaded : Libraries) (right : ReuseIsRight base group k.roots loaded)
+module _ (base : RunBase) (k : CacheInputs) (group : Found → List Source) (loaded : Libraries) (right : ReuseIsRight base group k.roots loaded)
     (picks : (place : ℕ) (file : List ℕ) (f : Found) → IsAt loaded place file f → Picks base k group loaded f) (once : AreLoadedOnce loaded)
-    (file : List ℕ) (f : Found) (rest : Libraries) (r : LibRecord) (alone : IsAlone k loaded f) (can : CanBeKept k f r) where
-  still : (store left : Paths) → at_path left (place_of k f) ≡ at_path store (place_of k f) → HoldsEntry k store f r → HoldsEntry k left f r
+    (file : List ℕ) (f : Found) (rest : Libraries) (r : CompiledLibrary) (alone : IsAlone k loaded f) (can : CanBeKept k f r) where
+  still : (store left : Paths) → at_path left (place_of k f) ≡ at_path store (place_of k f) → HoldsShortEntry k store f r → HoldsShortEntry k left f r
   still store left same h = record { held = h.held; there = same ∙ h.there; short = h.short; is = h.is }
 
   -- those behind it lie elsewhere
@@ -135,32 +135,32 @@ module _ (base : Base) (k : Kept) (group : Found → List Source) (loaded : Libr
   all_elsewhere [] h = tt
   all_elsewhere (row ∷ rows) h = (h zero row.0 row.1 refl, all_elsewhere rows (λ j name l at. h (suc j) name l at))
 
-  module _ (before : Libraries) (others : List LibRecord) (so_far : records_behind base before ≡ Ok others) (parts : loaded ≡ before ++ (file, f) ∷ rest) where
-    own : IsNext base group loaded others f
+  module _ (before : Libraries) (others : List CompiledLibrary) (so_far : records_behind base before ≡ Ok others) (parts : loaded ≡ before ++ (file, f) ∷ rest) where
+    own : IsNextLibrary base group loaded others f
     own = record { before = before; file = file; after = rest; parts = parts; recorded = so_far }
 
     -- its own turn
-    turn_holds : (s t : State) → s.progress.records ≡ base.derived ∷ others → IsHonest base.prelude s.store → expand_behind base others f (library_body f.opened.«data») ≡ Ok r
-        → (turn : Turn k base.prelude s f t) → Quiet s.faults t.faults → HoldsEntry k t.store f r
+    turn_holds : (s t : TurnState) → s.progress.records ≡ base.derived ∷ others → IsHonest base.prelude s.store → expand_behind base others f (library_body f.opened.«data») ≡ Ok r
+        → (turn : ReuseTurn k base.prelude s f t) → Quiet s.faults t.faults → HoldsShortEntry k t.store f r
     turn_holds s t is honest gives (reused x faults more found) quiet =
         let made_here = reused_gives base k group loaded right picks others f own s is honest x found in
-        let both : ◌≡◌ {A = Result LibRecord Fault} (Ok x) (Ok r) = sym made_here ∙ gives in
+        let both : ◌≡◌ {A = Result CompiledLibrary Fault} (Ok x) (Ok r) = sym made_here ∙ gives in
         let same : x ≡ r = cc in
-        subst (λ (y : LibRecord). HoldsEntry k s.store f y) same (reused_holds k base.prelude s.progress.records s.store f x honest found)
+        subst (λ (y : CompiledLibrary). HoldsShortEntry k s.store f y) same (reused_holds k base.prelude s.progress.records s.store f x honest found)
     turn_holds s t is honest gives (expanded x asked faults left more further misses made_here kept) quiet =
-        let both : ◌≡◌ {A = Result LibRecord Fault} (Ok x) (Ok r) = sym (behind_here base k group loaded right picks others f own s is honest (Ok x) made_here) ∙ gives in
+        let both : ◌≡◌ {A = Result CompiledLibrary Fault} (Ok x) (Ok r) = sym (behind_here base k group loaded right picks others f own s is honest (Ok x) made_here) ∙ gives in
         let same : x ≡ r = cc in
-        put_holds k asked faults f r s.store left (spelled (made k f x)) (ap (λ (y : LibRecord). spelled (made k f y)) (sym same)) can (quiet_within s.faults asked faults faults more (same_count faults) quiet) kept
+        put_holds k asked faults f r s.store left (spelled (made k f x)) (ap (λ (y : CompiledLibrary). spelled (made k f y)) (sym same)) can (quiet_within s.faults asked faults faults more (same_count faults) quiet) kept
 
   -- ---- the turns of all
 
-  abbrev Upto : List LibRecord → Libraries → List LibRecord → Type 0
+  abbrev Upto : List CompiledLibrary → Libraries → List CompiledLibrary → Type 0
   Upto others middle records = turns (behind_next base) others middle ≡ Ok records
 
-  records_same : (others records : List LibRecord) → Upto others [] records → others ≡ records
+  records_same : (others records : List CompiledLibrary) → Upto others [] records → others ≡ records
   records_same others records h = cc
 
-  one_step : (others : List LibRecord) (x row : List ℕ × Found) (g : Found) (y : Result LibRecord Fault) → row ≡ x → row.1 ≡ g → expand_behind base others g (library_body g.opened.«data») ≡ y
+  one_step : (others : List CompiledLibrary) (x row : List ℕ × Found) (g : Found) (y : Result CompiledLibrary Fault) → row ≡ x → row.1 ≡ g → expand_behind base others g (library_body g.opened.«data») ≡ y
       → behind_next base others x ≡ (y >>= (λ z. Ok (others ++ z ∷ [])))
   one_step others x row g y same is h =
       ap (behind_next base others) (sym same) ∙ ap (λ z. z >>= (λ u. Ok (others ++ u ∷ []))) (on_row base k group loaded right picks others row g y is h)
@@ -178,9 +178,9 @@ module _ (base : Base) (k : Kept) (group : Found → List Source) (loaded : Libr
   others_elsewhere before whole row more gs split is =
       subst (IsElsewhere k (place_of k f)) (sym (is ∙ ap found_in (rows_rest row (file, f) more rest split))) (all_elsewhere rest (elsewhere before whole))
 
-  pub holds_turns : (middle rows before : Libraries) (others records : List LibRecord) (s last : State) (fs : List Found) → fs ≡ found_in rows → rows ≡ middle ++ (file, f) ∷ rest → loaded ≡ before ++ rows
-      → records_behind base before ≡ Ok others → s.progress.records ≡ base.derived ∷ others → IsHonest base.prelude s.store → (ts : Turns k base.prelude s fs last) → Quiet s.faults last.faults
-      → Upto others middle records → expand_behind base records f (library_body f.opened.«data») ≡ Ok r → HoldsEntry k last.store f r
+  pub holds_turns : (middle rows before : Libraries) (others records : List CompiledLibrary) (s last : TurnState) (fs : List Found) → fs ≡ found_in rows → rows ≡ middle ++ (file, f) ∷ rest → loaded ≡ before ++ rows
+      → records_behind base before ≡ Ok others → s.progress.records ≡ base.derived ∷ others → IsHonest base.prelude s.store → (ts : ReuseTurns k base.prelude s fs last) → Quiet s.faults last.faults
+      → Upto others middle records → expand_behind base records f (library_body f.opened.«data») ≡ Ok r → HoldsShortEntry k last.store f r
   holds_turns [] [] before others records s last fs e split parts so_far is honest ts quiet upto gives = absurd (cc)
   holds_turns (x ∷ middle) [] before others records s last fs e split parts so_far is honest ts quiet upto gives = absurd (cc)
   holds_turns [] (row ∷ more) before others records s last fs e split parts so_far is honest done quiet upto gives = absurd (cc)
@@ -189,8 +189,8 @@ module _ (base : Base) (k : Kept) (group : Found → List Source) (loaded : Libr
       let whole : loaded ≡ before ++ (file, f) ∷ rest = parts ∙ ap (λ (ls : Libraries). before ++ ls) split in
       let g_is = found_is row more g split (first_is base k group loaded right picks g gs row more e) in
       let own_quiet = quiet_within s.faults s.faults t.faults last.faults (same_count s.faults) (turns_later k base.prelude t last gs ts) quiet in
-      let held = turn_holds before others so_far whole s t is honest (ap (λ (rs : List LibRecord). expand_behind base rs f (library_body f.opened.«data»)) (records_same others records upto) ∙ gives)
-      (subst (λ (y : Found). Turn k base.prelude s y t) (sym g_is) turn) own_quiet in
+      let held = turn_holds before others so_far whole s t is honest (ap (λ (rs : List CompiledLibrary). expand_behind base rs f (library_body f.opened.«data»)) (records_same others records upto) ∙ gives)
+      (subst (λ (y : Found). ReuseTurn k base.prelude s y t) (sym g_is) turn) own_quiet in
       still t.store last.store (turns_leave k base.prelude (place_of k f) t last gs (others_elsewhere before whole row more gs split (rest_is base k group loaded right picks g gs row more e)) ts) held
   holds_turns (x ∷ middle) (row ∷ more) before others records s last fs e split parts so_far is honest (next {t = t} {f = g} {fs = gs} turn ts) quiet upto gives =
       let first_here = first_is base k group loaded right picks g gs row more e in
@@ -203,30 +203,30 @@ module _ (base : Base) (k : Kept) (group : Found → List Source) (loaded : Libr
       (sym (ap (λ z. z >>= (λ u. turns (behind_next base) u middle)) (one_step others x row g (Ok y.r) row_is first_here y.made)) ∙ upto) gives
 
   module _ (fault : Fault) (store : Paths) (faults : ℕ) where
-    pub holds_stops : (middle rows before : Libraries) (others records : List LibRecord) (s : State) (fs : List Found) → fs ≡ found_in rows → rows ≡ middle ++ (file, f) ∷ rest → loaded ≡ before ++ rows
-        → records_behind base before ≡ Ok others → s.progress.records ≡ base.derived ∷ others → IsHonest base.prelude s.store → (ts : Stops k base.prelude fault store faults s fs) → Quiet s.faults faults
-        → Upto others middle records → expand_behind base records f (library_body f.opened.«data») ≡ Ok r → HoldsEntry k store f r
+    pub holds_stops : (middle rows before : Libraries) (others records : List CompiledLibrary) (s : TurnState) (fs : List Found) → fs ≡ found_in rows → rows ≡ middle ++ (file, f) ∷ rest → loaded ≡ before ++ rows
+        → records_behind base before ≡ Ok others → s.progress.records ≡ base.derived ∷ others → IsHonest base.prelude s.store → (ts : TurnsStop k base.prelude fault store faults s fs) → Quiet s.faults faults
+        → Upto others middle records → expand_behind base records f (library_body f.opened.«data») ≡ Ok r → HoldsShortEntry k store f r
     holds_stops [] [] before others records s fs e split parts so_far is honest ts quiet upto gives = absurd (cc)
     holds_stops (x ∷ middle) [] before others records s fs e split parts so_far is honest ts quiet upto gives = absurd (cc)
     holds_stops [] (row ∷ more) before others records s fs e split parts so_far is honest (here {f = g} {fs = gs} at) quiet upto gives =
         let whole : loaded ≡ before ++ (file, f) ∷ rest = parts ∙ ap (λ (ls : Libraries). before ++ ls) split in
         let g_is = found_is row more g split (first_is base k group loaded right picks g gs row more e) in
         let stops = behind_here base k group loaded right picks others g (next_is base k group loaded right picks before others so_far row more g (first_is base k group loaded right picks g gs row more e) parts) s is honest (Err fault) at.expands in
-        let both : ◌≡◌ {A = Result LibRecord Fault} (Err fault) (Ok r) =
-        sym stops ∙ ap (λ (y : Found). expand_behind base others y (library_body y.opened.«data»)) (sym g_is) ∙ ap (λ (rs : List LibRecord). expand_behind base rs f (library_body f.opened.«data»)) (records_same others records upto) ∙ gives in
+        let both : ◌≡◌ {A = Result CompiledLibrary Fault} (Err fault) (Ok r) =
+        sym stops ∙ ap (λ (y : Found). expand_behind base others y (library_body y.opened.«data»)) (sym g_is) ∙ ap (λ (rs : List CompiledLibrary). expand_behind base rs f (library_body f.opened.«data»)) (records_same others records upto) ∙ gives in
         absurd (cc)
     holds_stops (x ∷ middle) (row ∷ more) before others records s fs e split parts so_far is honest (here {f = g} {fs = gs} at) quiet upto gives =
         let first_here = first_is base k group loaded right picks g gs row more e in
         let stops = behind_here base k group loaded right picks others g (next_is base k group loaded right picks before others so_far row more g first_here parts) s is honest (Err fault) at.expands in
-        let both : ◌≡◌ {A = Result (List LibRecord) Fault} (Err fault) (Ok records) =
+        let both : ◌≡◌ {A = Result (List CompiledLibrary) Fault} (Err fault) (Ok records) =
         sym (ap (λ z. z >>= (λ u. turns (behind_next base) u middle)) (one_step others x row g (Err fault) (rows_first row x more (middle ++ (file, f) ∷ rest) split) first_here stops)) ∙ upto in
         absurd (cc)
     holds_stops [] (row ∷ more) before others records s fs e split parts so_far is honest (later {t = t} {f = g} {fs = gs} turn ts) quiet upto gives =
         let whole : loaded ≡ before ++ (file, f) ∷ rest = parts ∙ ap (λ (ls : Libraries). before ++ ls) split in
         let g_is = found_is row more g split (first_is base k group loaded right picks g gs row more e) in
         let own_quiet = quiet_within s.faults s.faults t.faults faults (same_count s.faults) (stops_later k base.prelude fault store faults t gs ts) quiet in
-        let held = turn_holds before others so_far whole s t is honest (ap (λ (rs : List LibRecord). expand_behind base rs f (library_body f.opened.«data»)) (records_same others records upto) ∙ gives)
-        (subst (λ (y : Found). Turn k base.prelude s y t) (sym g_is) turn) own_quiet in
+        let held = turn_holds before others so_far whole s t is honest (ap (λ (rs : List CompiledLibrary). expand_behind base rs f (library_body f.opened.«data»)) (records_same others records upto) ∙ gives)
+        (subst (λ (y : Found). ReuseTurn k base.prelude s y t) (sym g_is) turn) own_quiet in
         still t.store store (stops_leave k base.prelude (place_of k f) fault store faults t gs (others_elsewhere before whole row more gs split (rest_is base k group loaded right picks g gs row more e)) ts) held
     holds_stops (x ∷ middle) (row ∷ more) before others records s fs e split parts so_far is honest (later {t = t} {f = g} {fs = gs} turn ts) quiet upto gives =
         let first_here = first_is base k group loaded right picks g gs row more e in
@@ -240,23 +240,23 @@ module _ (base : Base) (k : Kept) (group : Found → List Source) (loaded : Libr
 
   -- ---- where calls of the store fail
 
-  module _ (others : List LibRecord) (g : Found) (n : IsNext base group loaded others g) where
+  module _ (others : List CompiledLibrary) (g : Found) (n : IsNextLibrary base group loaded others g) where
     -- its own turn
-    turn_or : (s t : State) → s.progress.records ≡ base.derived ∷ others → IsHonest base.prelude s.store → expand_behind base others g (library_body g.opened.«data») ≡ Ok r → CanBeKept k g r
-        → (turn : Turn k base.prelude s g t) → HoldsEntry k t.store g r ⊎ (unkept k base.prelude turn ≡ 1)
+    turn_or : (s t : TurnState) → s.progress.records ≡ base.derived ∷ others → IsHonest base.prelude s.store → expand_behind base others g (library_body g.opened.«data») ≡ Ok r → CanBeKept k g r
+        → (turn : ReuseTurn k base.prelude s g t) → HoldsShortEntry k t.store g r ⊎ (unkept k base.prelude turn ≡ 1)
     turn_or s t is honest gives fits (reused x faults more found) =
         let made_here = reused_gives base k group loaded right picks others g n s is honest x found in
-        let both : ◌≡◌ {A = Result LibRecord Fault} (Ok x) (Ok r) = sym made_here ∙ gives in
+        let both : ◌≡◌ {A = Result CompiledLibrary Fault} (Ok x) (Ok r) = sym made_here ∙ gives in
         let same : x ≡ r = cc in
-        inl (subst (λ (y : LibRecord). HoldsEntry k s.store g y) same (reused_holds k base.prelude s.progress.records s.store g x honest found))
+        inl (subst (λ (y : CompiledLibrary). HoldsShortEntry k s.store g y) same (reused_holds k base.prelude s.progress.records s.store g x honest found))
     turn_or s t is honest gives fits (expanded x asked faults left more further misses made_here kept) =
-        let both : ◌≡◌ {A = Result LibRecord Fault} (Ok x) (Ok r) = sym (behind_here base k group loaded right picks others g n s is honest (Ok x) made_here) ∙ gives in
+        let both : ◌≡◌ {A = Result CompiledLibrary Fault} (Ok x) (Ok r) = sym (behind_here base k group loaded right picks others g n s is honest (Ok x) made_here) ∙ gives in
         let same : x ≡ r = cc in
-        put_or k asked faults g r s.store left (spelled (made k g x)) (ap (λ (y : LibRecord). spelled (made k g y)) (sym same)) fits kept
+        put_or k asked faults g r s.store left (spelled (made k g x)) (ap (λ (y : CompiledLibrary). spelled (made k g y)) (sym same)) fits kept
 
-  pub holds_or : (middle rows before : Libraries) (others records : List LibRecord) (s last : State) (fs : List Found) → fs ≡ found_in rows → rows ≡ middle ++ (file, f) ∷ rest → loaded ≡ before ++ rows
-      → records_behind base before ≡ Ok others → s.progress.records ≡ base.derived ∷ others → IsHonest base.prelude s.store → (ts : Turns k base.prelude s fs last) → TurnsHonestly k base.prelude ts
-      → Upto others middle records → expand_behind base records f (library_body f.opened.«data») ≡ Ok r → HoldsEntry k last.store f r ⊎ FailedAt k base.prelude ts (length middle)
+  pub holds_or : (middle rows before : Libraries) (others records : List CompiledLibrary) (s last : TurnState) (fs : List Found) → fs ≡ found_in rows → rows ≡ middle ++ (file, f) ∷ rest → loaded ≡ before ++ rows
+      → records_behind base before ≡ Ok others → s.progress.records ≡ base.derived ∷ others → IsHonest base.prelude s.store → (ts : ReuseTurns k base.prelude s fs last) → TurnsHonestly k base.prelude ts
+      → Upto others middle records → expand_behind base records f (library_body f.opened.«data») ≡ Ok r → HoldsShortEntry k last.store f r ⊎ FailedAt k base.prelude ts (length middle)
   holds_or [] [] before others records s last fs e split parts so_far is honest ts h upto gives = absurd (cc)
   holds_or (x ∷ middle) [] before others records s last fs e split parts so_far is honest ts h upto gives = absurd (cc)
   holds_or [] (row ∷ more) before others records s last fs e split parts so_far is honest done h upto gives = absurd (cc)
@@ -265,12 +265,12 @@ module _ (base : Base) (k : Kept) (group : Found → List Source) (loaded : Libr
       let whole : loaded ≡ before ++ (file, f) ∷ rest = parts ∙ ap (λ (ls : Libraries). before ++ ls) split in
       let first_here = first_is base k group loaded right picks g gs row more e in
       let g_is = found_is row more g split first_here in
-      let here = ap (λ (y : Found). expand_behind base others y (library_body y.opened.«data»)) (sym g_is) ∙ ap (λ (rs : List LibRecord). expand_behind base rs f (library_body f.opened.«data»)) (records_same others records upto) ∙ gives in
+      let here = ap (λ (y : Found). expand_behind base others y (library_body y.opened.«data»)) (sym g_is) ∙ ap (λ (rs : List CompiledLibrary). expand_behind base rs f (library_body f.opened.«data»)) (records_same others records upto) ∙ gives in
       by (turns_leave k base.prelude (place_of k f) t last gs (others_elsewhere before whole row more gs split (rest_is base k group loaded right picks g gs row more e)) ts) g_is
       (turn_or others g (next_is base k group loaded right picks before others so_far row more g first_here parts) s t is honest here (subst (λ (y : Found). CanBeKept k y r) g_is can) turn)
     where
-      by : at_path last.store (place_of k f) ≡ at_path t.store (place_of k f) → f ≡ g → HoldsEntry k t.store g r ⊎ (unkept k base.prelude turn ≡ 1) → HoldsEntry k last.store f r ⊎ FailedAt k base.prelude (next turn ts) zero
-      by same g_is (inl held) = inl (still t.store last.store same (subst (λ (y : Found). HoldsEntry k t.store y r) (sym g_is) held))
+      by : at_path last.store (place_of k f) ≡ at_path t.store (place_of k f) → f ≡ g → HoldsShortEntry k t.store g r ⊎ (unkept k base.prelude turn ≡ 1) → HoldsShortEntry k last.store f r ⊎ FailedAt k base.prelude (next turn ts) zero
+      by same g_is (inl held) = inl (still t.store last.store same (subst (λ (y : Found). HoldsShortEntry k t.store y r) (sym g_is) held))
       by same g_is (inr lost) = inr lost
   holds_or (x ∷ middle) (row ∷ more) before others records s last fs e split parts so_far is honest (next {t = t} {f = g} {fs = gs} turn ts) h upto gives =
       let first_here = first_is base k group loaded right picks g gs row more e in

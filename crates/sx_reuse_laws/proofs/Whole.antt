@@ -3,7 +3,7 @@ use Rattle.std.proofs.Common.{◌≡◌, ℕ, Bool, List, [], ◌∷◌, length,
 use Rattle.std.specs.Prelude.{◌⊎◌, slice_get}
 use Rattle.sx_base.specs.Gives.{◌>>=◌}
 use Rattle.sx_base.specs.declared.fault.Fault.{Fault}
-use Rattle.sx_core.specs.declared.record.LibRecord.{LibRecord}
+use Rattle.sx_core.specs.declared.record.CompiledLibrary.{CompiledLibrary}
 use Rattle.sx_derived.specs.Derived.{derived_record}
 use Rattle.sx_eval.specs.Codes.{Codes}
 use Rattle.sx_library.specs.Loaded.{all_records, expand_next, text_behind as text_of_run, fault_behind}
@@ -13,21 +13,21 @@ use Rattle.sx_load.specs.declared.found.Found.{Found}
 use Rattle.sx_load.specs.declared.found.Loading.{Loading}
 use Rattle.sx_load_laws.specs.Laws.{Libraries, AreLoadedOnce}
 use Rattle.sx_load_laws.proofs.LoadLemmas.{loads_all, loads_until}
-use Rattle.sx_local_laws.specs.Behind.{Base}
+use Rattle.sx_local_laws.specs.Behind.{RunBase}
 use Rattle.sx_local_laws.specs.Local.{ReuseIsRight, group_of}
 use Rattle.sx_local_laws.proofs.Local.{reuse_right, are_loaded}
 use Rattle.sx_local_laws.proofs.Groups.{groups_all, groups_until, all_as_held}
 use Rattle.sx_outside.specs.Contents.{Paths}
 use Rattle.sx_reuse.specs.Expansion.{text_after}
 use Rattle.sx_reuse.specs.Groups.{AreGroups, groups_from}
-use Rattle.sx_reuse.specs.Progress.{Progress, begun}
+use Rattle.sx_reuse.specs.Progress.{ReuseProgress, begun}
 use Rattle.sx_reuse.specs.Texts.{Text, with_flags, text_behind, Writes, took, stopped, unready, Leaves, untouched, turned, found_in}
 use Rattle.sx_reuse.specs.Turns.{state}
 use Rattle.sx_reuse.specs.declared.groups.Group.{Group}
 use Rattle.sx_reuse.specs.declared.texts.Came.{Came}
 use Rattle.sx_reuse.specs.declared.texts.Came.TheVariants as came
 use Rattle.sx_reuse_laws.specs.Failing.{FailedAt}
-use Rattle.sx_reuse_laws.specs.Kept.{HoldsEntry, EntriesAreKept, AllButFailedAreKept}
+use Rattle.sx_reuse_laws.specs.Kept.{HoldsShortEntry, EntriesAreKept, AllButFailedAreKept}
 use Rattle.sx_reuse_laws.specs.Runs.{SourcesAreThoseOfFiles, kept, without_cache, text_alone, CacheChangesNothing}
 use Rattle.sx_reuse_laws.specs.Seals.{WritesHonestly, LeavesHonestly}
 use Rattle.sx_reuse_laws.specs.Sound.{IsHonest}
@@ -40,23 +40,23 @@ alone flags (Ok text) = refl
 alone flags (Err fault) = refl
 
 module _ (prelude : Result Codes Fault) (rows : Libraries) where
-  behind_records : (c : Came) (p : Progress) → all_records prelude rows ≡ Ok p.records → text_behind prelude c p ≡ without_cache prelude rows c
+  behind_records : (c : Came) (p : ReuseProgress) → all_records prelude rows ≡ Ok p.records → text_behind prelude c p ≡ without_cache prelude rows c
   unfolding text_of_run fault_behind
-  behind_records (came.Program f) p h = sym (ap (λ x. x >>= (λ (records : List LibRecord). text_after prelude records f)) h)
-  behind_records (came.Fault fault) p h = sym (ap (λ x. x >>= (λ (records : List LibRecord). Err fault)) h)
+  behind_records (came.Program f) p h = sym (ap (λ x. x >>= (λ (records : List CompiledLibrary). text_after prelude records f)) h)
+  behind_records (came.Fault fault) p h = sym (ap (λ x. x >>= (λ (records : List CompiledLibrary). Err fault)) h)
 
   behind_fault : (c : Came) (fault : Fault) → all_records prelude rows ≡ Err fault → Err fault ≡ without_cache prelude rows c
   unfolding text_of_run fault_behind
-  behind_fault (came.Program f) fault h = sym (ap (λ x. x >>= (λ (records : List LibRecord). text_after prelude records f)) h)
-  behind_fault (came.Fault first) fault h = sym (ap (λ x. x >>= (λ (records : List LibRecord). Err first)) h)
+  behind_fault (came.Program f) fault h = sym (ap (λ x. x >>= (λ (records : List CompiledLibrary). text_after prelude records f)) h)
+  behind_fault (came.Fault first) fault h = sym (ap (λ x. x >>= (λ (records : List CompiledLibrary). Err first)) h)
 
   no_derived : (fault : Fault) → derived_record prelude ≡ Err fault → all_records prelude rows ≡ Err fault
   no_derived fault h = ap (λ x. x >>= (λ d. turns (expand_next prelude) (d ∷ []) rows)) h
 
 module _ (prelude : Result Codes Fault) (files : Paths) (roots : List (List ℕ)) (s : Loading) (sources : SourcesAreThoseOfFiles files roots s)
-    (right : (base : Base) → ReuseIsRight base (group_of files roots) roots s.done) where
+    (right : (base : RunBase) → ReuseIsRight base (group_of files roots) roots s.done) where
   module _ (dir : List ℕ) (groups : List Group) (are : AreGroups (groups_from 0 0 s.sources) s.begun s.done groups) where
-    abbrev base_of : (d : LibRecord) → derived_record prelude ≡ Ok d → Base
+    abbrev base_of : (d : CompiledLibrary) → derived_record prelude ≡ Ok d → RunBase
     base_of d is = record { prelude = prelude; derived = d; is_derived = is }
 
     same : (c : Came) (before after : Paths) (fa fb : ℕ) (made : Result Text Fault) (writes : Writes (kept dir roots s groups) prelude c (found_in s.done) before fa after fb made)
@@ -92,7 +92,7 @@ module _ (prelude : Result Codes Fault) (files : Paths) (roots : List (List ℕ)
   changes_nothing : CacheChangesNothing prelude roots s
   changes_nothing = record { same = same; keeps = keeps; honest = left }
 
-module _ (base : Base) (files : Paths) (roots : List (List ℕ)) (s : Loading) (sources : SourcesAreThoseOfFiles files roots s) (right : ReuseIsRight base (group_of files roots) roots s.done) (once : AreLoadedOnce s.done) where
+module _ (base : RunBase) (files : Paths) (roots : List (List ℕ)) (s : Loading) (sources : SourcesAreThoseOfFiles files roots s) (right : ReuseIsRight base (group_of files roots) roots s.done) (once : AreLoadedOnce s.done) where
   entries : EntriesAreKept base files roots s
   entries = record {
     taken = λ dir groups are before faults last turns honest quiet others f r n gives alone can.
@@ -107,11 +107,11 @@ module _ (base : Base) (files : Paths) (roots : List (List ℕ)) (s : Loading) (
   all_but_failed dir groups are before faults last turns honest seals others f r n gives alone can =
       let at = subst (λ (ls : Libraries). slice_get ls (length n.before) ≡ Some (n.file, f)) (sym n.parts) (at_length n.before (n.file, f) n.after) in
       let place = sym (once.in_order (length n.before) n.file f at) in
-      subst (λ p. HoldsEntry (kept dir roots s groups) last.store f r ⊎ FailedAt (kept dir roots s groups) base.prelude turns p) place
+      subst (λ p. HoldsShortEntry (kept dir roots s groups) last.store f r ⊎ FailedAt (kept dir roots s groups) base.prelude turns p) place
       (holds_or base (kept dir roots s groups) (group_of files roots) s.done right (sources groups are) once n.file f n.after r alone can
       n.before s.done [] [] others (state (begun base.derived) before faults) last (found_in s.done) refl n.parts refl refl refl honest turns seals n.recorded gives)
 
-module _ (files : Paths) (roots : List (List ℕ)) (path : List ℕ) (base : Base) where
+module _ (files : Paths) (roots : List (List ℕ)) (path : List ℕ) (base : RunBase) where
   pub failed_loaded : (program : Found) (s : Loading) → load files roots path ≡ Ok (program, s) → AllButFailedAreKept base files roots s
   failed_loaded program s h =
       let are = are_loaded s (loads_all files roots path program s h).sound in

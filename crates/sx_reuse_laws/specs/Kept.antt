@@ -3,28 +3,28 @@ use Rattle.std.specs.Prelude.{◌≡◌, ◌⊎◌, ◌≤◌, ℕ, true, List, 
 use Rattle.sx_base.specs.declared.fault.Fault.{Fault}
 use Rattle.sx_cache.specs.Entry.{encode, has_spelling}
 use Rattle.sx_cache.specs.Seal.{sealed}
-use Rattle.sx_core.specs.declared.record.LibRecord.{LibRecord}
+use Rattle.sx_core.specs.declared.record.CompiledLibrary.{CompiledLibrary}
 use Rattle.sx_forms.specs.Form.{library_body}
 use Rattle.sx_load.specs.declared.found.Found.{Found}
 use Rattle.sx_load.specs.declared.found.Loading.{Loading}
 use Rattle.sx_load_laws.specs.Laws.{Libraries, IsAt}
-use Rattle.sx_local_laws.specs.Behind.{Base, expand_behind}
-use Rattle.sx_local_laws.specs.Local.{IsNext, group_of}
+use Rattle.sx_local_laws.specs.Behind.{RunBase, expand_behind}
+use Rattle.sx_local_laws.specs.Local.{IsNextLibrary, group_of}
 use Rattle.sx_outside.specs.Contents.{Paths, at_path}
-use Rattle.sx_reuse.specs.Entries.{Kept, entry_limit, entry_in, made, place_of}
+use Rattle.sx_reuse.specs.Entries.{CacheInputs, entry_limit, entry_in, made, place_of}
 use Rattle.sx_reuse.specs.Groups.{AreGroups, groups_from}
 use Rattle.sx_reuse.specs.Progress.{begun}
 use Rattle.sx_reuse.specs.Texts.{found_in}
-use Rattle.sx_reuse.specs.Turns.{State, state, Quiet, Turns, Stops}
+use Rattle.sx_reuse.specs.Turns.{TurnState, state, Quiet, ReuseTurns, TurnsStop}
 use Rattle.sx_reuse.specs.declared.groups.Group.{Group}
 use Rattle.sx_reuse_laws.specs.Failing.{FailedAt}
 use Rattle.sx_reuse_laws.specs.Runs.{kept}
 use Rattle.sx_reuse_laws.specs.Seals.{TurnsHonestly}
 use Rattle.sx_reuse_laws.specs.Sound.{IsHonest}
 
-module _ (k : Kept) where
+module _ (k : CacheInputs) where
   -- the place of a library holds its entry, within the limit
-  pub record HoldsEntry (store : Paths) (f : Found) (r : LibRecord) : Type 0 where
+  pub record HoldsShortEntry (store : Paths) (f : Found) (r : CompiledLibrary) : Type 0 where
     pub held : List ℕ
     pub there : at_path store (place_of k f) ≡ Some held
     pub short : length held ≤ entry_limit
@@ -35,33 +35,33 @@ module _ (k : Kept) where
   IsAlone loaded f = (place : ℕ) (file : List ℕ) (other : Found) → IsAt loaded place file other → place_of k other ≡ place_of k f → place ≡ f.place
 
   -- its entry has a spelling, within the limit
-  abbrev pub CanBeKept : Found → LibRecord → Type 0
+  abbrev pub CanBeKept : Found → CompiledLibrary → Type 0
   CanBeKept f r = (has_spelling (made k f r) ≡ true) × (length (sealed (encode (made k f r))) ≤ entry_limit)
 
 -- of each library that has a record, where it is alone in its place and its entry can be kept
-abbrev pub HoldsEntries : Kept → Base → Paths → List (List ℕ) → Loading → Paths → Type 0
-HoldsEntries k base files roots s store = (others : List LibRecord) (f : Found) (r : LibRecord) → IsNext base (group_of files roots) s.done others f
-    → expand_behind base others f (library_body f.opened.«data») ≡ Ok r → IsAlone k s.done f → CanBeKept k f r → HoldsEntry k store f r
+abbrev pub HoldsEntries : CacheInputs → RunBase → Paths → List (List ℕ) → Loading → Paths → Type 0
+HoldsEntries k base files roots s store = (others : List CompiledLibrary) (f : Found) (r : CompiledLibrary) → IsNextLibrary base (group_of files roots) s.done others f
+    → expand_behind base others f (library_body f.opened.«data») ≡ Ok r → IsAlone k s.done f → CanBeKept k f r → HoldsShortEntry k store f r
 
 -- where no call of the store fails, over an honest store
-pub record EntriesAreKept (base : Base) (files : Paths) (roots : List (List ℕ)) (s : Loading) : Type 0 where
-  pub taken : (dir : List ℕ) (groups : List Group) → AreGroups (groups_from 0 0 s.sources) s.begun s.done groups → (before : Paths) (faults : ℕ) (last : State)
-      → Turns (kept dir roots s groups) base.prelude (state (begun base.derived) before faults) (found_in s.done) last → IsHonest base.prelude before
+pub record EntriesAreKept (base : RunBase) (files : Paths) (roots : List (List ℕ)) (s : Loading) : Type 0 where
+  pub taken : (dir : List ℕ) (groups : List Group) → AreGroups (groups_from 0 0 s.sources) s.begun s.done groups → (before : Paths) (faults : ℕ) (last : TurnState)
+      → ReuseTurns (kept dir roots s groups) base.prelude (state (begun base.derived) before faults) (found_in s.done) last → IsHonest base.prelude before
       → Quiet faults last.faults
       → HoldsEntries (kept dir roots s groups) base files roots s last.store
   pub stopped : (dir : List ℕ) (groups : List Group) → AreGroups (groups_from 0 0 s.sources) s.begun s.done groups
       → (before after : Paths) (faults_before faults : ℕ) (fault : Fault)
-      → Stops (kept dir roots s groups) base.prelude fault after faults (state (begun base.derived) before faults_before) (found_in s.done)
+      → TurnsStop (kept dir roots s groups) base.prelude fault after faults (state (begun base.derived) before faults_before) (found_in s.done)
       → IsHonest base.prelude before → Quiet faults_before faults
       → HoldsEntries (kept dir roots s groups) base files roots s after
 
 -- where calls of the store fail: each such library, but those whose own puts failed
-abbrev pub AllButFailedAreKept : Base → Paths → List (List ℕ) → Loading → Type 0
+abbrev pub AllButFailedAreKept : RunBase → Paths → List (List ℕ) → Loading → Type 0
 AllButFailedAreKept base files roots s = (dir : List ℕ) (groups : List Group) → AreGroups (groups_from 0 0 s.sources) s.begun s.done groups
-    → (before : Paths) (faults : ℕ) (last : State)
-    → (turns : Turns (kept dir roots s groups) base.prelude (state (begun base.derived) before faults) (found_in s.done) last) → IsHonest base.prelude before
+    → (before : Paths) (faults : ℕ) (last : TurnState)
+    → (turns : ReuseTurns (kept dir roots s groups) base.prelude (state (begun base.derived) before faults) (found_in s.done) last) → IsHonest base.prelude before
     → TurnsHonestly (kept dir roots s groups) base.prelude turns
-    → (others : List LibRecord) (f : Found) (r : LibRecord) → IsNext base (group_of files roots) s.done others f
+    → (others : List CompiledLibrary) (f : Found) (r : CompiledLibrary) → IsNextLibrary base (group_of files roots) s.done others f
     → expand_behind base others f (library_body f.opened.«data») ≡ Ok r
     → IsAlone (kept dir roots s groups) s.done f → CanBeKept (kept dir roots s groups) f r
-    → HoldsEntry (kept dir roots s groups) last.store f r ⊎ FailedAt (kept dir roots s groups) base.prelude turns f.place
+    → HoldsShortEntry (kept dir roots s groups) last.store f r ⊎ FailedAt (kept dir roots s groups) base.prelude turns f.place

@@ -4,11 +4,11 @@ use Rattle.sx_base.specs.declared.fault.Fault.{Fault}
 use Rattle.sx_eval.specs.Codes.{Codes}
 use Rattle.sx_load.specs.declared.found.Found.{Found}
 use Rattle.sx_outside.specs.Contents.{Paths, at_path}
-use Rattle.sx_reuse.specs.Entries.{Kept, place_of}
+use Rattle.sx_reuse.specs.Entries.{CacheInputs, place_of}
 use Rattle.sx_reuse.specs.Texts.{Text, Writes, Leaves}
 use Rattle.sx_reuse.specs.declared.texts.Came.{Came}
 
-module _ (k : Kept) where
+module _ (k : CacheInputs) where
   -- none of these libraries has its entry there
   abbrev pub IsElsewhere : List ℕ → List Found → Type 0
   IsElsewhere place [] = Unit {0}
@@ -19,7 +19,7 @@ module _ (k : Kept) where
   OthersAreKept fs before after = (place : List ℕ) → IsElsewhere place fs → at_path after place ≡ at_path before place
 
 -- whatever the run comes to, over whatever store, and whichever of its calls fail
-pub record LeavesOthers (k : Kept) (prelude : Result Codes Fault) : Type 0 where
+pub record LeavesOthers (k : CacheInputs) (prelude : Result Codes Fault) : Type 0 where
   pub writes : (c : Came) (fs : List Found) (before after : Paths) (faults_before faults : ℕ) (made : Result Text Fault)
       → Writes k prelude c fs before faults_before after faults made → OthersAreKept k fs before after
   pub leaves : (fs : List Found) (before after : Paths) (faults_before faults : ℕ) → Leaves k prelude fs before faults_before after faults

@@ -9,7 +9,7 @@ use Rattle.sx_load.specs.declared.found.Source.{Source}
 use Rattle.sx_load_laws.specs.Laws.{Libraries, IsAt}
 use Rattle.sx_local_laws.specs.Local.{all_sources, group_of}
 use Rattle.sx_outside.specs.Contents.{Paths}
-use Rattle.sx_reuse.specs.Entries.{Kept}
+use Rattle.sx_reuse.specs.Entries.{CacheInputs}
 use Rattle.sx_reuse.specs.Groups.{AreGroups, chosen, groups_from, picked}
 use Rattle.sx_reuse.specs.Texts.{Text, Writes, Leaves, found_in}
 use Rattle.sx_reuse.specs.Turns.{Quiet}
@@ -31,7 +31,7 @@ SourcesAreThere s = (groups : List Group) → AreGroups (groups_from 0 0 s.sourc
     → map (slice_get s.sources) (chosen groups f) ≡ map (λ (x : Source). Option.Some x) (picked s.sources (chosen groups f))
 
 -- what entries of a run are made of
-abbrev pub kept : List ℕ → List (List ℕ) → Loading → List Group → Kept
+abbrev pub kept : List ℕ → List (List ℕ) → Loading → List Group → CacheInputs
 kept dir roots s groups = record { dir = dir; roots = roots; sources = s.sources; groups = groups }
 
 -- the core text that a run without a cache writes, or its first fault
@@ -70,7 +70,7 @@ module _ (prelude : Result Codes Fault) (roots : List (List ℕ)) (s : Loading) 
     pub honest : LeavesAnHonestStore
 
 -- where no call of the store failed, the premise on seals holds
-pub record HoldsWhereNothingFails (k : Kept) (prelude : Result Codes Fault) : Type 0 where
+pub record HoldsWhereNothingFails (k : CacheInputs) (prelude : Result Codes Fault) : Type 0 where
   pub writes : (c : Came) (fs : List Found) (before after : Paths) (faults_before faults : ℕ) (made : Result Text Fault)
       → (w : Writes k prelude c fs before faults_before after faults made)
       → Quiet faults_before faults → WritesHonestly k prelude w

@@ -4,9 +4,9 @@ use Rattle.sx_base.specs.declared.fault.Fault.{Fault}
 use Rattle.sx_eval.specs.Codes.{Codes}
 use Rattle.sx_load.specs.declared.found.Found.{Found}
 use Rattle.sx_outside.specs.Contents.{Paths}
-use Rattle.sx_reuse.specs.Entries.{Kept}
+use Rattle.sx_reuse.specs.Entries.{CacheInputs}
 use Rattle.sx_reuse.specs.Texts.{Text, Writes, took, stopped, unready, Leaves, untouched, turned}
-use Rattle.sx_reuse.specs.Turns.{State, Turn, reused, expanded, IsPut, put, too_long, unspelled, failed, Breaks, nothing_put, entry_put, Turns, done, next, Stops, here, later, BreaksOff, between, within, behind}
+use Rattle.sx_reuse.specs.Turns.{TurnState, ReuseTurn, reused, expanded, IsPut, put, too_long, unspelled, failed, Breaks, nothing_put, entry_put, ReuseTurns, done, next, TurnsStop, here, later, BreaksOff, between, within, behind}
 use Rattle.sx_reuse.specs.declared.texts.Came.{Came}
 use Rattle.sx_reuse_laws.specs.Sound.{IsHonestAt}
 
@@ -18,24 +18,24 @@ module _ (prelude : Result Codes Fault) where
   PutIsHonest unspelled = Unit {0}
   PutIsHonest {place = place} {after = after} (failed rose others) = IsHonestAt prelude after place
 
-module _ (k : Kept) (prelude : Result Codes Fault) where
-  abbrev pub TurnIsHonest : {s t : State} {f : Found} → Turn k prelude s f t → Type 0
+module _ (k : CacheInputs) (prelude : Result Codes Fault) where
+  abbrev pub TurnIsHonest : {s t : TurnState} {f : Found} → ReuseTurn k prelude s f t → Type 0
   TurnIsHonest (reused r faults more stored) = Unit {0}
   TurnIsHonest (expanded r asked faults left more further misses made kept) = PutIsHonest prelude kept
 
-  abbrev pub BreaksHonestly : {s : State} {f : Found} {store : Paths} {faults : ℕ} → Breaks k prelude s f store faults → Type 0
+  abbrev pub BreaksHonestly : {s : TurnState} {f : Found} {store : Paths} {faults : ℕ} → Breaks k prelude s f store faults → Type 0
   BreaksHonestly (nothing_put same more) = Unit {0}
   BreaksHonestly (entry_put r asked more further made kept) = PutIsHonest prelude kept
 
-  abbrev pub TurnsHonestly : {s last : State} {fs : List Found} → Turns k prelude s fs last → Type 0
+  abbrev pub TurnsHonestly : {s last : TurnState} {fs : List Found} → ReuseTurns k prelude s fs last → Type 0
   TurnsHonestly done = Unit {0}
   TurnsHonestly (next turn turns) = TurnIsHonest turn × TurnsHonestly turns
 
-  abbrev pub StopsHonestly : {fault : Fault} {store : Paths} {faults : ℕ} {s : State} {fs : List Found} → Stops k prelude fault store faults s fs → Type 0
+  abbrev pub StopsHonestly : {fault : Fault} {store : Paths} {faults : ℕ} {s : TurnState} {fs : List Found} → TurnsStop k prelude fault store faults s fs → Type 0
   StopsHonestly (here at) = Unit {0}
   StopsHonestly (later turn stops) = TurnIsHonest turn × StopsHonestly stops
 
-  abbrev pub BreaksOffHonestly : {store : Paths} {faults : ℕ} {s : State} {fs : List Found} → BreaksOff k prelude store faults s fs → Type 0
+  abbrev pub BreaksOffHonestly : {store : Paths} {faults : ℕ} {s : TurnState} {fs : List Found} → BreaksOff k prelude store faults s fs → Type 0
   BreaksOffHonestly (between same more) = Unit {0}
   BreaksOffHonestly (within breaks) = BreaksHonestly breaks
   BreaksOffHonestly (behind turn breaks) = TurnIsHonest turn × BreaksOffHonestly breaks

@@ -8,11 +8,11 @@ use Rattle.sx_outside.specs.Contents.{Paths, at_path}
 use Rattle.sx_reuse.specs.Entries.{entry_in}
 
 -- an entry, as the law of sources and records has it
-abbrev pub as_entry : Entry → entries.Entry
+abbrev pub as_entry : Entry → entries.ExpandedEntry
 as_entry e = record { path = e.path; roots = e.roots; sources = e.sources; stored = e.stored }
 
 abbrev pub IsSound : Result Codes Fault → Entry → Type 0
-IsSound prelude e = entries.IsSound prelude (as_entry e)
+IsSound prelude e = entries.IsSoundEntry prelude (as_entry e)
 
 -- what lies at a place, where it is a sealed entry, is sound
 abbrev pub IsHonestAt : Result Codes Fault → Paths → List ℕ → Type 0

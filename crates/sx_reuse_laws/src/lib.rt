@@ -16,9 +16,9 @@ ghost use Rattle.sx_load.specs.Load.{load};
 ghost use Rattle.sx_load.specs.declared.found.Found.{Found};
 ghost use Rattle.sx_load.specs.declared.found.Loading.{Loading};
 ghost use Rattle.sx_outside.specs.Contents.{Paths};
-ghost use Rattle.sx_reuse.specs.Entries.{Kept};
-ghost use Rattle.sx_reuse.specs.Turns.{State, Turns};
-ghost use Rattle.sx_local_laws.specs.Behind.{Base};
+ghost use Rattle.sx_reuse.specs.Entries.{CacheInputs};
+ghost use Rattle.sx_reuse.specs.Turns.{TurnState, ReuseTurns};
+ghost use Rattle.sx_local_laws.specs.Behind.{RunBase};
 ghost use Rattle.sx_reuse_laws.specs.Due.{StoredExactly, KeptAreFitting, FittingAreReused};
 ghost use Rattle.sx_reuse_laws.specs.Failing.{FailuresAreCounted};
 ghost use Rattle.sx_reuse_laws.specs.Kept.{EntriesAreKept, AllButFailedAreKept};
@@ -48,7 +48,7 @@ pub fn a_cache_changes_nothing()
 /// What a store has for a library is exactly the record of an entry at its place that is of the run's roots and sources,
 /// where that record can stand for the library's.
 pub fn fitting_entries_are_stored()
-    ensures { (k : Kept) (prelude : Result Codes Fault) → StoredExactly k prelude }
+    ensures { (k : CacheInputs) (prelude : Result Codes Fault) → StoredExactly k prelude }
 {}
 
 /// The entry of a library that a run has kept is of the roots and sources of that run, and so of each run that reads the
@@ -62,42 +62,42 @@ pub fn kept_entries_fit()
 
 /// Over an honest store it is the record of each such entry, where the records that expansion gives suit their libraries.
 pub fn fitting_entries_are_reused()
-    ensures loaded { (base : Base) (files : Paths) (roots : List (List ℕ)) (path : List ℕ) (program : Found) (s : Loading)
+    ensures loaded { (base : RunBase) (files : Paths) (roots : List (List ℕ)) (path : List ℕ) (program : Found) (s : Loading)
         → load files roots path ≡ Ok (program, s) → FittingAreReused base files roots s }
-    ensures stopped { (base : Base) (files : Paths) (roots : List (List ℕ)) (path : List ℕ) (s : Loading) (f : Fault)
+    ensures stopped { (base : RunBase) (files : Paths) (roots : List (List ℕ)) (path : List ℕ) (s : Loading) (f : Fault)
         → load files roots path ≡ Err (s, f) → FittingAreReused base files roots s }
 {}
 
 /// Whatever a run comes to, whatever its store holds and whichever calls of it fail, every place of it but those of the
 /// run's libraries holds what it held.
 pub fn other_places_are_kept()
-    ensures { (k : Kept) (prelude : Result Codes Fault) → LeavesOthers k prelude }
+    ensures { (k : CacheInputs) (prelude : Result Codes Fault) → LeavesOthers k prelude }
 {}
 
 /// Over an honest store, where no call of it fails, the place of each library that has a record holds its entry afterwards,
 /// if that has a spelling within the limit and no other library of the run lies there.
 pub fn entries_are_kept()
-    ensures loaded { (base : Base) (files : Paths) (roots : List (List ℕ)) (path : List ℕ) (program : Found) (s : Loading)
+    ensures loaded { (base : RunBase) (files : Paths) (roots : List (List ℕ)) (path : List ℕ) (program : Found) (s : Loading)
         → load files roots path ≡ Ok (program, s) → EntriesAreKept base files roots s }
-    ensures stopped { (base : Base) (files : Paths) (roots : List (List ℕ)) (path : List ℕ) (s : Loading) (f : Fault)
+    ensures stopped { (base : RunBase) (files : Paths) (roots : List (List ℕ)) (path : List ℕ) (s : Loading) (f : Fault)
         → load files roots path ≡ Err (s, f) → EntriesAreKept base files roots s }
 {}
 
 /// Where calls of the store fail, each such library's place holds its entry all the same, unless its own put failed.
 pub fn all_but_failed_are_kept()
-    ensures { (base : Base) (files : Paths) (roots : List (List ℕ)) (path : List ℕ) (program : Found) (s : Loading)
+    ensures { (base : RunBase) (files : Paths) (roots : List (List ℕ)) (path : List ℕ) (program : Found) (s : Loading)
         → load files roots path ≡ Ok (program, s) → AllButFailedAreKept base files roots s }
 {}
 
 /// Where no call of the store failed, the premise on what failed puts leave holds.
 pub fn no_failure_leaves_nothing_foreign()
-    ensures { (k : Kept) (prelude : Result Codes Fault) → HoldsWhereNothingFails k prelude }
+    ensures { (k : CacheInputs) (prelude : Result Codes Fault) → HoldsWhereNothingFails k prelude }
 {}
 
 /// As many libraries as are expanded although the store had a record for them, and as many entries as are not put, so
 /// many calls of the store have failed at least: a get that failed is no reason to leave out a put.
 pub fn failures_are_counted()
-    ensures { (k : Kept) (prelude : Result Codes Fault) (s last : State) (fs : List Found) (turns : Turns k prelude s fs last)
+    ensures { (k : CacheInputs) (prelude : Result Codes Fault) (s last : TurnState) (fs : List Found) (turns : ReuseTurns k prelude s fs last)
         → FailuresAreCounted k prelude s last fs turns }
 {}
 

@@ -20,7 +20,7 @@ use Rattle.sx_standing.specs.Binders.{bind_specs, bind_formals}
 use Rattle.sx_standing.specs.InScope.{restoring, apart}
 use Rattle.sx_standing.specs.Patterns.{pattern_of, check_literals, bind_pattern}
 use Rattle.sx_standing.specs.State.{State, Does, fresh, fresh_frame, fault_form}
-use Rattle.sx_standing.specs.Uses.{bind_keywords, finish_keyword}
+use Rattle.sx_standing.specs.Uses.{bind_keywords, evaluate_transformer}
 use Rattle.sx_standing.specs.declared.binders.BoundSpec.{BoundSpec}
 use Rattle.sx_heads.specs.Depth.{deeper, most_round}
 use Rattle.sx_heads.specs.Items.{begun, define_keyword}
@@ -41,14 +41,14 @@ use Rattle.sx_quasi_code.specs.Form.{form_of, parts_of, code_of}
 use Rattle.sx_quasi_code.specs.Parts.{part, with_made, quasi_parts, all_quasi_parts, insert_part, inserts_parts}
 use Rattle.sx_quasi_code.specs.declared.form.QuasiForm.{QuasiForm}
 use Rattle.sx_quasi_code.specs.declared.form.QuasiForm.TheVariants as forms
-use Rattle.sx_quasi_code.specs.declared.parts.Part.{Part}
+use Rattle.sx_quasi_code.specs.declared.parts.PartForm.{PartForm}
 use Rattle.sx_expand.specs.Body.{splice, perform_item, item, value_of, finish_as, finish_all, body_core, finish, lambda_at, body_in, body, sequence_of}
 use Rattle.sx_expand.specs.Body as bodies
 use Rattle.sx_expand.specs.Expression.{in_order, case_in, lambda_case, lambda, one_case, case_lambda, one_init, all_inits, letrec_in, letrec_form, application, alternate, conditional, set, in_sequence, fender, clause_in, pattern_clause, syntax_case, keywords_form, perform, perform_settled, form_at}
 use Rattle.sx_expand.specs.Inside.{Inside}
-use Rattle.sx_expand.specs.Keywords.{keyword, seen_in, keyword_in, all_keywords, keywords, with_keywords, define_syntax}
+use Rattle.sx_expand.specs.Keywords.{expand_transformer, seen_in, expand_transformer_in, expand_transformers, keywords, with_keywords, define_syntax}
 use Rattle.sx_expand.specs.Quasi.{part_core, quasi_made, quasi_form}
-use Rattle.sx_expand.specs.Settle.{settle, settle_item}
+use Rattle.sx_expand.specs.ExpandUses.{expand_uses, expand_item_uses}
 use Rattle.sx_room_laws.proofs.Items.{deeper-from, Keeps, keeps-splice}
 use Rattle.sx_room_laws.proofs.Same.{Each, same-after, both-after, where-after, same-framed, where-each, same-each, same-gather}
 use Rattle.sx_room_laws.proofs.Waiting.{IsFrom, WaitsFrom}
@@ -62,14 +62,14 @@ pub record Agree (d : ℕ) (go ho : Inside) : Type 0 where
 
 -- The parts of quasi forms stand as deep as the form's inside.
 
-abbrev PartFrom : ℕ → Part → Type 0
+abbrev PartFrom : ℕ → PartForm → Type 0
 PartFrom d p = d ≤ p.depth
 
-parts-append : (d : ℕ) (ps qs : List Part) → Each (PartFrom d) ps → Each (PartFrom d) qs → Each (PartFrom d) (ps ++ qs)
+parts-append : (d : ℕ) (ps qs : List PartForm) → Each (PartFrom d) ps → Each (PartFrom d) qs → Each (PartFrom d) (ps ++ qs)
 parts-append d [] qs h k = k
 parts-append d (p ∷ ps) qs h k = (h.0, parts-append d ps qs h.1 k)
 
-made-from : (d : ℕ) (t : Tree) (depth : ℕ) (done : List Part) → d ≤ depth → Each (PartFrom d) done → Each (PartFrom d) (with_made t depth done)
+made-from : (d : ℕ) (t : Tree) (depth : ℕ) (done : List PartForm) → d ≤ depth → Each (PartFrom d) done → Each (PartFrom d) (with_made t depth done)
 made-from d t depth done le h = by (nat_lt most_round depth)
   where
     by : (b : Bool) → Each (PartFrom d) (if b then done ++ part t depth ∷ [] else done)
@@ -77,12 +77,12 @@ made-from d t depth done le h = by (nat_lt most_round depth)
     by false = h
 
 mutual
-  quasi-from : (d : ℕ) (t : Tree) (depth : ℕ) (done : List Part) (q : PlainQuasi) → d ≤ depth → Each (PartFrom d) done → Each (PartFrom d) (quasi_parts t depth done q)
+  quasi-from : (d : ℕ) (t : Tree) (depth : ℕ) (done : List PartForm) (q : PlainQuasi) → d ≤ depth → Each (PartFrom d) done → Each (PartFrom d) (quasi_parts t depth done q)
   quasi-from d t depth done (constant c) le h = made-from d t depth done le h
   quasi-from d t depth done (expression e) le h = parts-append d done (part e depth ∷ []) h (le, tt)
   quasi-from d t depth done (quasi.call m qs) le h = quasis-from d t (deeper depth) (with_made t (deeper depth) done) qs (deeper-from d depth le) (made-from d t (deeper depth) done (deeper-from d depth le) h)
 
-  quasis-from : (d : ℕ) (t : Tree) (depth : ℕ) (done : List Part) (qs : PlainQuasis) → d ≤ depth → Each (PartFrom d) done → Each (PartFrom d) (all_quasi_parts t depth done qs)
+  quasis-from : (d : ℕ) (t : Tree) (depth : ℕ) (done : List PartForm) (qs : PlainQuasis) → d ≤ depth → Each (PartFrom d) done → Each (PartFrom d) (all_quasi_parts t depth done qs)
   quasis-from d t depth done none le h = h
   quasis-from d t depth done (more q qs) le h = quasis-from d t depth (quasi_parts t depth done q) qs le (quasi-from d t depth done q le h)
 
@@ -140,17 +140,17 @@ module _ (go ho : Inside) (d : ℕ) (same : Agree d go ho) (keeps : Keeps go) wh
 
   -- Keywords.
 
-  same-keyword : (place : Span) (level depth : ℕ) (b : BoundSpec) (s : State) → d ≤ depth → keyword go place level depth b s ≡ keyword ho place level depth b s
-  unfolding keyword
+  same-keyword : (place : Span) (level depth : ℕ) (b : BoundSpec) (s : State) → d ≤ depth → expand_transformer go place level depth b s ≡ expand_transformer ho place level depth b s
+  unfolding expand_transformer
   same-keyword place level depth b s le =
-      ap (λ r. after (after r (restoring s.scope)) (finish_keyword go.earlier (place_of b.init place) b.label)) (same.form place (level + 1) depth b.init (record s { scope = [] }) le)
-      ∙ ap (λ rs. after (apart (ho.form place (level + 1) depth b.init) s) (finish_keyword rs (place_of b.init place) b.label)) same.earlier
+      ap (λ r. after (after r (restoring s.scope)) (evaluate_transformer go.earlier (place_of b.init place) b.label)) (same.form place (level + 1) depth b.init (record s { scope = [] }) le)
+      ∙ ap (λ rs. after (apart (ho.form place (level + 1) depth b.init) s) (evaluate_transformer rs (place_of b.init place) b.label)) same.earlier
 
   same-keywords : (place : Span) (level depth : ℕ) (recursive : Bool) (bs : List BindingSpec) (frame : FrameNo) (s : State) → d ≤ depth → keywords go place level depth recursive bs frame s ≡ keywords ho place level depth recursive bs frame s
   unfolding keywords
   same-keywords place level depth recursive bs frame s le =
-      same-after (bind_keywords frame place level bs s) (all_keywords go place level depth recursive frame) (all_keywords ho place level depth recursive frame)
-      (λ xs u. same-gather (keyword_in go place level depth recursive frame) (keyword_in ho place level depth recursive frame) (λ e b v. same-keyword place level depth (seen_in recursive frame b) v le) tt xs u)
+      same-after (bind_keywords frame place level bs s) (expand_transformers go place level depth recursive frame) (expand_transformers ho place level depth recursive frame)
+      (λ xs u. same-gather (expand_transformer_in go place level depth recursive frame) (expand_transformer_in ho place level depth recursive frame) (λ e b v. same-keyword place level depth (seen_in recursive frame b) v le) tt xs u)
 
   same-with : (place : Span) (level depth : ℕ) (recursive : Bool) (bs : List BindingSpec) (forms : List Tree) (s : State) → d ≤ depth
       → with_keywords go place level depth recursive bs forms s ≡ with_keywords ho place level depth recursive bs forms s
@@ -159,7 +159,7 @@ module _ (go ho : Inside) (d : ℕ) (same : Agree d go ho) (keeps : Keeps go) wh
 
   same-define : (at : BodyAt) (depth : ℕ) (done : Taken) (t : Tree) (b : BindingSpec) (s : State) → d ≤ depth → define_syntax go at depth done t b s ≡ define_syntax ho at depth done t b s
   unfolding define_syntax
-  same-define at depth done t b s le = same-after (define_keyword at done t b s) (keyword go at.place at.level depth) (keyword ho at.place at.level depth) (λ x u. same-keyword at.place at.level depth x u le)
+  same-define at depth done t b s le = same-after (define_keyword at done t b s) (expand_transformer go at.place at.level depth) (expand_transformer ho at.place at.level depth) (λ x u. same-keyword at.place at.level depth x u le)
 
   -- Expressions.
 
@@ -299,11 +299,11 @@ module _ (go ho : Inside) (d : ℕ) (same : Agree d go ho) (keeps : Keeps go) wh
   pub same-form-at : (place : Span) (level depth : ℕ) (t : Tree) (s : State) → d ≤ deeper depth → form_at go place level depth t s ≡ form_at ho place level depth t s
   unfolding form_at
   same-form-at place level depth t s le = ap (λ r. if nat_lt most_round depth then fault_form kind.TooDeep t place s else r)
-      (ap (λ rs. after (settle rs place level t s) (perform_settled go level depth)) same.earlier
-      ∙ same-after (settle ho.earlier place level t s) (perform_settled go level depth) (perform_settled ho level depth) (λ x u. same-perform x.place level depth x.form x.plan u le))
+      (ap (λ rs. after (expand_uses rs place level t s) (perform_settled go level depth)) same.earlier
+      ∙ same-after (expand_uses ho.earlier place level t s) (perform_settled go level depth) (perform_settled ho level depth) (λ x u. same-perform x.place level depth x.form x.plan u le))
 
   pub same-item : (at : BodyAt) (depth : ℕ) (done : Taken) (t : Tree) (s : State) → d ≤ deeper depth → item go at depth done t s ≡ item ho at depth done t s
   unfolding item
   same-item at depth done t s le = ap (λ r. if nat_lt most_round depth then fault_form kind.TooDeep t at.place s else r)
-      (ap (λ rs. after (settle_item rs at depth done t s) (bodies.perform_settled go depth)) same.earlier
-      ∙ same-after (settle_item ho.earlier at depth done t s) (bodies.perform_settled go depth) (bodies.perform_settled ho depth) (λ p u. same-perform-item p.1.at depth p.0 p.1.form p.1.item u le))
+      (ap (λ rs. after (expand_item_uses rs at depth done t s) (bodies.perform_settled go depth)) same.earlier
+      ∙ same-after (expand_item_uses ho.earlier at depth done t s) (bodies.perform_settled go depth) (bodies.perform_settled ho depth) (λ p u. same-perform-item p.1.at depth p.0 p.1.form p.1.item u le))

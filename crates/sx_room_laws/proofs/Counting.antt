@@ -21,7 +21,7 @@ use Rattle.sx_core.specs.declared.core_form.CoreForm.{CoreForm}
 use Rattle.sx_core.specs.declared.core_form.CoreForm.TheVariants as core_forms
 use Rattle.sx_core.specs.declared.formals.Formals.{Formals}
 use Rattle.sx_core.specs.declared.link.LinkKind.TheVariants as kinds
-use Rattle.sx_core.specs.declared.record.LibRecord.{LibRecord}
+use Rattle.sx_core.specs.declared.record.CompiledLibrary.{CompiledLibrary}
 use Rattle.sx_shapes.specs.At.{fault_at}
 use Rattle.sx_shapes.specs.Forms.{binding, bindings, case_lambda_shape, formals, formals_before, if_shape, lambda_case, lambda_shape, let_syntax_shape, letrec_shape, set_shape, syntax_case_shape, shaped, or_bad, shape_of, shape}
 use Rattle.sx_shapes.specs.Lists.{is_leaf, is_nil_atom, elements, tail_of, all_ids, if_some, all_of}
@@ -47,9 +47,9 @@ use Rattle.sx_expand.specs.Body.{lambda_at, sequence_of}
 use Rattle.sx_expand.specs.Expression.{all_clauses, alternate, application as call_form, conditional, in_order, in_sequence, keywords_form, perform, set as set_form, syntax_case, inside, full_room}
 use Rattle.sx_expand.specs.Inside.{Inside}
 use Rattle.sx_expand.specs.Keywords.{keywords as bound_keywords}
-use Rattle.sx_expand.specs.Settle.{linked, step_of}
-use Rattle.sx_expand.specs.declared.settle.Step.TheVariants as steps
-use Rattle.sx_room_laws.specs.Counted.{Round, sequence, operator, test, subject, value, keywords, body, one_case, block, initial, IsWord, IsTarget, IsAlone, AreFormals, IsBinder, IsRound, stamp_round, counted, next_frame, in_frames, rounds_in_frames, within, rounds_within, next, left, all_left, AreRound, round, truth, put, put_in, code, code_in, FormsCountOnce}
+use Rattle.sx_expand.specs.ExpandUses.{linked, step_of}
+use Rattle.sx_expand.specs.declared.expand_uses.PlanOrUse.TheVariants as steps
+use Rattle.sx_room_laws.specs.Counted.{Round, sequence, operator, test, subject, value, keywords, body, one_case, block, initial, IsKeywordWord, IsTarget, IsAlone, AreFormals, IsBinderForm, IsRound, stamp_round, counted, next_frame, in_frames, rounds_in_frames, within, rounds_within, next, left, all_left, AreRound, round, truth, put, put_in, code, code_in, FormsCountOnce}
 use Rattle.sx_room_laws.proofs.Items.{shallow-inside}
 use Rattle.sx_room_laws.proofs.Procedures.{IsPlanned, IsTaken, block-faulted, block-made, body-faulted, body-made, body-too-deep, cases-faulted, cases-made, headed, initial-faulted, initial-made, is-taken, lambda-faulted, lambda-made, no_ids}
 use Rattle.sx_room_laws.proofs.Limits.{over, done-at, one-deeper, constant-is}
@@ -225,7 +225,7 @@ target-is place level t id s v word is =
     chosen v.own (nat_eq v.level level) (is_in_scope s v) (has_label s.exports v.label) _ _ _ _ _ is.own ((unsigned_Decides v.level level).1 is.level) is.in_scope is.inside
 
 module _ (place : Span) (level : ℕ) (form : Tree) (s : State) (no : is_leaf form ≡ false) where
-  by-word : (f : CoreForm) (word rest : Tree) → IsWord s f word → plan_of place level (pair None word rest) s ≡ keyword_plan place level (pair None word rest) word f s
+  by-word : (f : CoreForm) (word rest : Tree) → IsKeywordWord s f word → plan_of place level (pair None word rest) s ≡ keyword_plan place level (pair None word rest) word f s
   unfolding list_plan
   by-word f word rest is =
       ap (λ b. if b then by_head place level (pair None word rest) word rest (standing_of s word) s else application place (pair None word rest) word rest s) is.leaf
@@ -293,7 +293,7 @@ module _ (place : Span) (level : ℕ) (form : Tree) (s : State) (no : is_leaf fo
   plan-is (initial true word id l v) rs is =
       by-word core_forms.LetrecStar word (spec_rest id) is.0 ∙ ap (λ x. with_shape place level (put (initial true word id l v) form) core_forms.LetrecStar x s) (shape-initial true word id l v is.1.leaf)
 
-  plan-settles : (r : Round) (rs : List LibRecord) (u : State) → step_of rs place (put r form) (plan place r form) u ≡ Ok (steps.Plan (plan place r form), u)
+  plan-settles : (r : Round) (rs : List CompiledLibrary) (u : State) → step_of rs place (put r form) (plan place r form) u ≡ Ok (steps.Plan (plan place r form), u)
   plan-settles (sequence word) rs u = refl
   plan-settles operator rs u = refl
   plan-settles (test word) rs u = refl
@@ -317,7 +317,7 @@ module _ (place : Span) (level : ℕ) (form : Tree) (s : State) (no : is_leaf fo
   enters (block star word) = refl
   enters (initial star word id l v) = refl
 
-  in-round : (records : List LibRecord) (room depth : ℕ) (r : Round) (rs : List Round) → IsRound place level s r rs → depth ≤ most_round
+  in-round : (records : List CompiledLibrary) (room depth : ℕ) (r : Round) (rs : List Round) → IsRound place level s r rs → depth ≤ most_round
       → (inside records (suc room)).form place level depth (put r form) s ≡ perform (inside records room) place level depth (put r form) (plan place r form) (entered r s)
   in-round records room depth r rs is few =
       form-is records room place level depth (put r form) s
@@ -371,7 +371,7 @@ abbrev Taking : Inside → Span → ℕ → ℕ → Round → State → Tree →
 Taking go place level depth (body word ids fs v) s form = AreFormals place level s ids fs v × TakesIn go place level depth (next_frame (counted s)) (next_frame v) (counted v) form
 Taking go place level depth (one_case word) s form = TakesIn go place level depth (next_frame (counted s)) (next_frame (counted (counted s))) (counted (counted (counted s))) form
 Taking go place level depth (block star word) s form = TakesIn go place level depth (next_frame s) (next_frame (counted s)) (counted (counted s)) form
-Taking go place level depth (initial star word id l v) s form = IsBinder place level s id l v
+Taking go place level depth (initial star word id l v) s form = IsBinderForm place level s id l v
 Taking go place level depth r s form = Unit {0}
 
 -- a constant is taken by the first pass over a body
@@ -441,7 +441,7 @@ module _ (place : Span) (level : ℕ) (form : Tree) (s : State) where
   too-deep-block go depth t word star f e =
       block-faulted go place level (deeper depth) t form s star f (body-too-deep go place level (deeper depth) t (stamp (next_frame s) form) (counted s) f e)
 
-module _ (records : List LibRecord) (place : Span) (level : ℕ) where
+module _ (records : List CompiledLibrary) (place : Span) (level : ℕ) where
   at-room : (a b depth : ℕ) (u : Tree) (s : State) → a ≡ b → (inside records a).form place level depth u s ≡ (inside records b).form place level depth u s
   at-room a b depth u s e = ap (λ n. (inside records n).form place level depth u s) e
 
@@ -468,7 +468,7 @@ module _ (records : List LibRecord) (place : Span) (level : ℕ) where
   frames-alone : (f g : FrameNo) (rs : List Round) → IsAlone rs → IsAlone (rounds_in_frames f g rs)
   frames-alone f g rs h = stamp-alone g (map (stamp_round f) rs) (stamp-alone f rs h)
 
-  binder-is : (level : ℕ) (s : State) (star : Bool) (word id : Tree) (l : Label) (v : State) (rs : List Round) → IsRound place level s (initial star word id l v) rs → IsBinder place level s id l v
+  binder-is : (level : ℕ) (s : State) (star : Bool) (word id : Tree) (l : Label) (v : State) (rs : List Round) → IsRound place level s (initial star word id l v) rs → IsBinderForm place level s id l v
   binder-is level s false word id l v rs is = is.1
   binder-is level s true word id l v rs is = is.1
 

@@ -7,7 +7,7 @@ use Rattle.sx_base.specs.declared.name.FrameNo.{FrameNo}
 use Rattle.sx_base.specs.declared.span.Span.{Span}
 use Rattle.sx_tree.specs.Changes.{stamp}
 use Rattle.sx_tree.specs.Tree.{Tree}
-use Rattle.sx_core.specs.declared.record.LibRecord.{LibRecord}
+use Rattle.sx_core.specs.declared.record.CompiledLibrary.{CompiledLibrary}
 use Rattle.sx_shapes.specs.declared.shape.FormalIds.{FormalIds}
 use Rattle.sx_standing.specs.Binders.{bind_formals}
 use Rattle.sx_standing.specs.State.{State, fault_form}
@@ -22,10 +22,10 @@ use Rattle.sx_expand.specs.Body as bodies
 use Rattle.sx_expand.specs.Expression.{inside, case_in, lambda_case}
 use Rattle.sx_expand.specs.Inside.{Inside}
 use Rattle.sx_expand.specs.Keywords.{define_syntax, with_keywords}
-use Rattle.sx_expand.specs.Settle.{settle_item}
-use Rattle.sx_expand.specs.declared.settle.SettledItem.{SettledItem}
+use Rattle.sx_expand.specs.ExpandUses.{expand_item_uses}
+use Rattle.sx_expand.specs.declared.expand_uses.PlannedItem.{PlannedItem}
 use Rattle.sx_room_laws.proofs.Same.{Gave, gave-after, gave-any, gave-if, gave-gather, same-after, same-framed}
-use Rattle.sx_room_laws.proofs.Waiting.{WaitsFrom, from-settle}
+use Rattle.sx_room_laws.proofs.Waiting.{WaitsFrom, from-expand_uses}
 
 pub deeper-from : (n depth : ℕ) → n ≤ depth → n ≤ deeper depth
 deeper-from n depth le = by (nat_lt most_round depth)
@@ -55,10 +55,10 @@ module _ (go : Inside) (keeps : Keeps go) (n : ℕ) where
   keeps-item : (at : BodyAt) (depth : ℕ) (done : Taken) (t : Tree) (s : State) → n ≤ depth → WaitsFrom n done → Gave (WaitsFrom n) (item go at depth done t s)
   unfolding item
   keeps-item at depth done t s le h = gave-if (WaitsFrom n) (nat_lt most_round depth) _ _ tt
-      (gave-after (λ (p : Taken × SettledItem). WaitsFrom n p.0) (WaitsFrom n) (settle_item go.earlier at depth done t s) (bodies.perform_settled go depth) (from-settle n depth le go.earlier at done t s h)
+      (gave-after (λ (p : Taken × PlannedItem). WaitsFrom n p.0) (WaitsFrom n) (expand_item_uses go.earlier at depth done t s) (bodies.perform_settled go depth) (from-expand_uses n depth le go.earlier at done t s h)
       (λ p u k. keeps-perform p.1.at depth p.0 p.1.form p.1.item u le k))
 
-pub keeps-inside : (rs : List LibRecord) (room : ℕ) → Keeps (inside rs room)
+pub keeps-inside : (rs : List CompiledLibrary) (room : ℕ) → Keeps (inside rs room)
 unfolding inside
 keeps-inside rs zero n at depth done t s le h = tt
 keeps-inside rs (suc room) n at depth done t s le h = keeps-item (inside rs room) (keeps-inside rs room) n at depth done t s le h
@@ -70,9 +70,9 @@ IsShallow go = (at : BodyAt) (depth : ℕ) (done : Taken) (t : Tree) (s : State)
 
 pub too-deep-item : (go : Inside) → IsShallow (record { earlier = go.earlier; form = go.form; procedure = go.procedure; item = item go })
 unfolding item
-too-deep-item go at depth done t s deep = ap (λ b. if b then fault_form kind.TooDeep t at.place s else after (settle_item go.earlier at depth done t s) (bodies.perform_settled go depth)) deep
+too-deep-item go at depth done t s deep = ap (λ b. if b then fault_form kind.TooDeep t at.place s else after (expand_item_uses go.earlier at depth done t s) (bodies.perform_settled go depth)) deep
 
-pub shallow-inside : (rs : List LibRecord) (room : ℕ) → IsShallow (inside rs room)
+pub shallow-inside : (rs : List CompiledLibrary) (room : ℕ) → IsShallow (inside rs room)
 unfolding inside
 shallow-inside rs zero at depth done t s deep = refl
 shallow-inside rs (suc room) at depth done t s deep = too-deep-item (inside rs room) at depth done t s deep

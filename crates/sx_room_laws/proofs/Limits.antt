@@ -10,7 +10,7 @@ use Rattle.sx_base.specs.declared.span.Span.{Span}
 use Rattle.sx_tree.specs.Tree.{Tree, atom, pair, nil}
 use Rattle.sx_tree.specs.Leaves.{strip}
 use Rattle.sx_core.specs.Core.{PlainCore, quoted}
-use Rattle.sx_core.specs.declared.record.LibRecord.{LibRecord}
+use Rattle.sx_core.specs.declared.record.CompiledLibrary.{CompiledLibrary}
 use Rattle.sx_shapes.specs.At.{place_of}
 use Rattle.sx_shapes.specs.Forms.{shaped, shape_of, shape}
 use Rattle.sx_shapes.specs.Lists.{is_nil_atom}
@@ -24,8 +24,8 @@ use Rattle.sx_expand.specs.Body.{sequence_of}
 use Rattle.sx_expand.specs.Expanding.{expression}
 use Rattle.sx_expand.specs.Expression.{in_sequence, perform, perform_settled, form_at, inside, full_room}
 use Rattle.sx_expand.specs.Inside.{Inside}
-use Rattle.sx_expand.specs.Settle.{next_form, too_many, step_of, step, linked, settled_by, settle_to, settle}
-use Rattle.sx_expand.specs.declared.settle.Step.TheVariants as steps
+use Rattle.sx_expand.specs.ExpandUses.{next_form, too_many, step_of, step, linked, planned_by, expand_uses_to, expand_uses}
+use Rattle.sx_expand.specs.declared.expand_uses.PlanOrUse.TheVariants as steps
 use Rattle.sx_room_laws.specs.Limit.{begun, IsBegin, LimitOfNesting}
 use Rattle.sx_room_laws.proofs.Items.{shallow-inside}
 use Rattle.sx_room_laws.proofs.Rooms.{form-is, too-deep-form, forms-need-no-more}
@@ -39,18 +39,18 @@ within-limit depth h = grind (arith, nat_tests)
 -- A form that is no use is done at once.
 
 module _ (go : Inside) (place : Span) (level depth : ℕ) (t : Tree) (s v : State) (p : Plan) (few : depth ≤ most_round) where
-  settled-by : (left : ℕ) → plan_of place level t s ≡ Ok (p, v) → ((rs : List LibRecord) → step_of rs place t p v ≡ Ok (steps.Plan p, v)) → settle_to go.earlier left place level t s ≡ Ok (record { place = place; form = t; plan = p }, linked t p v)
-  unfolding settle_to step
+  settled-by : (left : ℕ) → plan_of place level t s ≡ Ok (p, v) → ((rs : List CompiledLibrary) → step_of rs place t p v ≡ Ok (steps.Plan p, v)) → expand_uses_to go.earlier left place level t s ≡ Ok (record { place = place; form = t; plan = p }, linked t p v)
+  unfolding expand_uses_to step
   settled-by zero e k =
-      ap (λ r. after (after r (step_of go.earlier place t)) (settled_by (λ k. too_many t place) place t)) e ∙ ap (λ r. after r (settled_by (λ k. too_many t place) place t)) (k go.earlier)
+      ap (λ r. after (after r (step_of go.earlier place t)) (planned_by (λ k. too_many t place) place t)) e ∙ ap (λ r. after r (planned_by (λ k. too_many t place) place t)) (k go.earlier)
   settled-by (suc left) e k =
-      ap (λ r. after (after r (step_of go.earlier place t)) (settled_by (λ m s'. after (next_form go.earlier left place t m None s') (settle_to go.earlier left (place_of t place) level)) place t)) e
-      ∙ ap (λ r. after r (settled_by (λ m s'. after (next_form go.earlier left place t m None s') (settle_to go.earlier left (place_of t place) level)) place t)) (k go.earlier)
+      ap (λ r. after (after r (step_of go.earlier place t)) (planned_by (λ m s'. after (next_form go.earlier left place t m None s') (expand_uses_to go.earlier left (place_of t place) level)) place t)) e
+      ∙ ap (λ r. after r (planned_by (λ m s'. after (next_form go.earlier left place t m None s') (expand_uses_to go.earlier left (place_of t place) level)) place t)) (k go.earlier)
 
-  pub done-at : plan_of place level t s ≡ Ok (p, v) → ((rs : List LibRecord) → step_of rs place t p v ≡ Ok (steps.Plan p, v)) → form_at go place level depth t s ≡ perform go place level depth t p (linked t p v)
+  pub done-at : plan_of place level t s ≡ Ok (p, v) → ((rs : List CompiledLibrary) → step_of rs place t p v ≡ Ok (steps.Plan p, v)) → form_at go place level depth t s ≡ perform go place level depth t p (linked t p v)
   unfolding form_at
   done-at e k =
-      ap (λ b. if b then fault_form kind.TooDeep t place s else after (settle go.earlier place level t s) (perform_settled go level depth)) (within-limit depth few)
+      ap (λ b. if b then fault_form kind.TooDeep t place s else after (expand_uses go.earlier place level t s) (perform_settled go level depth)) (within-limit depth few)
       ∙ ap (λ r. after r (perform_settled go level depth)) (settled-by s.uses_left e k)
 
 -- A form of `begin` is as the form in it, one deeper.
@@ -75,7 +75,7 @@ begin-performed go place level depth t form s = only (go.form place level (deepe
 pub one-deeper : (depth : ℕ) → depth ≤ most_round → deeper depth ≡ suc depth
 one-deeper depth few = ap (λ b. if b then depth else depth + 1) (within-limit depth few) ∙ (omega arith)
 
-module _ (rs : List LibRecord) (place : Span) (level : ℕ) (word t : Tree) (s : State) (is : IsBegin s word) where
+module _ (rs : List CompiledLibrary) (place : Span) (level : ℕ) (word t : Tree) (s : State) (is : IsBegin s word) where
   begin-in : (room depth : ℕ) (o : Option Span) (form : Tree) → depth ≤ most_round → (inside rs (suc room)).form place level depth (pair o word (pair None form nil)) s ≡ (inside rs room).form place level (suc depth) form s
   begin-in room depth o form few =
       form-is rs room place level depth (pair o word (pair None form nil)) s
@@ -95,7 +95,7 @@ module _ (rs : List LibRecord) (place : Span) (level : ℕ) (word t : Tree) (s :
       room-is (length (o ∷ ss) + room) (suc (length ss + room)) depth (begun (o ∷ ss) word t) (omega arith) ∙ begin-in (length ss + room) depth o (begun ss word t) (omega (arith, h))
       ∙ all-begins ss room (suc depth) (omega (arith, h)) ∙ depth-is room (suc depth + length ss) (depth + length (o ∷ ss)) (omega arith)
 
-begins-are : (rs : List LibRecord) (place : Span) (level : ℕ) (ss : List (Option Span)) (word t : Tree) (s : State) → IsBegin s word → length ss ≤ most_round + 1
+begins-are : (rs : List CompiledLibrary) (place : Span) (level : ℕ) (ss : List (Option Span)) (word t : Tree) (s : State) → IsBegin s word → length ss ≤ most_round + 1
     → expression rs place level (begun ss word t) s ≡ (inside rs full_room).form place level (length ss) t s
 begins-are rs place level ss word t s is few =
     forms-need-no-more rs full_room (length ss + full_room) place level 0 (begun ss word t) s (omega arith) (omega arith) ∙ all-begins rs place level word t s is ss full_room 0 (omega (arith, few))

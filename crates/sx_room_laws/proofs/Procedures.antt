@@ -14,7 +14,7 @@ use Rattle.sx_core.specs.declared.core_form.CoreForm.{CoreForm}
 use Rattle.sx_core.specs.declared.code.Init.{Init}
 use Rattle.sx_core.specs.declared.code.Lambda.{Lambda}
 use Rattle.sx_core.specs.declared.formals.Formals.{Formals}
-use Rattle.sx_core.specs.declared.record.LibRecord.{LibRecord}
+use Rattle.sx_core.specs.declared.record.CompiledLibrary.{CompiledLibrary}
 use Rattle.sx_core.specs.declared.record.Line.TheVariants as line
 use Rattle.sx_shapes.specs.declared.shape.BindingSpec.{BindingSpec}
 use Rattle.sx_shapes.specs.declared.shape.FormalIds.{FormalIds}
@@ -35,8 +35,8 @@ use Rattle.sx_heads.specs.Depth.{most_round}
 use Rattle.sx_expand.specs.Body.{body, body_core, finish, finish_as, finish_one, item, lambda_at, perform_item, perform_settled}
 use Rattle.sx_expand.specs.Expression.{all_inits, case_lambda, lambda, lambda_case, letrec_form, one_case, one_init, inside}
 use Rattle.sx_expand.specs.Inside.{Inside}
-use Rattle.sx_expand.specs.Settle.{at_use, item_by, item_step, item_step_of, next_form, settle_item, settle_item_to, too_many}
-use Rattle.sx_room_laws.specs.Counted.{IsWord, counted}
+use Rattle.sx_expand.specs.ExpandUses.{at_use, item_by, item_step, item_step_of, next_form, expand_item_uses, expand_item_uses_to, too_many}
+use Rattle.sx_room_laws.specs.Counted.{IsKeywordWord, counted}
 use Rattle.sx_room_laws.proofs.Limits.{within-limit}
 
 -- what was taken where one expression waits, behind these heads
@@ -52,32 +52,32 @@ pub record IsPlanned (at : BodyAt) (depth : ℕ) (t : Tree) (s : State) : Type 0
   pub kept : Heads
   pub planned : item_plan at depth begun t s ≡ Ok ((one_waits at depth t kept, items.Nothing), s)
 
-item-is : (rs : List LibRecord) (room : ℕ) (at : BodyAt) (depth : ℕ) (done : Taken) (t : Tree) (s : State) → (inside rs (suc room)).item at depth done t s ≡ item (inside rs room) at depth done t s
+item-is : (rs : List CompiledLibrary) (room : ℕ) (at : BodyAt) (depth : ℕ) (done : Taken) (t : Tree) (s : State) → (inside rs (suc room)).item at depth done t s ≡ item (inside rs room) at depth done t s
 unfolding inside
 item-is rs room at depth done t s = refl
 
 module _ (go : Inside) (at : BodyAt) (depth : ℕ) (t : Tree) (s : State) (done : Taken) where
-  settled : (left : ℕ) → item_plan at depth begun t s ≡ Ok ((done, items.Nothing), s) → settle_item_to go.earlier left at depth begun t s ≡ Ok ((done, record { at = at; form = t; item = items.Nothing }), s)
-  unfolding settle_item_to item_step
+  settled : (left : ℕ) → item_plan at depth begun t s ≡ Ok ((done, items.Nothing), s) → expand_item_uses_to go.earlier left at depth begun t s ≡ Ok ((done, record { at = at; form = t; item = items.Nothing }), s)
+  unfolding expand_item_uses_to item_step
   settled zero e = ap (λ r. after (after r (λ (p : Taken × Item). item_step_of go.earlier at depth t p.0 p.1)) (item_by (λ done k. too_many t at.place) at t)) e
   settled (suc left) e =
       ap (λ r. after (after r (λ (p : Taken × Item). item_step_of go.earlier at depth t p.0 p.1))
-      (item_by (λ taken k s'. after (next_form go.earlier left at.place t k (Some at.frame) s') (settle_item_to go.earlier left (at_use at t) depth taken)) at t)) e
+      (item_by (λ taken k s'. after (next_form go.earlier left at.place t k (Some at.frame) s') (expand_item_uses_to go.earlier left (at_use at t) depth taken)) at t)) e
 
   item-taken : depth ≤ most_round → item_plan at depth begun t s ≡ Ok ((done, items.Nothing), s) → item go at depth begun t s ≡ Ok (done, s)
   unfolding item perform_item
   item-taken few e =
-      ap (λ b. if b then fault_form kind.TooDeep t at.place s else after (settle_item go.earlier at depth begun t s) (perform_settled go depth)) (within-limit depth few)
+      ap (λ b. if b then fault_form kind.TooDeep t at.place s else after (expand_item_uses go.earlier at depth begun t s) (perform_settled go depth)) (within-limit depth few)
       ∙ ap (λ r. after r (perform_settled go depth)) (settled s.uses_left e)
 
-pub is-taken : (rs : List LibRecord) (room : ℕ) (at : BodyAt) (depth : ℕ) (t : Tree) (s : State) → depth ≤ most_round → IsPlanned at depth t s → IsTaken (inside rs (suc room)) at depth t s
+pub is-taken : (rs : List CompiledLibrary) (room : ℕ) (at : BodyAt) (depth : ℕ) (t : Tree) (s : State) → depth ≤ most_round → IsPlanned at depth t s → IsTaken (inside rs (suc room)) at depth t s
 is-taken rs room at depth t s few p = record {
   kept = p.kept;
   taken = item-is rs room at depth begun t s ∙ item-taken (inside rs room) at depth t s (one_waits at depth t p.kept) few p.planned;
 }
 
 -- a form whose head is a keyword, by what the keyword does
-pub headed : (at : BodyAt) (depth : ℕ) (f : CoreForm) (word rest : Tree) (s : State) → IsWord s f word
+pub headed : (at : BodyAt) (depth : ℕ) (f : CoreForm) (word rest : Tree) (s : State) → IsKeywordWord s f word
     → item_plan at depth begun (pair None word rest) s ≡ core_item at depth (record begun { kept = with_head begun.kept (kept_head s word) }) (pair None word rest) f s
 unfolding list_item keep
 headed at depth f word rest s is =

@@ -7,7 +7,7 @@ use Rattle.sx_base.specs.declared.fault.FaultKind.TheVariants as kind
 use Rattle.sx_base.specs.declared.span.Span.{Span}
 use Rattle.sx_tree.specs.Changes.{stamp}
 use Rattle.sx_tree.specs.Tree.{Tree}
-use Rattle.sx_core.specs.declared.record.LibRecord.{LibRecord}
+use Rattle.sx_core.specs.declared.record.CompiledLibrary.{CompiledLibrary}
 use Rattle.sx_shapes.specs.declared.shape.FormalIds.{FormalIds}
 use Rattle.sx_standing.specs.State.{State, fault_form}
 use Rattle.sx_heads.specs.Depth.{deeper, most_round}
@@ -16,8 +16,8 @@ use Rattle.sx_heads.specs.declared.taken.Taken.{Taken}
 use Rattle.sx_expand.specs.Body.{item}
 use Rattle.sx_expand.specs.Expression.{lambda_case, form_at, perform_settled, inside}
 use Rattle.sx_expand.specs.Inside.{Inside}
-use Rattle.sx_expand.specs.Settle.{settle}
-use Rattle.sx_expand.specs.Top.{give_record, exports, body_at, finished, first_pass, top}
+use Rattle.sx_expand.specs.ExpandUses.{expand_uses}
+use Rattle.sx_expand.specs.Top.{give_record, exports, body_at, second_pass, first_pass, top}
 use Rattle.sx_expand.specs.declared.top.TopAt.{TopAt}
 use Rattle.sx_expand.proofs.Steps.{earlier_inside}
 use Rattle.sx_room_laws.specs.Room.{IsEnough, FormsNeedNoMore, ItemsNeedNoMore, CasesNeedNoMore, BodiesNeedNoMore, TopsNeedNoMore}
@@ -26,31 +26,31 @@ use Rattle.sx_room_laws.proofs.Items.{Keeps, keeps-inside, shallow-inside, deep-
 use Rattle.sx_room_laws.proofs.Same.{same-after}
 use Rattle.sx_room_laws.proofs.Waiting.{WaitsFrom}
 
-pub form-is : (rs : List LibRecord) (room : ℕ) (place : Span) (level depth : ℕ) (t : Tree) (s : State) → (inside rs (suc room)).form place level depth t s ≡ form_at (inside rs room) place level depth t s
+pub form-is : (rs : List CompiledLibrary) (room : ℕ) (place : Span) (level depth : ℕ) (t : Tree) (s : State) → (inside rs (suc room)).form place level depth t s ≡ form_at (inside rs room) place level depth t s
 unfolding inside
 form-is rs room place level depth t s = refl
 
-item-is : (rs : List LibRecord) (room : ℕ) (at : BodyAt) (depth : ℕ) (done : Taken) (t : Tree) (s : State) → (inside rs (suc room)).item at depth done t s ≡ item (inside rs room) at depth done t s
+item-is : (rs : List CompiledLibrary) (room : ℕ) (at : BodyAt) (depth : ℕ) (done : Taken) (t : Tree) (s : State) → (inside rs (suc room)).item at depth done t s ≡ item (inside rs room) at depth done t s
 unfolding inside
 item-is rs room at depth done t s = refl
 
-case-is : (rs : List LibRecord) (room : ℕ) (place : Span) (level depth : ℕ) (t : Tree) (ids : FormalIds) (forms : List Tree) (s : State)
+case-is : (rs : List CompiledLibrary) (room : ℕ) (place : Span) (level depth : ℕ) (t : Tree) (ids : FormalIds) (forms : List Tree) (s : State)
     → (inside rs (suc room)).procedure place level depth t ids forms s ≡ lambda_case (inside rs room) place level depth t ids forms s
 unfolding inside
 case-is rs room place level depth t ids forms s = refl
 
 -- a form that is too deep, in any room
-pub too-deep-form : (rs : List LibRecord) (room : ℕ) (place : Span) (level depth : ℕ) (t : Tree) (s : State) → nat_lt most_round depth ≡ true → (inside rs room).form place level depth t s ≡ fault_form kind.TooDeep t place s
+pub too-deep-form : (rs : List CompiledLibrary) (room : ℕ) (place : Span) (level depth : ℕ) (t : Tree) (s : State) → nat_lt most_round depth ≡ true → (inside rs room).form place level depth t s ≡ fault_form kind.TooDeep t place s
 unfolding inside form_at
 too-deep-form rs zero place level depth t s deep = refl
 too-deep-form rs (suc room) place level depth t s deep =
-    ap (λ b. if b then fault_form kind.TooDeep t place s else after (settle (inside rs room).earlier place level t s) (perform_settled (inside rs room) level depth)) deep
+    ap (λ b. if b then fault_form kind.TooDeep t place s else after (expand_uses (inside rs room).earlier place level t s) (perform_settled (inside rs room) level depth)) deep
 
 deeper-is : (d depth : ℕ) → d ≤ depth → nat_lt most_round depth ≡ false → suc d ≤ deeper depth
 deeper-is d depth le few = subst (λ (b : Bool). suc d ≤ (if b then depth else depth + 1)) (sym few) (omega (arith, le))
 
 -- one round more: from what lies inside, one deeper
-module _ (rs : List LibRecord) (p q d : ℕ) (next : d ≤ most_round → Agree (suc d) (inside rs p) (inside rs q)) where
+module _ (rs : List CompiledLibrary) (p q d : ℕ) (next : d ≤ most_round → Agree (suc d) (inside rs p) (inside rs q)) where
   agrees : (depth : ℕ) → d ≤ depth → nat_lt most_round depth ≡ false → Agree (suc d) (inside rs p) (inside rs q)
   agrees depth le few = next (grind (arith, nat_tests))
 
@@ -79,7 +79,7 @@ module _ (rs : List LibRecord) (p q d : ℕ) (next : d ≤ most_round → Agree 
     item = λ at depth done t s le. item-by at depth done t s le (nat_lt most_round depth) refl;
   }
 
-agree : (rs : List LibRecord) (p q d : ℕ) → most_round + 1 ≤ p + d → most_round + 1 ≤ q + d → Agree d (inside rs (suc p)) (inside rs (suc q))
+agree : (rs : List CompiledLibrary) (p q d : ℕ) → most_round + 1 ≤ p + d → most_round + 1 ≤ q + d → Agree d (inside rs (suc p)) (inside rs (suc q))
 agree rs zero q d h k = round rs zero q d (λ le. elim (none le) [ ])
   where
     none : d ≤ most_round → ⊥
@@ -99,7 +99,7 @@ few-or-deep A depth deep few = by (nat_lt most_round depth) refl
     by true e = deep e
     by false e = few e
 
-both : (rs : List LibRecord) (room other depth : ℕ) → depth ≤ most_round → IsEnough room depth → IsEnough other depth → Agree depth (inside rs room) (inside rs other)
+both : (rs : List CompiledLibrary) (room other depth : ℕ) → depth ≤ most_round → IsEnough room depth → IsEnough other depth → Agree depth (inside rs room) (inside rs other)
 both rs zero other depth le h k = elim (none h) [ ]
   where
     none : IsEnough zero depth → ⊥
@@ -138,13 +138,13 @@ bodies-need-no-more rs room other place level depth t forms s h k = few-or-deep 
     (λ few. same-body (inside rs room) (inside rs other) depth (both rs room other depth (at-most depth few) h k) (keeps-inside rs room) place level depth t forms s (self depth))
 
 module _ (go ho : Inside) (same : Agree 0 go ho) (keeps : Keeps go) where
-  same-finished : (at : TopAt) (es : List (List ℕ × Tree)) (taken : Taken) (s : State) → WaitsFrom 0 taken → finished go at es taken s ≡ finished ho at es taken s
-  unfolding finished
+  same-finished : (at : TopAt) (es : List (List ℕ × Tree)) (taken : Taken) (s : State) → WaitsFrom 0 taken → second_pass go at es taken s ≡ second_pass ho at es taken s
+  unfolding second_pass
   same-finished at es taken s h = same-after (exports at es s) _ _ (λ ls u. ap (λ r. after r (λ lines. give_record at ls lines)) (same-finish-all go ho 0 same keeps 0 taken.waiting u h))
 
   same-top : (at : TopAt) (es : List (List ℕ × Tree)) (forms : List Tree) (s : State) → top go at es forms s ≡ top ho at es forms s
   unfolding top first_pass
-  same-top at es forms s = same-taken go ho 0 same keeps (body_at at s.library) 0 (map (stamp at.frame) forms) (finished go at es) (finished ho at es) s (self 0) (λ done u h. same-finished at es done u h)
+  same-top at es forms s = same-taken go ho 0 same keeps (body_at at s.library) 0 (map (stamp at.frame) forms) (second_pass go at es) (second_pass ho at es) s (self 0) (λ done u h. same-finished at es done u h)
 
 pub tops-need-no-more : TopsNeedNoMore
 tops-need-no-more rs room other at es forms s h k = same-top (inside rs room) (inside rs other) (both rs room other 0 (omega arith) h k) (keeps-inside rs room) at es forms s

@@ -7,7 +7,7 @@ use Rattle.sx_base.specs.declared.name.Label.{Label}
 use Rattle.sx_base.specs.declared.fault.FaultKind.TheVariants as kind
 use Rattle.sx_tree.specs.Tree.{Tree, atom, leaf, pair, vector}
 use Rattle.sx_core.specs.declared.core_form.CoreForm.{CoreForm}
-use Rattle.sx_core.specs.declared.record.LibRecord.{LibRecord}
+use Rattle.sx_core.specs.declared.record.CompiledLibrary.{CompiledLibrary}
 use Rattle.sx_shapes.specs.At.{place_of}
 use Rattle.sx_shapes.specs.Forms.{shape}
 use Rattle.sx_shapes.specs.Lists.{is_leaf}
@@ -31,11 +31,11 @@ use Rattle.sx_heads.specs.declared.taken.Taken.{Taken}
 use Rattle.sx_heads.specs.declared.taken.Waiting.{Waiting}
 use Rattle.sx_heads.specs.declared.taken.Waits.{Waits}
 use Rattle.sx_heads.specs.declared.taken.Waits.TheVariants as waits
-use Rattle.sx_expand.specs.Settle.{next_form, too_many, at_use, set_item_step, item_step_of, item_step, settle_item_to, settle_item}
-use Rattle.sx_expand.specs.Settle as settle
-use Rattle.sx_expand.specs.declared.settle.ItemStep.{ItemStep}
-use Rattle.sx_expand.specs.declared.settle.ItemStep.TheVariants as item_steps
-use Rattle.sx_expand.specs.declared.settle.SettledItem.{SettledItem}
+use Rattle.sx_expand.specs.ExpandUses.{next_form, too_many, at_use, set_item_step, item_step_of, item_step, expand_item_uses_to, expand_item_uses}
+use Rattle.sx_expand.specs.ExpandUses as expand_uses
+use Rattle.sx_expand.specs.declared.expand_uses.ItemOrUse.{ItemOrUse}
+use Rattle.sx_expand.specs.declared.expand_uses.ItemOrUse.TheVariants as item_steps
+use Rattle.sx_expand.specs.declared.expand_uses.PlannedItem.{PlannedItem}
 use Rattle.sx_room_laws.proofs.Same.{Each, Gave, gave-after, gave-any, gave-if}
 
 -- no less deep than this
@@ -153,7 +153,7 @@ module _ (n : ℕ) (depth : ℕ) (deep : n ≤ depth) where
     from-asked done t l true s h = h
     from-asked done t l false s h = from-wait done t s h
 
-    from-step-of : (rs : List LibRecord) (t : Tree) (done : Taken) (i : Item) (s : State) → WaitsFrom n done → Gave P (item_step_of rs at depth t done i s)
+    from-step-of : (rs : List CompiledLibrary) (t : Tree) (done : Taken) (i : Item) (s : State) → WaitsFrom n done → Gave P (item_step_of rs at depth t done i s)
     from-step-of rs t done (items.Use k) s h = h
     from-step-of rs t done (items.SetUse l) s h = gave-any P (asks_variable rs (place_of t at.place) l s) (set_item_step at depth done t l) (λ b u. from-asked done t l b u h)
     from-step-of rs t done items.Nothing s h = h
@@ -161,23 +161,23 @@ module _ (n : ℕ) (depth : ℕ) (deep : n ≤ depth) where
     from-step-of rs t done (items.Keyword b) s h = h
     from-step-of rs t done (items.Keywords recursive bs forms) s h = h
 
-    from-step : (rs : List LibRecord) (done : Taken) (t : Tree) (s : State) → WaitsFrom n done → Gave P (item_step rs at depth done t s)
+    from-step : (rs : List CompiledLibrary) (done : Taken) (t : Tree) (s : State) → WaitsFrom n done → Gave P (item_step rs at depth done t s)
     unfolding item_step
     from-step rs done t s h = gave-after P P (item_plan at depth done t s) (λ p. item_step_of rs at depth t p.0 p.1) (from-plan done t s h) (λ p u k. from-step-of rs t p.0 p.1 u k)
 
-    from-by : (onward : Taken → KeywordUse → Does (Taken × SettledItem)) (t : Tree) (s : State) → ((d : Taken) (k : KeywordUse) → WaitsFrom n d → Gave P (onward d k s)) → (p : Taken × ItemStep) → WaitsFrom n p.0
-        → Gave P (settle.item_by onward at t p s)
+    from-by : (onward : Taken → KeywordUse → Does (Taken × PlannedItem)) (t : Tree) (s : State) → ((d : Taken) (k : KeywordUse) → WaitsFrom n d → Gave P (onward d k s)) → (p : Taken × ItemOrUse) → WaitsFrom n p.0
+        → Gave P (expand_uses.item_by onward at t p s)
     from-by onward t s h (d, item_steps.Item i) k = k
     from-by onward t s h (d, item_steps.Use u) k = h d u k
 
-  from-settled : (rs : List LibRecord) (left : ℕ) (at : BodyAt) (done : Taken) (t : Tree) (s : State) → WaitsFrom n done → Gave P (settle_item_to rs left at depth done t s)
-  unfolding settle_item_to
+  from-settled : (rs : List CompiledLibrary) (left : ℕ) (at : BodyAt) (done : Taken) (t : Tree) (s : State) → WaitsFrom n done → Gave P (expand_item_uses_to rs left at depth done t s)
+  unfolding expand_item_uses_to
   from-settled rs zero at done t s h =
-      gave-after P P (item_step rs at depth done t s) (settle.item_by (λ d k. too_many t at.place) at t) (from-step at rs done t s h) (λ p u k. from-by at (λ d k. too_many t at.place) t u (λ d k' k''. tt) p k)
+      gave-after P P (item_step rs at depth done t s) (expand_uses.item_by (λ d k. too_many t at.place) at t) (from-step at rs done t s h) (λ p u k. from-by at (λ d k. too_many t at.place) t u (λ d k' k''. tt) p k)
   from-settled rs (suc left) at done t s h =
-      gave-after P P (item_step rs at depth done t s) (settle.item_by (λ taken used s'. after (next_form rs left at.place t used (Some at.frame) s') (settle_item_to rs left (at_use at t) depth taken)) at t) (from-step at rs done t s h)
-      (λ p u k. from-by at (λ taken used s'. after (next_form rs left at.place t used (Some at.frame) s') (settle_item_to rs left (at_use at t) depth taken)) t u
-      (λ taken used k'. gave-any P (next_form rs left at.place t used (Some at.frame) u) (settle_item_to rs left (at_use at t) depth taken) (λ x v. from-settled rs left (at_use at t) taken x v k')) p k)
+      gave-after P P (item_step rs at depth done t s) (expand_uses.item_by (λ taken used s'. after (next_form rs left at.place t used (Some at.frame) s') (expand_item_uses_to rs left (at_use at t) depth taken)) at t) (from-step at rs done t s h)
+      (λ p u k. from-by at (λ taken used s'. after (next_form rs left at.place t used (Some at.frame) s') (expand_item_uses_to rs left (at_use at t) depth taken)) t u
+      (λ taken used k'. gave-any P (next_form rs left at.place t used (Some at.frame) u) (expand_item_uses_to rs left (at_use at t) depth taken) (λ x v. from-settled rs left (at_use at t) taken x v k')) p k)
 
-  pub from-settle : (rs : List LibRecord) (at : BodyAt) (done : Taken) (t : Tree) (s : State) → WaitsFrom n done → Gave P (settle_item rs at depth done t s)
-  from-settle rs at done t s h = from-settled rs s.uses_left at done t s h
+  pub from-expand_uses : (rs : List CompiledLibrary) (at : BodyAt) (done : Taken) (t : Tree) (s : State) → WaitsFrom n done → Gave P (expand_item_uses rs at depth done t s)
+  from-expand_uses rs at done t s h = from-settled rs s.uses_left at done t s h

@@ -16,7 +16,7 @@ use Rattle.sx_core.specs.declared.core_form.CoreForm.{CoreForm}
 use Rattle.sx_core.specs.declared.core_form.CoreForm.TheVariants as core_forms
 use Rattle.sx_core.specs.declared.formals.Formals.{Formals}
 use Rattle.sx_core.specs.declared.link.LinkKind.TheVariants as kinds
-use Rattle.sx_core.specs.declared.record.LibRecord.{LibRecord}
+use Rattle.sx_core.specs.declared.record.CompiledLibrary.{CompiledLibrary}
 use Rattle.sx_shapes.specs.Lists.{is_leaf, is_nil_atom, all_ids}
 use Rattle.sx_standing.specs.Binders.{bind_variable, bind_formals}
 use Rattle.sx_standing.specs.InScope.{cut, is_in_scope}
@@ -43,7 +43,7 @@ pub data Round : Type 0 where
   block : Bool → Tree → Round
   initial : Bool → Tree → Tree → Label → State → Round
 
-pub record IsWord (s : State) (f : CoreForm) (word : Tree) : Type 0 where
+pub record IsKeywordWord (s : State) (f : CoreForm) (word : Tree) : Type 0 where
   pub leaf : is_leaf word ≡ true
   pub stands : standing_of s word ≡ standing.Core f
 
@@ -82,24 +82,24 @@ pub record AreFormals (place : Span) (at : ℕ) (s : State) (ids : List Tree) (f
   pub leaves : all_ids ids ≡ true
   pub bound : bind_formals (next_frame (counted s)) place at (record { required = ids; rest = None }) (counted (counted s)) ≡ Ok (fs, v)
 
-pub record IsBinder (place : Span) (at : ℕ) (s : State) (id : Tree) (l : Label) (v : State) : Type 0 where
+pub record IsBinderForm (place : Span) (at : ℕ) (s : State) (id : Tree) (l : Label) (v : State) : Type 0 where
   pub leaf : is_leaf id ≡ true
   pub bound : bind_variable (next_frame s) place at false id (counted s) ≡ Ok (l, v)
 
 abbrev pub IsRound : Span → ℕ → State → Round → List Round → Type 0
-IsRound place level s (sequence word) rs = IsWord s core_forms.Begin word
+IsRound place level s (sequence word) rs = IsKeywordWord s core_forms.Begin word
 IsRound place level s operator rs = Unit {0}
-IsRound place level s (test word) rs = IsWord s core_forms.If word
-IsRound place level s (subject word) rs = IsWord s core_forms.SyntaxCase word
-IsRound place level s (value word id v) rs = IsWord s core_forms.Set word × IsTarget level s id v
-IsRound place level s (keywords false word) rs = IsWord s core_forms.LetSyntax word
-IsRound place level s (keywords true word) rs = IsWord s core_forms.LetrecSyntax word
-IsRound place level s (body word ids fs v) rs = (IsWord s core_forms.Lambda word × AreFormals place level s ids fs v) × IsAlone rs
-IsRound place level s (one_case word) rs = IsWord s core_forms.CaseLambda word × IsAlone rs
-IsRound place level s (block false word) rs = IsWord s core_forms.Letrec word × IsAlone rs
-IsRound place level s (block true word) rs = IsWord s core_forms.LetrecStar word × IsAlone rs
-IsRound place level s (initial false word id l v) rs = IsWord s core_forms.Letrec word × IsBinder place level s id l v
-IsRound place level s (initial true word id l v) rs = IsWord s core_forms.LetrecStar word × IsBinder place level s id l v
+IsRound place level s (test word) rs = IsKeywordWord s core_forms.If word
+IsRound place level s (subject word) rs = IsKeywordWord s core_forms.SyntaxCase word
+IsRound place level s (value word id v) rs = IsKeywordWord s core_forms.Set word × IsTarget level s id v
+IsRound place level s (keywords false word) rs = IsKeywordWord s core_forms.LetSyntax word
+IsRound place level s (keywords true word) rs = IsKeywordWord s core_forms.LetrecSyntax word
+IsRound place level s (body word ids fs v) rs = (IsKeywordWord s core_forms.Lambda word × AreFormals place level s ids fs v) × IsAlone rs
+IsRound place level s (one_case word) rs = IsKeywordWord s core_forms.CaseLambda word × IsAlone rs
+IsRound place level s (block false word) rs = IsKeywordWord s core_forms.Letrec word × IsAlone rs
+IsRound place level s (block true word) rs = IsKeywordWord s core_forms.LetrecStar word × IsAlone rs
+IsRound place level s (initial false word id l v) rs = IsKeywordWord s core_forms.Letrec word × IsBinderForm place level s id l v
+IsRound place level s (initial true word id l v) rs = IsKeywordWord s core_forms.LetrecStar word × IsBinderForm place level s id l v
 
 -- Where a frame is stamped on what stands in a form, it is stamped on the words.
 abbrev pub stamp_round : FrameNo → Round → Round
@@ -221,8 +221,8 @@ code_in place (r ∷ rs) s c = code place r s (code_in place rs (next r s) c)
 
 pub record FormsCountOnce : Type 0 where
   -- A constant in 600 of them is taken,
-  pub taken : (records : List LibRecord) (place : Span) (level : ℕ) (rs : List Round) (o : Option Span) (a : Atom) (s : State) → AreRound place level s rs → length rs ≤ most_round → is_nil_atom a ≡ false
+  pub taken : (records : List CompiledLibrary) (place : Span) (level : ℕ) (rs : List Round) (o : Option Span) (a : Atom) (s : State) → AreRound place level s rs → length rs ≤ most_round → is_nil_atom a ≡ false
       → expression records place level (put_in rs (atom o a)) s ≡ Ok (code_in place rs s (quoted (strip (atom o a))), all_left rs s)
   -- and any form in 601 of them is TooDeep, unless it is an identifier, which might be a keyword where it is an operator.
-  pub refused : (records : List LibRecord) (place : Span) (level : ℕ) (rs : List Round) (t : Tree) (s : State) → AreRound place level s rs → length rs ≡ most_round + 1 → is_leaf t ≡ false
+  pub refused : (records : List CompiledLibrary) (place : Span) (level : ℕ) (rs : List Round) (t : Tree) (s : State) → AreRound place level s rs → length rs ≡ most_round + 1 → is_leaf t ≡ false
       → expression records place level (put_in rs t) s ≡ fault_form kind.TooDeep t place s

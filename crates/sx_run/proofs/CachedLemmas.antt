@@ -13,14 +13,14 @@ use Rattle.sx_outside.specs.Contents.{Paths}
 use Rattle.sx_outside.specs.Store.{WhereTold}
 use Rattle.sx_prelude.specs.Prelude.{prelude_table}
 use Rattle.sx_report.specs.declared.report.Told.{Told}
-use Rattle.sx_reuse.specs.Entries.{Kept}
+use Rattle.sx_reuse.specs.Entries.{CacheInputs}
 use Rattle.sx_reuse.specs.Groups.{AreGroups, groups_from}
 use Rattle.sx_reuse.specs.Texts.{Text, Writes, Answers, found_in}
 use Rattle.sx_reuse.proofs.TextLemmas.{writes_leave}
 use Rattle.sx_reuse.proofs.Told.{told_by, told_same}
 use Rattle.sx_reuse.specs.declared.groups.Group.{Group}
 use Rattle.sx_reuse.specs.declared.texts.Came.{Came}
-use Rattle.sx_reuse.specs.declared.texts.Written.{Written}
+use Rattle.sx_reuse.specs.declared.texts.WrittenProgram.{WrittenProgram}
 use Rattle.sx_reuse_laws.specs.Runs.{without_cache, text_alone, CacheChangesNothing}
 use Rattle.sx_reuse_laws.specs.Sound.{IsHonest}
 use Rattle.sx_reuse_laws.proofs.Whole.{whole_loaded, whole_stopped}
@@ -30,7 +30,7 @@ use Rattle.sx_words.specs.declared.job.Kind.TheVariants.{Core}
 use Rattle.sx_run.specs.declared.prepare.Prepared.{Prepared}
 use Rattle.sx_run.specs.declared.prepare.Unfinished.{Unfinished}
 use Rattle.sx_run.specs.declared.prepare.Unfinished.TheVariants as unfinished
-use Rattle.sx_run.specs.Whole.{Outcome, done, fault, libraries, loading_of, outcome_of, text_by, of_loaded, of_job}
+use Rattle.sx_run.specs.Whole.{RunOutcome, done, fault, libraries, loading_of, outcome_of, text_by, of_loaded, of_job}
 use Rattle.sx_run.specs.Cached.{report_by, outcome_by, came_of, kept_of, Comes, LeavesOf, as_it_was, by_turns, LeavesStore, LeavesOfHonestly, PreparesText, PreparesFrom, PreparesCached, SameText}
 use Rattle.sx_run.proofs.Sinks.{by_files}
 use Rattle.sx_run.specs.Headline.{Storage, SaysCached, SaysJob, LeavesHonest, KeepsJob, KeepsAsked, KeepsStore, IsCoreIfCached}
@@ -41,7 +41,7 @@ use Rattle.sx_words.specs.declared.words.Words.TheVariants.{Expand, Make, Usage}
 
 -- what the entries of a job are made of, by its parts
 module _ (job : Job) (dir : List ℕ) (s : Loading) (groups : List Group) where
-  abbrev of_parts : List (List ℕ) → List Source → List Group → Kept
+  abbrev of_parts : List (List ℕ) → List Source → List Group → CacheInputs
   of_parts roots sources chosen = record { dir = dir; roots = roots; sources = sources; groups = chosen }
 
   pub kept_is : (roots : List (List ℕ)) (sources : List Source) (chosen : List Group) → roots ≡ job.roots → sources ≡ s.sources → chosen ≡ groups → of_parts roots sources chosen ≡ kept_of job dir s groups
@@ -51,18 +51,18 @@ module _ (job : Job) (dir : List ℕ) (s : Loading) (groups : List Group) where
 -- ---- from the text to what is prepared
 
 module _ (job : Job) (dir : List ℕ) (c : Came) (s : Loading) (groups : List Group) (are : AreGroups (groups_from 0 0 s.sources) s.begun s.done groups) (before : Paths) (fa : ℕ) (after : Paths) (fb : ℕ) where
-  abbrev Answered : Result Written Stop → Type 0
+  abbrev Answered : Result WrittenProgram Stop → Type 0
   Answered w = Answers (kept_of job dir s groups) prelude_table w c (found_in s.done) before fa after fb
 
   leaves : (made : Result Text Fault) → Writes (kept_of job dir s groups) prelude_table c (found_in s.done) before fa after fb made → LeavesOf job dir s before fa after fb
   leaves made writes = by_turns groups are (writes_leave (kept_of job dir s groups) prelude_table c (found_in s.done) before fa after fb made writes)
 
-  leaves_any : (w : Result Written Stop) → Answered w → LeavesOf job dir s before fa after fb
+  leaves_any : (w : Result WrittenProgram Stop) → Answered w → LeavesOf job dir s before fa after fb
   leaves_any (Ok w) h = leaves (Ok (string_bytes w.text, w.reused)) h
   leaves_any (Err (stop.Fault f)) h = leaves (Err f) h
   leaves_any (Err stop.Memory) h = by_turns groups are h
 
-  pub prepares : (result : Result Prepared Unfinished) (w : Result Written Stop) → result ≢ Err unfinished.Read → PreparesText result job.report (libraries s) s.sources w → Answered w
+  pub prepares : (result : Result Prepared Unfinished) (w : Result WrittenProgram Stop) → result ≢ Err unfinished.Read → PreparesText result job.report (libraries s) s.sources w → Answered w
       → PreparesFrom result job dir c s before fa after fb
   prepares (Ok made) (Ok w) unread h k = record { groups = groups; are = are; made = Ok (string_bytes w.text, w.reused); writes = k; is = λ i. done (h.0 i) (h.1 i) }
   prepares (Ok made) (Err x) unread h k = absurd h
@@ -79,9 +79,9 @@ module _ (held left : Option Paths) (job : Job) (dir : List ℕ) (fa fb : ℕ) w
   PreparesWhere result c s = WhereTold held left (λ before after. PreparesFrom result job dir c s before fa after fb)
 
   -- from the text behind the turns of the libraries
-  pub where_prepared : (c : Came) (s : Loading) (k : Kept) (prelude : Result Codes Fault) (fs : List Found) (groups : List Group) (libs : List Told) (sources : List Source)
+  pub where_prepared : (c : Came) (s : Loading) (k : CacheInputs) (prelude : Result Codes Fault) (fs : List Found) (groups : List Group) (libs : List Told) (sources : List Source)
       → prelude ≡ prelude_table → AreGroups (groups_from 0 0 s.sources) s.begun s.done groups → k ≡ kept_of job dir s groups → fs ≡ found_in s.done → libs ≡ libraries s → sources ≡ s.sources
-      → (result : Result Prepared Unfinished) (w : Result Written Stop) → result ≢ Err unfinished.Read → PreparesText result job.report libs sources w
+      → (result : Result Prepared Unfinished) (w : Result WrittenProgram Stop) → result ≢ Err unfinished.Read → PreparesText result job.report libs sources w
       → WhereTold held left (λ before after. Answers k prelude w c fs before fa after fb) → PreparesWhere result c s
   where_prepared c s k prelude fs groups libs sources is are k_is fs_is libs_is sources_is result w unread text h =
       told_by held left (λ before after. Answers (kept_of job dir s groups) prelude_table w c (found_in s.done) before fa after fb) _
@@ -95,7 +95,7 @@ module _ (held left : Option Paths) (job : Job) (dir : List ℕ) (fa fb : ℕ) w
 
       all : WhereTold held left (λ before after. Answers (kept_of job dir s groups) prelude_table w c (found_in s.done) before fa after fb)
       all = subst (λ (gs : List Found). WhereTold held left (λ before after. Answers (kept_of job dir s groups) prelude_table w c gs before fa after fb)) fs_is
-          (subst (λ (x : Kept). WhereTold held left (λ before after. Answers x prelude_table w c fs before fa after fb)) k_is over)
+          (subst (λ (x : CacheInputs). WhereTold held left (λ before after. Answers x prelude_table w c fs before fa after fb)) k_is over)
 
   -- from what was loaded of the files
   pub where_loaded : (files_told : Option Paths) (result : Result Prepared Unfinished) (l : Loads (Found × Loading)) → ((files : Paths) → files_told ≡ Some files → load files job.roots job.program ≡ l)
@@ -139,10 +139,10 @@ module _ (files : Paths) (job : Job) (dir : List ℕ) where
   of_core core = ap (λ (kind : Kind). of_loaded kind job.report loads) (sym core)
 
   module _ (before : Paths) (fa : ℕ) (after : Paths) (fb : ℕ) where
-    pub says : job.kind ≡ Core → (outcome : Outcome) → Comes files job dir before fa after fb outcome → SaysCached files job dir before fa after fb outcome
+    pub says : job.kind ≡ Core → (outcome : RunOutcome) → Comes files job dir before fa after fb outcome → SaysCached files job dir before fa after fb outcome
     says core outcome comes = record {
       comes = comes;
-      same = λ honest seals. subst (λ (o : Outcome). SameText outcome o) (of_core core) (subst (λ (o : Outcome). SameText o (of_loaded Core job.report loads)) (sym comes.is)
+      same = λ honest seals. subst (λ (o : RunOutcome). SameText outcome o) (of_core core) (subst (λ (o : RunOutcome). SameText o (of_loaded Core job.report loads)) (sym comes.is)
           (same_text job.report (loading_of loads) comes.made (text_by Core prelude_table loads)
           ((nothing loads refl).same dir comes.groups comes.are (came_of loads) before after fa fb comes.made comes.writes honest seals ∙ without_is loads)));
     }
@@ -154,7 +154,7 @@ module _ (files : Paths) (job : Job) (dir : List ℕ) where
     pub leaves_honest : LeavesStore files job dir before fa after fb → LeavesHonest files job dir before fa after fb
     leaves_honest l = record { leaves = l; honest = keeps_honest l }
 
-    comes_leave : (outcome : Outcome) → Comes files job dir before fa after fb outcome → LeavesStore files job dir before fa after fb
+    comes_leave : (outcome : RunOutcome) → Comes files job dir before fa after fb outcome → LeavesStore files job dir before fa after fb
     comes_leave outcome comes =
         by_turns comes.groups comes.are (writes_leave (kept_of job dir (loading_of loads) comes.groups) prelude_table (came_of loads) (found_in (loading_of loads).done) before fa after fb comes.made comes.writes)
 

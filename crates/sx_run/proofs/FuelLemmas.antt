@@ -13,14 +13,14 @@ use Rattle.sx_outside.specs.Contents.{Paths}
 use Rattle.sx_outside.specs.Store.{WhereTold}
 use Rattle.sx_prelude.specs.Prelude.{prelude_table, prelude_spent}
 use Rattle.sx_report.specs.declared.report.Told.{Told}
-use Rattle.sx_reuse.specs.Entries.{Kept}
+use Rattle.sx_reuse.specs.Entries.{CacheInputs}
 use Rattle.sx_reuse.specs.Fuel.{WritesSpending}
 use Rattle.sx_reuse.specs.Groups.{AreGroups, groups_from}
 use Rattle.sx_reuse.specs.Texts.{found_in}
 use Rattle.sx_reuse.proofs.Told.{told_by}
 use Rattle.sx_reuse.specs.declared.groups.Group.{Group}
 use Rattle.sx_reuse.specs.declared.texts.Came.{Came}
-use Rattle.sx_reuse.specs.declared.texts.Written.{Written}
+use Rattle.sx_reuse.specs.declared.texts.WrittenProgram.{WrittenProgram}
 use Rattle.sx_words.specs.declared.job.Job.{Job}
 use Rattle.sx_words.specs.declared.words.Words.{Words}
 use Rattle.sx_run.specs.Cached.{kept_of, PreparesText}
@@ -38,7 +38,7 @@ use Rattle.sx_run.specs.declared.status.Status.TheVariants as status
 -- ---- from the text to what is prepared
 
 module _ (job : Job) (dir : List ℕ) (c : Came) (s : Loading) (groups : List Group) (are : AreGroups (groups_from 0 0 s.sources) s.begun s.done groups) (fa fb f0 f1 : ℕ) where
-  text_spending : (before after : Paths) (made : Prepared) (w : Written) → PreparesText (Ok made) job.report (libraries s) s.sources (Ok w)
+  text_spending : (before after : Paths) (made : Prepared) (w : WrittenProgram) → PreparesText (Ok made) job.report (libraries s) s.sources (Ok w)
       → WritesSpending (kept_of job dir s groups) prelude_table c (found_in s.done) before fa after fb (Ok (string_bytes w.text, w.reused)) f0 f1
       → ComesSpending job dir c s before fa after fb (string_bytes made.text) (string_bytes made.report) f0 f1
   text_spending before after made w h k = record {
@@ -47,10 +47,10 @@ module _ (job : Job) (dir : List ℕ) (c : Came) (s : Loading) (groups : List Gr
   }
 
   -- over a store whose contents may be told
-  pub where_spent : (held left : Option Paths) (k : Kept) (prelude : Result Codes Fault) (fs : List Found) (libs : List Told) (sources : List Source)
+  pub where_spent : (held left : Option Paths) (k : CacheInputs) (prelude : Result Codes Fault) (fs : List Found) (libs : List Told) (sources : List Source)
       → prelude ≡ prelude_table → k ≡ kept_of job dir s groups → fs ≡ found_in s.done → libs ≡ libraries s → sources ≡ s.sources
-      → (result : Result Prepared Unfinished) (w : Result Written Stop) → PreparesText result job.report libs sources w
-      → IfOk w (λ (x : Written). WhereTold held left (λ before after. WritesSpending k prelude c fs before fa after fb (Ok (string_bytes x.text, x.reused)) f0 f1))
+      → (result : Result Prepared Unfinished) (w : Result WrittenProgram Stop) → PreparesText result job.report libs sources w
+      → IfOk w (λ (x : WrittenProgram). WhereTold held left (λ before after. WritesSpending k prelude c fs before fa after fb (Ok (string_bytes x.text, x.reused)) f0 f1))
       → IfOk result (λ (made : Prepared). WhereTold held left (λ before after. ComesSpending job dir c s before fa after fb (string_bytes made.text) (string_bytes made.report) f0 f1))
   where_spent held left k prelude fs libs sources is k_is fs_is libs_is sources_is (Ok made) (Ok w) text h =
       told_by held left _ _ (λ before after x. text_spending before after made w own x) all
@@ -63,7 +63,7 @@ module _ (job : Job) (dir : List ℕ) (c : Came) (s : Loading) (groups : List Gr
 
       all : WhereTold held left (λ before after. WritesSpending (kept_of job dir s groups) prelude_table c (found_in s.done) before fa after fb (Ok (string_bytes w.text, w.reused)) f0 f1)
       all = subst (λ (gs : List Found). WhereTold held left (λ before after. WritesSpending (kept_of job dir s groups) prelude_table c gs before fa after fb (Ok (string_bytes w.text, w.reused)) f0 f1)) fs_is
-          (subst (λ (x : Kept). WhereTold held left (λ before after. WritesSpending x prelude_table c fs before fa after fb (Ok (string_bytes w.text, w.reused)) f0 f1)) k_is over)
+          (subst (λ (x : CacheInputs). WhereTold held left (λ before after. WritesSpending x prelude_table c fs before fa after fb (Ok (string_bytes w.text, w.reused)) f0 f1)) k_is over)
   where_spent held left k prelude fs libs sources is k_is fs_is libs_is sources_is (Ok made) (Err x) text h = absurd text
   where_spent held left k prelude fs libs sources is k_is fs_is libs_is sources_is (Err x) w text h = tt
 

@@ -10,7 +10,7 @@ use Rattle.sx_run.specs.declared.prepare.Prepared.{Prepared}
 use Rattle.sx_run.specs.declared.prepare.Unfinished.{Unfinished}
 use Rattle.sx_run.specs.declared.prepare.Unfinished.TheVariants as unfinished
 use Rattle.sx_run.specs.Words.{words_asked, usage_line}
-use Rattle.sx_run.specs.Whole.{Outcome, usage, done, fault, of_job, of_made}
+use Rattle.sx_run.specs.Whole.{RunOutcome, usage, done, fault, of_job, of_made}
 use Rattle.sx_words.specs.declared.words.Words.{Words}
 use Rattle.sx_words.specs.declared.words.Words.TheVariants.{Expand, Make, Usage}
 use Rattle.sx_words.specs.declared.job.Job.{Job}
@@ -55,14 +55,14 @@ module _ (told : Option Paths) (store : Storage) (words : List (List ℕ)) (fb f
   Unexcused s = ¬ Rose fb fa → ¬ Rose out.faults_before out.faults_after → ¬ Rose err.faults_before err.faults_after → ¬ (s ≡ status.Memory) → ⊥
 
   -- words are refused only where they are refused
-  abbrev IsOf : Outcome → Type 0
+  abbrev IsOf : RunOutcome → Type 0
   IsOf (done text report) = Unit {0}
   IsOf (fault line) = Unit {0}
   IsOf usage = words_asked words ≡ Usage
 
   -- the outcome, and its status
   record Given (s : Status) : Type 0 where
-    pub outcome : Outcome
+    pub outcome : RunOutcome
     pub says : Says told store words outcome
     pub of : IsOf outcome
     pub is : s ≡ status_of outcome
@@ -78,7 +78,7 @@ module _ (told : Option Paths) (store : Storage) (words : List (List ℕ)) (fb f
   by_text s text report given (written a b) = by_report s text report given b
   by_text s text report given (broken a b) = inl (λ p q r m. q a.rose)
 
-  by_line : (s want : Status) (line : List ℕ) (o : Outcome) → Says told store words o → IsOf o → want ≡ status_of o → Complains out err line want s → Judged s
+  by_line : (s want : Status) (line : List ℕ) (o : RunOutcome) → Says told store words o → IsOf o → want ≡ status_of o → Complains out err line want s → Judged s
   by_line s want line o given of e (said a b) = inr (record { outcome = o; says = given; of = of; is = e })
   by_line s want line o given of e (no_line a b) = inl (λ p q r m. r b.rose)
 
@@ -97,7 +97,7 @@ module _ (told : Option Paths) (store : Storage) (words : List (List ℕ)) (fb f
   unless : (s : Status) (P : Type 0) → Unexcused s → Done-by s P
   unless s P never p q r m = absurd (never p q r m)
 
-  in_files : (s : Status) (o : Outcome) (job : Job) (t : Option Paths) → IfSome t (λ files. of_job files job ≡ o) → s ≡ status_of o → IfSome t (λ files. Done-by s (s ≡ status_of (of_job files job)))
+  in_files : (s : Status) (o : RunOutcome) (job : Job) (t : Option Paths) → IfSome t (λ files. of_job files job ≡ o) → s ≡ status_of o → IfSome t (λ files. Done-by s (s ≡ status_of (of_job files job)))
   in_files s o job None h e = tt
   in_files s o job (Some files) h e = λ p q r m. e ∙ ap status_of (sym h)
 
@@ -105,7 +105,7 @@ module _ (told : Option Paths) (store : Storage) (words : List (List ℕ)) (fb f
   all_files s job None never = tt
   all_files s job (Some files) never = unless s (s ≡ status_of (of_job files job)) never
 
-  done_or_fault : (job : Job) (s : Status) (o : Outcome) → words_asked words ≡ Expand job → IsOf o → s ≡ status_of o → (s ≡ status.Done) ⊎ (s ≡ status.Fault)
+  done_or_fault : (job : Job) (s : Status) (o : RunOutcome) → words_asked words ≡ Expand job → IsOf o → s ≡ status_of o → (s ≡ status.Done) ⊎ (s ≡ status.Fault)
   done_or_fault job s (done text report) is of e = inl e
   done_or_fault job s (fault line) is of e = inr e
   done_or_fault job s usage is of e = let no = sym is ∙ of in absurd (cc)
@@ -120,7 +120,7 @@ module _ (told : Option Paths) (store : Storage) (words : List (List ℕ)) (fb f
   job_excused job None s never = all_files s job told never
   job_excused job (Some dir) s never = unless s ((s ≡ status.Done) ⊎ (s ≡ status.Fault)) never
 
-  job_given : (job : Job) (cache : Option (List ℕ)) (s : Status) (o : Outcome) → words_asked words ≡ Expand job → SaysJob told store job cache o → IsOf o → s ≡ status_of o → CompleteFrom job cache s
+  job_given : (job : Job) (cache : Option (List ℕ)) (s : Status) (o : RunOutcome) → words_asked words ≡ Expand job → SaysJob told store job cache o → IsOf o → s ≡ status_of o → CompleteFrom job cache s
   job_given job None s o is says of e = in_files s o job told says e
   job_given job (Some dir) s o is says of e = λ p q r m. done_or_fault job s o is of e
 

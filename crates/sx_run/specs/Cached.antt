@@ -14,19 +14,19 @@ use Rattle.sx_report.specs.Report.{report_text}
 use Rattle.sx_report.specs.declared.report.Fate.{Fate}
 use Rattle.sx_report.specs.declared.report.Fate.TheVariants.{Expanded, Reused}
 use Rattle.sx_report.specs.declared.report.Told.{Told}
-use Rattle.sx_reuse.specs.Entries.{Kept}
+use Rattle.sx_reuse.specs.Entries.{CacheInputs}
 use Rattle.sx_reuse.specs.Groups.{AreGroups, groups_from}
 use Rattle.sx_reuse.specs.Texts.{Text, Writes, Leaves, found_in}
 use Rattle.sx_reuse.specs.declared.groups.Group.{Group}
 use Rattle.sx_reuse.specs.declared.texts.Came.{Came}
 use Rattle.sx_reuse.specs.declared.texts.Came.TheVariants as came
-use Rattle.sx_reuse.specs.declared.texts.Written.{Written}
+use Rattle.sx_reuse.specs.declared.texts.WrittenProgram.{WrittenProgram}
 use Rattle.sx_reuse_laws.specs.Seals.{WritesHonestly, LeavesHonestly}
 use Rattle.sx_words.specs.declared.job.Job.{Job}
 use Rattle.sx_run.specs.declared.prepare.Prepared.{Prepared}
 use Rattle.sx_run.specs.declared.prepare.Unfinished.{Unfinished}
 use Rattle.sx_run.specs.declared.prepare.Unfinished.TheVariants as unfinished
-use Rattle.sx_run.specs.Whole.{Outcome, usage, done, fault, libraries, source_of, loading_of}
+use Rattle.sx_run.specs.Whole.{RunOutcome, usage, done, fault, libraries, source_of, loading_of}
 
 -- ---- the report
 
@@ -45,7 +45,7 @@ abbrev pub report_by : Bool → List Told → List Bool → List ℕ
 report_by report libraries flags = if report then report_text (told_from flags 0 libraries) else []
 
 -- a fault is told by its line, whose place is that in the file that it names
-abbrev pub outcome_by : Bool → List Told → List Source → Result Text Fault → Outcome
+abbrev pub outcome_by : Bool → List Told → List Source → Result Text Fault → RunOutcome
 outcome_by report libraries sources (Ok made) = done made.0 (report_by report libraries made.1)
 outcome_by report libraries sources (Err f) = fault (fault_line f (source_of sources f.span.file))
 
@@ -56,18 +56,18 @@ came_of (Ok l) = came.Program l.0
 came_of (Err e) = came.Fault e.1
 
 -- what the entries of a job are made of
-abbrev pub kept_of : Job → List ℕ → Loading → List Group → Kept
+abbrev pub kept_of : Job → List ℕ → Loading → List Group → CacheInputs
 kept_of job dir s groups = record { dir = dir; roots = job.roots; sources = s.sources; groups = groups }
 
 -- what a job comes to whose program and libraries were loaded
-pub record ComesOf (job : Job) (dir : List ℕ) (c : Came) (s : Loading) (before : Paths) (faults_before : ℕ) (after : Paths) (faults : ℕ) (outcome : Outcome) : Type 0 where
+pub record ComesOf (job : Job) (dir : List ℕ) (c : Came) (s : Loading) (before : Paths) (faults_before : ℕ) (after : Paths) (faults : ℕ) (outcome : RunOutcome) : Type 0 where
   pub groups : List Group
   pub are : AreGroups (groups_from 0 0 s.sources) s.begun s.done groups
   pub made : Result Text Fault
   pub writes : Writes (kept_of job dir s groups) prelude_table c (found_in s.done) before faults_before after faults made
   pub is : outcome ≡ outcome_by job.report (libraries s) s.sources made
 
-abbrev pub Comes : Paths → Job → List ℕ → Paths → ℕ → Paths → ℕ → Outcome → Type 0
+abbrev pub Comes : Paths → Job → List ℕ → Paths → ℕ → Paths → ℕ → RunOutcome → Type 0
 Comes files job dir before faults_before after faults outcome =
     ComesOf job dir (came_of (load files job.roots job.program)) (loading_of (load files job.roots job.program)) before faults_before after faults outcome
 
@@ -82,7 +82,7 @@ LeavesStore files job dir before faults_before after faults = LeavesOf job dir (
 
 -- ---- the premise on seals: where a put failed, nothing unsound lies at its place
 
-abbrev pub ComesHonestly : {job : Job} {dir : List ℕ} {c : Came} {s : Loading} {before after : Paths} {faults_before faults : ℕ} {outcome : Outcome} → ComesOf job dir c s before faults_before after faults outcome → Type 0
+abbrev pub ComesHonestly : {job : Job} {dir : List ℕ} {c : Came} {s : Loading} {before after : Paths} {faults_before faults : ℕ} {outcome : RunOutcome} → ComesOf job dir c s before faults_before after faults outcome → Type 0
 ComesHonestly {job = job} {dir = dir} {s = s} comes = WritesHonestly (kept_of job dir s comes.groups) prelude_table comes.writes
 
 abbrev pub LeavesOfHonestly : {job : Job} {dir : List ℕ} {s : Loading} {before after : Paths} {faults_before faults : ℕ} → LeavesOf job dir s before faults_before after faults → Type 0
@@ -91,7 +91,7 @@ LeavesOfHonestly {job = job} {dir = dir} {s = s} (by_turns groups are leaves) = 
 
 -- ---- what calls answer
 
-abbrev pub PreparesText : Result Prepared Unfinished → Bool → List Told → List Source → Result Written Stop → Type 0
+abbrev pub PreparesText : Result Prepared Unfinished → Bool → List Told → List Source → Result WrittenProgram Stop → Type 0
 PreparesText (Ok made) report libraries sources (Ok w) = (string_bytes made.text ≡ string_bytes w.text) × (string_bytes made.report ≡ report_by report libraries w.reused)
 PreparesText (Ok made) report libraries sources (Err x) = ⊥
 PreparesText (Err (unfinished.Line line)) report libraries sources (Err (stop.Fault f)) = string_bytes line ≡ fault_line f (source_of sources f.span.file)
@@ -113,7 +113,7 @@ PreparesCached result files job dir before faults_before after faults =
 -- ---- beside a run without a cache
 
 -- the same text, or the same fault
-abbrev pub SameText : Outcome → Outcome → Type 0
+abbrev pub SameText : RunOutcome → RunOutcome → Type 0
 SameText (done text report) given = (other : List ℕ) × (given ≡ done text other)
 SameText (fault line) given = given ≡ fault line
 SameText usage given = given ≡ usage

@@ -17,7 +17,7 @@ use Rattle.sx_words.specs.declared.words.Words.{Words}
 use Rattle.sx_words.specs.declared.words.Words.TheVariants.{Expand, Make, Usage}
 use Rattle.sx_run.specs.Cached.{ComesOf, came_of, kept_of}
 use Rattle.sx_run.specs.Headline.{Finishes, Storage, Sunk}
-use Rattle.sx_run.specs.Whole.{Outcome, done, loading_of, made_job}
+use Rattle.sx_run.specs.Whole.{RunOutcome, done, loading_of, made_job}
 use Rattle.sx_run.specs.Words.{words_asked}
 use Rattle.sx_run.specs.declared.status.Status.{Status}
 use Rattle.sx_run.specs.declared.status.Status.TheVariants as status
@@ -36,7 +36,7 @@ job_spent files job = prelude_spent + loads_spent prelude_table (load files job.
 -- ---- with a cache
 
 -- the same, but for the libraries whose records are reused
-abbrev pub comes_spent : {job : Job} {dir : List ℕ} {c : Came} {s : Loading} {before after : Paths} {faults_before faults : ℕ} {outcome : Outcome} → ComesOf job dir c s before faults_before after faults outcome → ℕ
+abbrev pub comes_spent : {job : Job} {dir : List ℕ} {c : Came} {s : Loading} {before after : Paths} {faults_before faults : ℕ} {outcome : RunOutcome} → ComesOf job dir c s before faults_before after faults outcome → ℕ
 comes_spent {job = job} {dir = dir} {s = s} comes = writes_spent (kept_of job dir s comes.groups) prelude_table comes.writes
 
 -- a job comes to a text, and this is spent behind the texts of procedures

@@ -11,7 +11,7 @@ use Rattle.sx_words.specs.declared.job.Job.{Job}
 use Rattle.sx_words.specs.declared.job.Kind.TheVariants.{Core}
 use Rattle.sx_run.specs.declared.status.Status.{Status}
 use Rattle.sx_run.specs.declared.status.Status.TheVariants as status
-use Rattle.sx_run.specs.Whole.{Outcome, usage, done, fault, of_job, of_made}
+use Rattle.sx_run.specs.Whole.{RunOutcome, usage, done, fault, of_job, of_made}
 use Rattle.sx_run.specs.Words.{words_asked, usage_line, ReadNone}
 use Rattle.sx_words.specs.declared.words.Words.{Words}
 use Rattle.sx_words.specs.declared.words.Words.TheVariants.{Expand, Make, Usage}
@@ -53,7 +53,7 @@ pub record Storage : Type 0 where
   pub faults_after : ℕ
 
 -- What a run with a cache comes to. Over an honest store that is what one without gives.
-pub record SaysCached (files : Paths) (job : Job) (dir : List ℕ) (before : Paths) (faults_before : ℕ) (after : Paths) (faults_after : ℕ) (outcome : Outcome) : Type 0 where
+pub record SaysCached (files : Paths) (job : Job) (dir : List ℕ) (before : Paths) (faults_before : ℕ) (after : Paths) (faults_after : ℕ) (outcome : RunOutcome) : Type 0 where
   pub comes : Comes files job dir before faults_before after faults_after outcome
   pub same : IsHonest prelude_table before → ComesHonestly comes → SameText outcome (of_job files job)
 
@@ -62,17 +62,17 @@ abbrev pub IsCoreIfCached : Job → Type 0
 IsCoreIfCached job = (dir : List ℕ) → job.cache ≡ Some dir → job.kind ≡ Core
 
 -- the definition gives this to a job, where the files are told, and with a cache also the store
-abbrev pub SaysJob : Option Paths → Storage → Job → Option (List ℕ) → Outcome → Type 0
+abbrev pub SaysJob : Option Paths → Storage → Job → Option (List ℕ) → RunOutcome → Type 0
 SaysJob told store job None outcome = IfSome told (λ files. of_job files job ≡ outcome)
 SaysJob told store job (Some dir) outcome = IfSome told (λ files. WhereTold store.before store.after (λ before after. SaysCached files job dir before store.faults_before after store.faults_after outcome))
 
-abbrev pub SaysAsked : Option Paths → Storage → Words → Outcome → Type 0
+abbrev pub SaysAsked : Option Paths → Storage → Words → RunOutcome → Type 0
 SaysAsked told store (Expand job) outcome = SaysJob told store job job.cache outcome
 SaysAsked told store (Make count) outcome = of_made count ≡ outcome
 SaysAsked told store Usage outcome = usage ≡ outcome
 
 -- the definition gives this
-abbrev pub Says : Option Paths → Storage → List (List ℕ) → Outcome → Type 0
+abbrev pub Says : Option Paths → Storage → List (List ℕ) → RunOutcome → Type 0
 Says told store words outcome = SaysAsked told store (words_asked words) outcome
 
 -- the report was written, or broke off
@@ -98,7 +98,7 @@ pub data Headline (told : Option Paths) (store : Storage) (words : List (List �
   read_fault : s ≡ status.ReadFault → Rose faults_before faults_after → Untouched out → Untouched err → Headline told store words faults_before faults_after out err s
   no_memory : s ≡ status.Memory → Untouched out → Untouched err → Headline told store words faults_before faults_after out err s
 
-abbrev pub status_of : Outcome → Status
+abbrev pub status_of : RunOutcome → Status
 status_of usage = status.Usage
 status_of (done text report) = status.Done
 status_of (fault line) = status.Fault

@@ -4,19 +4,19 @@ use Rattle.sx_run.specs.declared.prepare.Prepared.{Prepared}
 use Rattle.sx_run.specs.declared.prepare.Unfinished.{Unfinished}
 use Rattle.sx_run.specs.declared.prepare.Unfinished.TheVariants as unfinished
 use Rattle.sx_run.specs.Headline.{Sunk, Untouched, Finishes, Complains}
-use Rattle.sx_run.specs.Whole.{Outcome, done, fault}
+use Rattle.sx_run.specs.Whole.{RunOutcome, done, fault}
 use Rattle.sx_run.specs.declared.status.Status.{Status}
 use Rattle.sx_run.specs.declared.status.Status.TheVariants as status
 
 -- the text and the report, or the line of the fault, are the definition's; a failed read and want of memory say nothing of it
-abbrev pub Prepares : Result Prepared Unfinished → Outcome → Type 0
+abbrev pub Prepares : Result Prepared Unfinished → RunOutcome → Type 0
 Prepares (Ok made) outcome = outcome ≡ done (string_bytes made.text) (string_bytes made.report)
 Prepares (Err (unfinished.Line line)) outcome = outcome ≡ fault (string_bytes line)
 Prepares (Err unfinished.Read) outcome = Unit {0}
 Prepares (Err unfinished.Memory) outcome = Unit {0}
 
 -- what holds of the text and the report, or of the line of the fault
-abbrev pub PreparesBy : (Outcome → Type 0) → Result Prepared Unfinished → Type 0
+abbrev pub PreparesBy : (RunOutcome → Type 0) → Result Prepared Unfinished → Type 0
 PreparesBy P (Ok made) = P (done (string_bytes made.text) (string_bytes made.report))
 PreparesBy P (Err (unfinished.Line line)) = P (fault (string_bytes line))
 PreparesBy P (Err unfinished.Read) = Unit {0}

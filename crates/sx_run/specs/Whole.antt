@@ -27,10 +27,10 @@ use Rattle.sx_xref.specs.Text.{xref_text}
 use Rattle.sx_run.specs.Words.{words_asked}
 
 -- the words are refused, or the core text or the binding map with the report, or the line of the first fault
-pub data Outcome : Type 0 where
-  usage : Outcome
-  done : (text report : List ℕ) → Outcome
-  fault : (line : List ℕ) → Outcome
+pub data RunOutcome : Type 0 where
+  usage : RunOutcome
+  done : (text report : List ℕ) → RunOutcome
+  fault : (line : List ℕ) → RunOutcome
 
 -- a library of a file, which was expanded
 abbrev pub told : List ℕ × Found → Told
@@ -61,7 +61,7 @@ loading_of (Ok l) = l.1
 loading_of (Err e) = e.0
 
 -- a fault is told by its line, whose place is that in the file that it names
-abbrev pub outcome_of : Bool → Loading → Result (List ℕ) Fault → Outcome
+abbrev pub outcome_of : Bool → Loading → Result (List ℕ) Fault → RunOutcome
 outcome_of report s (Ok text) = done text (report_if report s)
 outcome_of report s (Err f) = fault (fault_line f (source_of s.sources f.span.file))
 
@@ -79,10 +79,10 @@ abbrev pub text_by : Kind → Result Codes Fault → Loads (Found × Loading) �
 text_by kind prelude (Ok l) = text_behind_by kind prelude l.1.done l.0 l.1.sources
 text_by kind prelude (Err e) = fault_behind prelude e.0.done e.1
 
-abbrev pub of_loaded : Kind → Bool → Loads (Found × Loading) → Outcome
+abbrev pub of_loaded : Kind → Bool → Loads (Found × Loading) → RunOutcome
 of_loaded kind report loaded = outcome_of report (loading_of loaded) (text_by kind prelude_table loaded)
 
-unfoldable pub of_job : Paths → Job → Outcome
+unfoldable pub of_job : Paths → Job → RunOutcome
 of_job files job = of_loaded job.kind job.report (load files job.roots job.program)
 
 -- the job of the program that `--make` makes
@@ -90,19 +90,19 @@ abbrev pub made_job : Job
 made_job = record { roots = codes "." ∷ []; cache = None; report = false; kind = Core; program = program_path }
 
 -- the summary of a text, or the line of the fault
-abbrev pub summed : ℕ → Outcome → Outcome
+abbrev pub summed : ℕ → RunOutcome → RunOutcome
 summed count usage = usage
 summed count (done text report) = done (summary count text) []
 summed count (fault line) = fault line
 
 -- so many libraries and a program that are made in memory: no file takes part
-unfoldable pub of_made : ℕ → Outcome
+unfoldable pub of_made : ℕ → RunOutcome
 of_made count = summed count (of_job (made_files count) made_job)
 
-abbrev pub of_words : Paths → Words → Outcome
+abbrev pub of_words : Paths → Words → RunOutcome
 of_words files (Expand job) = of_job files job
 of_words files (Make count) = of_made count
 of_words files Usage = usage
 
-abbrev pub whole : Paths → List (List ℕ) → Outcome
+abbrev pub whole : Paths → List (List ℕ) → RunOutcome
 whole files words = of_words files (words_asked words)

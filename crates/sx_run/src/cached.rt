@@ -19,14 +19,14 @@ use sx_base::symbol::Symbol;
 use sx_derived::implementation::Implementation;
 use sx_expand::tally::Tally;
 use sx_load::found::{Loading, Source};
-use sx_load::halt::Halt;
+use sx_load::halt::LoadHalt;
 use sx_load::load::load;
 use sx_outside::{Files, Store};
 use sx_prims::table::PrimTable;
 use sx_report::report::{Fate, Told, report_text};
 use sx_reuse::entry::Cache;
 use sx_reuse::groups::groups_of;
-use sx_reuse::texts::{Came, Loaded, Written, write_program};
+use sx_reuse::texts::{Came, LoadedLibraries, WrittenProgram, write_program};
 use sx_reuse::turns::Turning;
 use sx_core::share::share_library;
 use sx_words::job::Job;
@@ -94,13 +94,13 @@ struct Tellable<'a> {
 fn prepared(
     alloc: Global,
     tellable: &Tellable,
-    written: Result<Written, Stop>,
+    written: Result<WrittenProgram, Stop>,
 ) -> Result<Prepared, Unfinished>
     ensures gives { PreparesText result tellable.now.report tellable.now.libraries.now tellable.now.sources.now written }
     ensures unread { result ≢ Err Unfinished.Read }
 {
     match written {
-        Ok(Written { text, reused }) => {
+        Ok(WrittenProgram { text, reused }) => {
             let report = report_by(
                 alloc,
                 tellable.report,
@@ -152,7 +152,7 @@ fn of_loaded<S: Store, N: Ledger, L: Ledger>(
         implementation,
         cache: &cache,
     };
-    let loaded = Loaded {
+    let loaded = LoadedLibraries {
         libraries: done,
         came,
     };
@@ -191,9 +191,9 @@ fn of_job<F: Files, S: Store, N: Ledger, L: Ledger>(
     );
     let came = match came {
         Ok(found) => Came::Program(found),
-        Err(Halt::Fault(fault)) => Came::Fault(fault),
-        Err(Halt::Read) => return Err(Unfinished::Read),
-        Err(Halt::Memory) => return Err(Unfinished::Memory),
+        Err(LoadHalt::Fault(fault)) => Came::Fault(fault),
+        Err(LoadHalt::Read) => return Err(Unfinished::Read),
+        Err(LoadHalt::Memory) => return Err(Unfinished::Memory),
     };
     of_loaded(
         cached,

@@ -24,10 +24,10 @@ use sx_base::memory::Memory;
 use sx_base::symbol::Symbol;
 use sx_derived::implementation::Implementation;
 use sx_expand::tally::Tally;
-use sx_import::table::Table;
+use sx_import::table::NameTable;
 use sx_library::loaded::{first_fault, program_links, program_text};
 use sx_load::found::{Found, Loading, Source};
-use sx_load::halt::Halt;
+use sx_load::halt::LoadHalt;
 use sx_load::load::load;
 use sx_outside::Files;
 use sx_prelude::prelude::Prelude;
@@ -147,7 +147,7 @@ pub(crate) fn prelude<N: Ledger, L: Ledger>(
 
 // What was loaded, what is to be written of it, and whether a report on it is asked for.
 #[derive(Drop)]
-struct Loaded {
+struct LoadedFiles {
     loading: Loading,
     kind: Kind,
     report: bool,
@@ -157,7 +157,7 @@ struct Loaded {
 #[derive(Drop)]
 struct Unwritten {
     found: Found,
-    done: Table<Found>,
+    done: NameTable<Found>,
 }
 
 // The binding map of a program and its libraries.
@@ -202,7 +202,7 @@ fn text_by<N: Ledger, L: Ledger>(
 fn of_found<N: Ledger, L: Ledger>(
     alloc: Global,
     implementation: &Implementation,
-    loaded: Loaded,
+    loaded: LoadedFiles,
     found: Found,
     tally: &mut Tally<N, L>,
 ) -> Result<Prepared, Unfinished>
@@ -211,7 +211,7 @@ fn of_found<N: Ledger, L: Ledger>(
     ensures unread { result ≢ Err Unfinished.Read }
     ensures fuel { OnOk result (tally.new.fuel ≡ tally.old.fuel + loads_spent prelude_table (Ok (found, loaded.loading))) }
 {
-    let Loaded {
+    let LoadedFiles {
         loading,
         kind,
         report,
@@ -241,7 +241,7 @@ fn of_found<N: Ledger, L: Ledger>(
 fn of_fault<N: Ledger, L: Ledger>(
     alloc: Global,
     implementation: &Implementation,
-    loaded: Loaded,
+    loaded: LoadedFiles,
     fault: Fault,
     tally: &mut Tally<N, L>,
 ) -> Result<Prepared, Unfinished>
@@ -250,7 +250,7 @@ fn of_fault<N: Ledger, L: Ledger>(
     ensures unread { result ≢ Err Unfinished.Read }
     ensures fuel { OnOk result (tally.new.fuel ≡ tally.old.fuel + loads_spent prelude_table (Err (loaded.loading, fault))) }
 {
-    let Loaded { loading, .. } = loaded;
+    let LoadedFiles { loading, .. } = loaded;
     let Loading { done, sources, .. } = loading;
     match first_fault(alloc, implementation, done, fault, tally) {
         Stop::Fault(fault) => Err(Unfinished::Line(line_of(alloc, sources.as_slice(), &fault)?)),
@@ -280,16 +280,16 @@ fn of_job<F: Files, N: Ledger, L: Ledger>(
         &job.program,
         &mut loading,
     );
-    let loaded = Loaded {
+    let loaded = LoadedFiles {
         loading,
         kind: job.kind,
         report: job.report,
     };
     match came {
         Ok(found) => of_found(alloc, implementation, loaded, found, tally),
-        Err(Halt::Fault(fault)) => of_fault(alloc, implementation, loaded, fault, tally),
-        Err(Halt::Read) => Err(Unfinished::Read),
-        Err(Halt::Memory) => Err(Unfinished::Memory),
+        Err(LoadHalt::Fault(fault)) => of_fault(alloc, implementation, loaded, fault, tally),
+        Err(LoadHalt::Read) => Err(Unfinished::Read),
+        Err(LoadHalt::Memory) => Err(Unfinished::Memory),
     }
 }
 

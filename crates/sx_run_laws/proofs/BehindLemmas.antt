@@ -11,7 +11,7 @@ use Rattle.sx_base.specs.declared.name.Label.{Label}
 use Rattle.sx_builtin.specs.Exports.{derived, label_at}
 use Rattle.sx_builtin.specs.declared.derived.TheConstants.{DERIVED_SOURCE}
 use Rattle.sx_tree.specs.Tree.{Tree}
-use Rattle.sx_core.specs.declared.record.LibRecord.{LibRecord}
+use Rattle.sx_core.specs.declared.record.CompiledLibrary.{CompiledLibrary}
 use Rattle.sx_core_laws.specs.Follows.{names_of}
 use Rattle.sx_core_laws.specs.Words.{Each, Among}
 use Rattle.sx_derived.specs.Derived.{forms_of, record_of, derived_record}
@@ -34,10 +34,10 @@ use Rattle.sx_run_laws.specs.Run.{Stands}
 use Rattle.sx_run_laws.proofs.ImportLemmas.{imports_there}
 
 -- a name that no library has yet
-abbrev pub IsNew : List LibRecord → LibName → Type 0
+abbrev pub IsNew : List CompiledLibrary → LibName → Type 0
 IsNew records name = Among (names_of records) name → ⊥
 
-module _ (records : List LibRecord) (serve : AllServe [] records) (path : List ℕ) (form : LibraryForm) (new : IsNew records form.name) (body : List PlainDatum) (r : LibRecord) where
+module _ (records : List CompiledLibrary) (serve : AllServe [] records) (path : List ℕ) (form : LibraryForm) (new : IsNew records form.name) (body : List PlainDatum) (r : CompiledLibrary) where
   -- by its names and forms, where both are read
   record_stands : (names : Labelled) (codes : Codes) (forms : List Tree) → form_names records form.imports ≡ Ok names
       → library_record (ready form.name path records names codes) records form.version form.name_span (map export_tree form.exports) forms ≡ Ok r → Stands records form.name r
@@ -89,7 +89,7 @@ names_there ds n (suc count) =
     by true = tt
     by false = (inr (inl refl), tt)
 
-module _ (d : LibRecord) where
+module _ (d : CompiledLibrary) where
   forms_stand : (codes : Codes) (forms : List Tree) → record_of codes forms ≡ Ok d → Stands [] library.Derived d
   unfolding record_of
   forms_stand codes forms h =

@@ -17,7 +17,7 @@ use Rattle.sx_core.specs.Bindings.{bound_to}
 use Rattle.sx_core.specs.Core.{PlainCore, instance}
 use Rattle.sx_core.specs.Template.{PlainTemplate}
 use Rattle.sx_core.specs.declared.core_form.CoreForm.{CoreForm}
-use Rattle.sx_core.specs.declared.record.LibRecord.{LibRecord}
+use Rattle.sx_core.specs.declared.record.CompiledLibrary.{CompiledLibrary}
 use Rattle.sx_core.specs.declared.link.LinkKind.TheVariants as kinds
 use Rattle.sx_pattern.specs.Compile as patterns
 use Rattle.sx_pattern.specs.declared.compile.Compiled.{Compiled}
@@ -42,11 +42,11 @@ use Rattle.sx_standing.specs.Binders.{row_put, put_row, bind_as, bind_variable, 
 use Rattle.sx_standing.specs.Patterns.{pattern_of, check_literals, bind_pattern_variable, bind_next, bind_pattern, template_of}
 use Rattle.sx_standing.specs.RecordUses.{at_state, defines_type, count_record_type, record_tree, record_marked, use_record}
 use Rattle.sx_standing.specs.State.{State, stage_of, with_stage, staged, fresh, fresh_frame}
-use Rattle.sx_standing.specs.Uses.{macro_expression, use_keyword, asks_variable, bind_keyword_as, bind_keyword, bind_keywords, finish_keyword}
+use Rattle.sx_standing.specs.Uses.{macro_expression, use_keyword, asks_variable, bind_keyword_as, bind_keyword, bind_keywords, evaluate_transformer}
 use Rattle.sx_standing.proofs.Noted.{noted-keeps}
 use Rattle.sx_heads.specs.declared.plan.KeywordUse.{KeywordUse}
 use Rattle.sx_heads.specs.declared.plan.KeywordUse.TheVariants as keyword_use
-use Rattle.sx_expand.specs.Settle.{used_form, next_form}
+use Rattle.sx_expand.specs.ExpandUses.{used_form, next_form}
 use Rattle.sx_expand_laws.specs.Stages.{EndsLater}
 use Rattle.sx_expand_laws.proofs.Acts.{Gave, gave-after, gave-less, gave-if}
 use Rattle.sx_expand_laws.proofs.Compiled.{Compiles, GaveBy, compiles}
@@ -122,17 +122,17 @@ module _ (own : LibName) where
   steps-staged s (Ok p) n h = stays own s (with_stage p.1 s) (h.library ∙ n) h.frames
   steps-staged s (Err f) n h = tt
 
-  steps-use : (rs : List LibRecord) (place : Span) (t : Tree) (l : Label) (frame : Option FrameNo) (s : State) → Names own s → Gave (St own s) (use_keyword rs place t l frame s)
+  steps-use : (rs : List CompiledLibrary) (place : Span) (t : Tree) (l : Label) (frame : Option FrameNo) (s : State) → Names own s → Gave (St own s) (use_keyword rs place t l frame s)
   unfolding use_keyword
   steps-use rs place t l frame s n = steps-staged s (used place rs t l (macro_expression (bound_to s.bindings l)) frame (stage_of s)) n (stage-grows.uses place rs t l (macro_expression (bound_to s.bindings l)) frame (stage_of s))
 
-  pub steps-asks : (rs : List LibRecord) (place : Span) (l : Label) (s : State) → Names own s → Gave (St own s) (asks_variable rs place l s)
+  pub steps-asks : (rs : List CompiledLibrary) (place : Span) (l : Label) (s : State) → Names own s → Gave (St own s) (asks_variable rs place l s)
   unfolding asks_variable
   steps-asks rs place l s n = steps-staged s (stage.is_variable_transformer place rs l (macro_expression (bound_to s.bindings l)) (stage_of s)) n (stage-grows.asks place rs l (macro_expression (bound_to s.bindings l)) (stage_of s))
 
-  pub steps-finish : (rs : List LibRecord) (place : Span) (l : Label) (c : PlainCore) (s : State) → Names own s → Gave (St own s) (finish_keyword rs place l c s)
-  unfolding finish_keyword
-  steps-finish rs place l c s n = steps-staged s (stage.finish_keyword place rs l c (stage_of s)) n (stage-grows.finishes place rs l c (stage_of s))
+  pub steps-finish : (rs : List CompiledLibrary) (place : Span) (l : Label) (c : PlainCore) (s : State) → Names own s → Gave (St own s) (evaluate_transformer rs place l c s)
+  unfolding evaluate_transformer
+  steps-finish rs place l c s n = steps-staged s (stage.evaluate_transformer place rs l c (stage_of s)) n (stage-grows.finishes place rs l c (stage_of s))
 
   pub steps-pattern : (literals : List Tree) (place : Span) (t : Tree) (s : State) → Names own s → Gave (St own s) (pattern_of literals place t s)
   unfolding stage_patterns.pattern_of
@@ -178,11 +178,11 @@ module _ (own : LibName) where
   unfolding use_record fresh
   steps-record place t f frame s n = let m : Mark = record { 0 = s.names } in steps-counted s (record_marked place t f frame m (counted s)) (steps-marked place t f frame m (counted s) n)
 
-  steps-used : (rs : List LibRecord) (place : Span) (t : Tree) (k : KeywordUse) (frame : Option FrameNo) (s : State) → Names own s → Gave (St own s) (used_form rs place t k frame s)
+  steps-used : (rs : List CompiledLibrary) (place : Span) (t : Tree) (k : KeywordUse) (frame : Option FrameNo) (s : State) → Names own s → Gave (St own s) (used_form rs place t k frame s)
   steps-used rs place t (keyword_use.Macro l) frame s n = steps-use rs place t l frame s n
   steps-used rs place t (keyword_use.Record f) frame s n = steps-record place t f frame s n
 
-  pub steps-next : (rs : List LibRecord) (left : ℕ) (place : Span) (t : Tree) (k : KeywordUse) (frame : Option FrameNo) (s : State) → Names own s → Gave (St own s) (next_form rs left place t k frame s)
+  pub steps-next : (rs : List CompiledLibrary) (left : ℕ) (place : Span) (t : Tree) (k : KeywordUse) (frame : Option FrameNo) (s : State) → Names own s → Gave (St own s) (next_form rs left place t k frame s)
   unfolding next_form
   steps-next rs left place t k frame s n =
       let u : State = record s { uses_left = left } in

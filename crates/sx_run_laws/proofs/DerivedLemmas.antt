@@ -9,7 +9,7 @@ use Rattle.sx_base.specs.declared.library.LibName.TheVariants as library
 use Rattle.sx_base.specs.declared.name.Label.{Label}
 use Rattle.sx_builtin.specs.Exports.{derived, is_number, definition_from, derived_place, label_at}
 use Rattle.sx_builtin.specs.declared.derived.TheConstants.{DERIVED_SOURCE}
-use Rattle.sx_core.specs.declared.record.LibRecord.{LibRecord}
+use Rattle.sx_core.specs.declared.record.CompiledLibrary.{CompiledLibrary}
 use Rattle.sx_core_laws.specs.Follows.{export_names, Follows}
 use Rattle.sx_core_laws.specs.Words.{Each, Among, Once}
 use Rattle.sx_core_laws.proofs.Decisions.{once_decides, text_decides}
@@ -84,14 +84,14 @@ exports_once = (once_decides same_text text_decides (map asked (exports_of deriv
 -- ---- its record
 
 -- a record exports each name that the derived library is to define
-abbrev pub ExportsTheDerived : LibRecord → Type 0
+abbrev pub ExportsTheDerived : CompiledLibrary → Type 0
 ExportsTheDerived d = (n place : ℕ) → derived_place n ≡ Some place → Among (export_names d) (op_text n)
 
-pub record IsDerived (d : LibRecord) : Type 0 where
+pub record IsDerived (d : CompiledLibrary) : Type 0 where
   pub follows : Follows d []
   pub exports : ExportsTheDerived d
 
-module _ (d : LibRecord) where
+module _ (d : CompiledLibrary) where
   forms_follow : (codes : Codes) (forms : List Tree) → record_of codes forms ≡ Ok d → IsDerived d
   unfolding record_of
   forms_follow codes forms h =

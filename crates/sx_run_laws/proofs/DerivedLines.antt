@@ -13,7 +13,7 @@ use Rattle.sx_base.specs.declared.library.LibName.TheVariants as library
 use Rattle.sx_base.specs.declared.name.Label.{Label}
 use Rattle.sx_builtin.specs.Exports.{derived}
 use Rattle.sx_builtin.specs.declared.derived.TheConstants.{DERIVED_SOURCE}
-use Rattle.sx_core.specs.declared.record.LibRecord.{LibRecord}
+use Rattle.sx_core.specs.declared.record.CompiledLibrary.{CompiledLibrary}
 use Rattle.sx_core_laws.specs.Records.{same_text}
 use Rattle.sx_core_laws.specs.Words.{Each, once}
 use Rattle.sx_core_laws.proofs.Decisions.{text_decides, once_decides}
@@ -128,7 +128,7 @@ same-names : (codes : Codes) → (started library.Derived [] names codes).names.
 unfolding started
 same-names codes = refl
 
-module _ (d : LibRecord) where
+module _ (d : CompiledLibrary) where
   codes-bare : (codes : Codes) (forms : List Tree) → Each (IsDefinition blank) forms → record_of codes forms ≡ Ok d → d.run ≡ []
   unfolding record_of
   codes-bare codes forms are e = no-lines library.Derived path names [] start (exports_of derived) forms codes d (word-found codes) (same-names codes) (start-library codes) (start-keyed codes) are e

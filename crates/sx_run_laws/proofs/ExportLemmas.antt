@@ -12,7 +12,7 @@ use Rattle.sx_expand_laws.proofs.Fresh.{once-append}
 use Rattle.sx_forms.specs.Export.{Exports, export_twice, add_by, add_export, exported}
 use Rattle.sx_forms.specs.Form.{form_of, not_library, or_fault, import_specs, export_specs, library_with, library_of, library_parts, library_in, read_library, program_of, read_program}
 use Rattle.sx_forms.specs.Name.{named}
-use Rattle.sx_forms.specs.Set.{place_of}
+use Rattle.sx_forms.specs.Set.{datum_place}
 use Rattle.sx_forms.specs.declared.export.Export.{Export}
 use Rattle.sx_forms.specs.declared.form.LibraryForm.{LibraryForm}
 use Rattle.sx_forms.specs.declared.name.VersionedName.{VersionedName}
@@ -112,7 +112,7 @@ module _ (file : List ℕ) (f : LibraryForm) where
   parts_once fault name None exports imports h = absurd (cc)
   parts_once fault name (Some n) None imports h = absurd (cc)
   parts_once fault name (Some n) (Some es) None h = absurd (cc)
-  parts_once fault name (Some n) (Some es) (Some is) h = form_once (place_of file name) es is n h
+  parts_once fault name (Some n) (Some es) (Some is) h = form_once (datum_place file name) es is n h
 
   in_once : (fault : Fault) (ds : List PlainDatum) → library_in file fault ds ≡ Ok f → ExportsOnce f
   in_once fault [] h = absurd (cc)
@@ -134,13 +134,13 @@ module _ (file : List ℕ) (f : LibraryForm) where
   program_once (d ∷ ds) h = by (form_of (codes "import") d) h
     where
       by_imports : (x : Result (List Import) Fault)
-          → (x >>= (λ is. Ok (record { name = library.Program; name_span = place_of file d; version = []; exports = []; imports = is }))) ≡ Ok f → ExportsOnce f
+          → (x >>= (λ is. Ok (record { name = library.Program; name_span = datum_place file d; version = []; exports = []; imports = is }))) ≡ Ok f → ExportsOnce f
       by_imports (Ok is) h =
-          let same : ◌≡◌ {A = LibraryForm} (record { name = library.Program; name_span = place_of file d; version = []; exports = []; imports = is }) f = cc in
+          let same : ◌≡◌ {A = LibraryForm} (record { name = library.Program; name_span = datum_place file d; version = []; exports = []; imports = is }) f = cc in
           subst ExportsOnce same tt
       by_imports (Err g) h = absurd (cc)
 
-      by : (o : Option (List PlainDatum)) → or_fault (not_library file (d ∷ ds)) o (program_of file (place_of file d)) ≡ Ok f → ExportsOnce f
+      by : (o : Option (List PlainDatum)) → or_fault (not_library file (d ∷ ds)) o (program_of file (datum_place file d)) ≡ Ok f → ExportsOnce f
       by None h = absurd (cc)
       by (Some is) h = by_imports (import_specs file [] is) h
 

@@ -9,7 +9,7 @@ use Rattle.sx_base.specs.declared.span.Span.{Span}
 use Rattle.sx_tree.specs.Changes.{stamp}
 use Rattle.sx_tree.specs.Tree.{Tree}
 use Rattle.sx_core.specs.Core.{PlainCore}
-use Rattle.sx_core.specs.declared.record.LibRecord.{LibRecord}
+use Rattle.sx_core.specs.declared.record.CompiledLibrary.{CompiledLibrary}
 use Rattle.sx_shapes.specs.At.{place_of}
 use Rattle.sx_shapes.specs.declared.shape.FormalIds.{FormalIds}
 use Rattle.sx_shapes.specs.declared.shape.BindingSpec.{BindingSpec}
@@ -19,7 +19,7 @@ use Rattle.sx_standing.specs.Binders.{bind_specs, bind_formals}
 use Rattle.sx_standing.specs.InScope.{apart}
 use Rattle.sx_standing.specs.Patterns.{pattern_of, check_literals, bind_pattern}
 use Rattle.sx_standing.specs.State.{State, fresh, fresh_frame}
-use Rattle.sx_standing.specs.Uses.{bind_keywords, finish_keyword}
+use Rattle.sx_standing.specs.Uses.{bind_keywords, evaluate_transformer}
 use Rattle.sx_standing.specs.declared.binders.BoundSpec.{BoundSpec}
 use Rattle.sx_heads.specs.Depth.{deeper, most_round}
 use Rattle.sx_heads.specs.Items.{begun, define_keyword}
@@ -38,14 +38,14 @@ use Rattle.sx_expand.specs.Body.{splice, perform_item, item, value_of, finish_as
 use Rattle.sx_expand.specs.Body as bodies
 use Rattle.sx_expand.specs.Expression.{in_order, case_in, lambda_case, lambda, one_case, all_cases, case_lambda, one_init, all_inits, letrec_in, letrec_form, application, alternate, conditional, set, in_sequence, fender, clause_in, pattern_clause, all_clauses, syntax_case, keywords_form, perform, perform_settled, form_at, inside}
 use Rattle.sx_expand.specs.Inside.{Inside}
-use Rattle.sx_expand.specs.Keywords.{keyword, seen_in, keyword_in, all_keywords, keywords, with_keywords, define_syntax}
+use Rattle.sx_expand.specs.Keywords.{expand_transformer, seen_in, expand_transformer_in, expand_transformers, keywords, with_keywords, define_syntax}
 use Rattle.sx_expand.specs.Quasi.{part_core, parts_in_order, quasi_made, quasi_form}
-use Rattle.sx_expand.specs.Settle.{settle, settle_item}
+use Rattle.sx_expand.specs.ExpandUses.{expand_uses, expand_item_uses}
 use Rattle.sx_expand_laws.proofs.Acts.{Gave, gave-after, gave-less, gave-if}
 use Rattle.sx_expand_laws.proofs.Naming.{counted, as_frame}
 use Rattle.sx_expand_laws.proofs.QuasiLater.{form-same}
 use Rattle.sx_run_laws.proofs.Binding.{steps-counted, steps-formals, steps-specs, steps-keywords, steps-patterns, steps-pattern, steps-literals, steps-finish, steps-code}
-use Rattle.sx_run_laws.proofs.Settling.{steps-settle, steps-define-keyword, SettlesAt, steps-settle-item}
+use Rattle.sx_run_laws.proofs.Settling.{steps-expand_uses, steps-define-keyword, SettlesAt, steps-expand_uses-item}
 use Rattle.sx_run_laws.proofs.Steps.{Names, St, self, steps-then, steps-after, steps-each, steps-gather, steps-within, steps-apart}
 
 -- so does what is done inside forms
@@ -126,10 +126,10 @@ module _ (own : LibName) (go : Inside) (inner : Inner own go) where
 
   -- Keywords.
 
-  b-keyword : (place : Span) (level depth : ℕ) (b : BoundSpec) (s : State) → Names own s → Gave (St own s) (keyword go place level depth b s)
-  unfolding keyword
+  b-keyword : (place : Span) (level depth : ℕ) (b : BoundSpec) (s : State) → Names own s → Gave (St own s) (expand_transformer go place level depth b s)
+  unfolding expand_transformer
   b-keyword place level depth b s n =
-      steps-after own s (apart (go.form place (level + 1) depth b.init) s) (finish_keyword go.earlier (place_of b.init place) b.label)
+      steps-after own s (apart (go.form place (level + 1) depth b.init) s) (evaluate_transformer go.earlier (place_of b.init place) b.label)
       (steps-apart own (go.form place (level + 1) depth b.init) s (inner.form place (level + 1) depth b.init (record s { scope = [] }) n)) (λ c u m. steps-finish own go.earlier (place_of b.init place) b.label c u m)
 
   b-with : (place : Span) (level depth : ℕ) (recursive : Bool) (bs : List BindingSpec) (forms : List Tree) (s : State) → Names own s → Gave (St own s) (with_keywords go place level depth recursive bs forms s)
@@ -138,14 +138,14 @@ module _ (own : LibName) (go : Inside) (inner : Inner own go) where
       let f = as_frame s.names in
       steps-counted own s (after (keywords go place level depth recursive bs f (counted s)) (λ _. give (map (stamp f) forms)))
       (steps-after own (counted s) (keywords go place level depth recursive bs f (counted s)) _
-      (steps-after own (counted s) (bind_keywords f place level bs (counted s)) (all_keywords go place level depth recursive f) (steps-keywords own f n place level bs (counted s) n)
-      (λ xs u m. steps-gather own (keyword_in go place level depth recursive f) (λ e b v k. b-keyword place level depth (seen_in recursive f b) v k) tt xs u m))
+      (steps-after own (counted s) (bind_keywords f place level bs (counted s)) (expand_transformers go place level depth recursive f) (steps-keywords own f n place level bs (counted s) n)
+      (λ xs u m. steps-gather own (expand_transformer_in go place level depth recursive f) (λ e b v k. b-keyword place level depth (seen_in recursive f b) v k) tt xs u m))
       (λ x u m. self own u m))
 
   b-define : (at : BodyAt) (depth : ℕ) (d : Taken) (t : Tree) (b : BindingSpec) (s : State) → at.frame.0.library ≡ own → Names own s → Gave (St own s) (define_syntax go at depth d t b s)
   unfolding define_syntax
   b-define at depth d t b s mine n =
-      steps-after own s (define_keyword at d t b s) (keyword go at.place at.level depth) (steps-define-keyword own go.earlier at mine d t b s n) (λ x u m. b-keyword at.place at.level depth x u m)
+      steps-after own s (define_keyword at d t b s) (expand_transformer go at.place at.level depth) (steps-define-keyword own go.earlier at mine d t b s n) (λ x u m. b-keyword at.place at.level depth x u m)
 
   -- Expressions.
 
@@ -230,7 +230,7 @@ module _ (own : LibName) (go : Inside) (inner : Inner own go) where
   b-form : (place : Span) (level depth : ℕ) (t : Tree) (s : State) → Names own s → Gave (St own s) (form_at go place level depth t s)
   unfolding form_at
   b-form place level depth t s n = gave-if (St own s) (nat_lt most_round depth) _ _ (λ e. tt)
-      (λ e. steps-after own s (settle go.earlier place level t s) (perform_settled go level depth) (steps-settle own go.earlier s.uses_left place level t s n) (λ x u m. b-perform x.place level depth x.form x.plan u m))
+      (λ e. steps-after own s (expand_uses go.earlier place level t s) (perform_settled go level depth) (steps-expand_uses own go.earlier s.uses_left place level t s n) (λ x u m. b-perform x.place level depth x.form x.plan u m))
 
   b-perform-item : (at : BodyAt) (depth : ℕ) (d : Taken) (t : Tree) (i : Item) (s : State) → at.frame.0.library ≡ own → Names own s → Gave (St own s) (perform_item go at depth d t i s)
   unfolding perform_item
@@ -245,14 +245,14 @@ module _ (own : LibName) (go : Inside) (inner : Inner own go) where
   b-item : (at : BodyAt) (depth : ℕ) (d : Taken) (t : Tree) (s : State) → at.frame.0.library ≡ own → Names own s → Gave (St own s) (item go at depth d t s)
   unfolding item
   b-item at depth d t s mine n = gave-if (St own s) (nat_lt most_round depth) _ _ (λ e. tt)
-      (λ e. gave-after (SettlesAt own go.earlier at s) (St own s) (settle_item go.earlier at depth d t s) (bodies.perform_settled go depth) (steps-settle-item own go.earlier s.uses_left at mine depth d t s n)
+      (λ e. gave-after (SettlesAt own go.earlier at s) (St own s) (expand_item_uses go.earlier at depth d t s) (bodies.perform_settled go depth) (steps-expand_uses-item own go.earlier s.uses_left at mine depth d t s n)
       (λ p u h. gave-less (St own u) (St own s) (perform_item go p.1.at depth p.0 p.1.form p.1.item u)
       (b-perform-item p.1.at depth p.0 p.1.form p.1.item u (subst (λ (f : FrameNo). f.0.library ≡ own) (sym h.1) mine) h.0.next) (λ x v k. steps-then own s u v h.0 k)))
 
   pub next-room : Inner own (record { earlier = go.earlier; form = form_at go; procedure = lambda_case go; item = item go })
   next-room = record { form = b-form; procedure = b-case; item = b-item }
 
-pub inside-binds : (own : LibName) (rs : List LibRecord) (room : ℕ) → Inner own (inside rs room)
+pub inside-binds : (own : LibName) (rs : List CompiledLibrary) (room : ℕ) → Inner own (inside rs room)
 unfolding inside
 inside-binds own rs zero = record { form = λ place level depth t s n. tt; procedure = λ place level depth t ids forms s n. tt; item = λ at depth d t s mine n. tt }
 inside-binds own rs (suc room) =

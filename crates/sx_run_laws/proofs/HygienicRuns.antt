@@ -10,7 +10,7 @@ use Rattle.sx_base.specs.declared.name.FrameNo.{FrameNo}
 use Rattle.sx_base.specs.declared.name.Mark.{Mark}
 use Rattle.sx_builtin.specs.Exports.{derived}
 use Rattle.sx_builtin.specs.declared.derived.TheConstants.{DERIVED_SOURCE}
-use Rattle.sx_core.specs.declared.record.LibRecord.{LibRecord}
+use Rattle.sx_core.specs.declared.record.CompiledLibrary.{CompiledLibrary}
 use Rattle.sx_core_laws.specs.Follows.{names_of}
 use Rattle.sx_core_laws.specs.Words as words
 use Rattle.sx_derived.specs.Derived.{forms_of, record_of, derived_record}
@@ -65,14 +65,14 @@ use Rattle.sx_run_laws.proofs.UserLemmas.{program_name}
 
 -- Names.
 
-in-words : (rs : List LibRecord) (n : LibName) → Among (map (λ (r : LibRecord). r.name) rs) n → words.Among (names_of rs) n
+in-words : (rs : List CompiledLibrary) (n : LibName) → Among (map (λ (r : CompiledLibrary). r.name) rs) n → words.Among (names_of rs) n
 in-words [] n a = elim a [ ]
 in-words (r ∷ rs) n (inl e) = inl e
 in-words (r ∷ rs) n (inr a) = inr (in-words rs n a)
 
-name-there : (rs : List LibRecord) (r : LibRecord) → words.Among rs r → Among (map (λ (r : LibRecord). r.name) rs) r.name
+name-there : (rs : List CompiledLibrary) (r : CompiledLibrary) → words.Among rs r → Among (map (λ (r : CompiledLibrary). r.name) rs) r.name
 name-there [] r a = elim a [ ]
-name-there (x ∷ rs) r (inl e) = inl (ap (λ (y : LibRecord). y.name) e)
+name-there (x ∷ rs) r (inl e) = inl (ap (λ (y : CompiledLibrary). y.name) e)
 name-there (x ∷ rs) r (inr a) = inr (name-there rs r a)
 
 each-among : {A : Type 0} (P : A → Type 0) (xs : List A) → ((x : A) → words.Among xs x → P x) → Each P xs
@@ -80,19 +80,19 @@ each-among P [] h = tt
 each-among P (x ∷ xs) h = (h x (inl refl), each-among P xs (λ y a. h y (inr a)))
 
 -- what is marked is among the records at marked places
-marked-there : (records : List LibRecord) (k : ℕ) (ms : List Bool) (p : ℕ) (r : LibRecord) → slice_get ms p ≡ Some true → slice_get records (k + p) ≡ Some r → words.Among (records_at records (places_from k ms)) r
+marked-there : (records : List CompiledLibrary) (k : ℕ) (ms : List Bool) (p : ℕ) (r : CompiledLibrary) → slice_get ms p ≡ Some true → slice_get records (k + p) ≡ Some r → words.Among (records_at records (places_from k ms)) r
 unfolding places_from
 marked-there records k [] p r h e = absurd (cc)
 marked-there records k (false ∷ ms) zero r h e = absurd (cc)
 marked-there records k (false ∷ ms) (suc p) r h e = let next : k + suc p ≡ suc k + p = omega arith in marked-there records (suc k) ms p r h (subst (λ i. slice_get records i ≡ Some r) next e)
 marked-there records k (true ∷ ms) zero r h e = by (slice_get records k) (let same : k + zero ≡ k = omega arith in subst (λ i. slice_get records i ≡ Some r) same e)
   where
-    by : (o : Option LibRecord) → o ≡ Some r → words.Among (or_skip o (records_at records (places_from (suc k) ms))) r
+    by : (o : Option CompiledLibrary) → o ≡ Some r → words.Among (or_skip o (records_at records (places_from (suc k) ms))) r
     by None i = absurd (cc)
     by (Some x) i = let same : r ≡ x = cc in inl same
 marked-there records k (true ∷ ms) (suc p) r h e = by (slice_get records k) (let next : k + suc p ≡ suc k + p = omega arith in marked-there records (suc k) ms p r h (subst (λ i. slice_get records i ≡ Some r) next e))
   where
-    by : (o : Option LibRecord) → words.Among (records_at records (places_from (suc k) ms)) r → words.Among (or_skip o (records_at records (places_from (suc k) ms))) r
+    by : (o : Option CompiledLibrary) → words.Among (records_at records (places_from (suc k) ms)) r → words.Among (or_skip o (records_at records (places_from (suc k) ms))) r
     by None a = a
     by (Some x) a = inr a
 
@@ -101,22 +101,22 @@ marked-there records k (true ∷ ms) (suc p) r h e = by (slice_get records k) (l
 one-there : {A : Type 0} (xs : List A) (i : ℕ) (x y : A) → slice_get xs i ≡ Some x → slice_get xs i ≡ Some y → x ≡ y
 one-there xs i x y e h = cc
 
-same-head : (x y : LibRecord) (xs ys : List LibRecord) → x ∷ xs ≡ y ∷ ys → x ≡ y
+same-head : (x y : CompiledLibrary) (xs ys : List CompiledLibrary) → x ∷ xs ≡ y ∷ ys → x ≡ y
 same-head x y xs ys e = cc
 
-same-tail : (x y : LibRecord) (xs ys : List LibRecord) → x ∷ xs ≡ y ∷ ys → xs ≡ ys
+same-tail : (x y : CompiledLibrary) (xs ys : List CompiledLibrary) → x ∷ xs ≡ y ∷ ys → xs ≡ ys
 same-tail x y xs ys e = cc
 
 -- Marks of more libraries.
 
-abbrev Has : List LibName → LibRecord → Type 0
+abbrev Has : List LibName → CompiledLibrary → Type 0
 Has libs r = RecordHasOnly HasEvents libs r
 
 module _ (few many : List LibName) (within : (n : LibName) → Among few n → Among many n) where
   leaf-wider : (c : LeafContext) → HasOnly HasEvents few c → HasOnly HasEvents many c
   leaf-wider c h = events-wider (IsOfOne few) (IsOfOne many) (IsFrameOfOne few) (IsFrameOfOne many) (λ m k. within m.0.library k) (λ f k. within f.0.library k) c h
 
-  record-wider : (r : LibRecord) → Has few r → Has many r
+  record-wider : (r : CompiledLibrary) → Has few r → Has many r
   record-wider r h = record {
     run = lines_wider (HasOnly HasEvents few) (HasOnly HasEvents many) leaf-wider r.run h.run;
     bindings = bindings-wider (HasOnly HasEvents few) (HasOnly HasEvents many) leaf-wider r.bindings h.bindings;
@@ -134,10 +134,10 @@ any-held : (P : LeafContext → Type 0) (table : Codes) → CodesHold IsNoLeaf t
 any-held P table h = codes_wider IsNoLeaf P (λ c k. elim k [ ]) table h
 
 module _ (prelude : Result Codes Fault) (without : HasNoLeaves prelude) where
-  abbrev Both : List LibRecord → List ℕ → LibraryForm → List PlainDatum → LibRecord → Type 0
+  abbrev Both : List CompiledLibrary → List ℕ → LibraryForm → List PlainDatum → CompiledLibrary → Type 0
   Both records path form body r = IsHygienicBehind prelude records path form body r × Has (form.name ∷ libraries_of records) r
 
-  both-made : (records : List LibRecord) (path : List ℕ) (form : LibraryForm) (body : List PlainDatum) (r : LibRecord) → IsNewAmong (libraries_of records) form.name → Each (Has (libraries_of records)) records
+  both-made : (records : List CompiledLibrary) (path : List ℕ) (form : LibraryForm) (body : List PlainDatum) (r : CompiledLibrary) → IsNewAmong (libraries_of records) form.name → Each (Has (libraries_of records)) records
       → expand_library prelude records path form body ≡ Ok r → Both records path form body r
   unfolding expand_library
   both-made records path form body r new before h = by-names (form_names records form.imports) refl h
@@ -173,14 +173,14 @@ module _ (prelude : Result Codes Fault) (without : HasNoLeaves prelude) where
 
   -- The derived library.
 
-  abbrev First : LibRecord → Type 0
+  abbrev First : CompiledLibrary → Type 0
   First d = IsHygienicDerived prelude d × Has (library.Derived ∷ libraries_of []) d
 
   derived-new : IsNewAmong (libraries_of []) library.Derived
   derived-new (inl e) = absurd (cc)
   derived-new (inr a) = elim a [ ]
 
-  from-forms : (d : LibRecord) (table : Codes) (forms : List Tree) → forms_of DERIVED_SOURCE.now ≡ Ok forms → prelude ≡ Ok table → record_of table forms ≡ Ok d → First d
+  from-forms : (d : CompiledLibrary) (table : Codes) (forms : List Tree) → forms_of DERIVED_SOURCE.now ≡ Ok forms → prelude ≡ Ok table → record_of table forms ≡ Ok d → First d
   unfolding record_of
   from-forms d table forms read given h =
       let codes = any-held (HasOnly HasEvents (libraries_of [])) table (without table given) in
@@ -195,7 +195,7 @@ module _ (prelude : Result Codes Fault) (without : HasNoLeaves prelude) where
         events-stay.records library.Derived derived_names.path [] derived_names.names [] derived_names.start (derived_names.exports_of derived) forms table d derived-new tt codes was h,
       )
 
-  derived-made : (d : LibRecord) → derived_record prelude ≡ Ok d → First d
+  derived-made : (d : CompiledLibrary) → derived_record prelude ≡ Ok d → First d
   unfolding derived_record
   derived-made d h = by-forms (forms_of DERIVED_SOURCE.now) refl h
     where
@@ -209,18 +209,18 @@ module _ (prelude : Result Codes Fault) (without : HasNoLeaves prelude) where
 
   -- One library after another.
 
-  module _ (s : Loading) (sound : IsSound s) (users : AllUsers s.done) (rows left : List (List ℕ × Found)) (records : List LibRecord) (parts : s.done ≡ rows ++ left)
+  module _ (s : Loading) (sound : IsSound s) (users : AllUsers s.done) (rows left : List (List ℕ × Found)) (records : List CompiledLibrary) (parts : s.done ≡ rows ++ left)
       (m : IsMade prelude rows records) (first : IsFirst m.derived) (made : AllMadeBehind s m.derived m.others) where
     first-made : First m.derived
     first-made = derived-made m.derived m.made
 
     -- the record at a place
     abbrev HoldsAt : ℕ → Type 0
-    HoldsAt i = (file : List ℕ) (f : Found) (r : LibRecord) → IsAt s.done i file f → slice_get m.others i ≡ Some r
+    HoldsAt i = (file : List ℕ) (f : Found) (r : CompiledLibrary) → IsAt s.done i file f → slice_get m.others i ≡ Some r
         → Both (Behind m.derived m.others f) f.opened.path f.opened.form (library_body f.opened.«data») r
 
     module _ (f : Found) (closed : NeedsAreClosed s.done f) (earlier : (i : ℕ) → i < f.place → HoldsAt i) where
-      abbrev here : List LibRecord
+      abbrev here : List CompiledLibrary
       here = records_at m.others (needed f)
 
       abbrev libs : List LibName
@@ -234,7 +234,7 @@ module _ (prelude : Result Codes Fault) (without : HasNoLeaves prelude) where
           within n (inr (inl e)) = inl e
           within n (inr (inr a)) = elim a [ ]
 
-      needed-here : (x : LibRecord) → words.Among here x → Has libs x
+      needed-here : (x : CompiledLibrary) → words.Among here x → Has libs x
       needed-here x a =
           let y = marked_from m.others zero f.needs x a in
           let same : zero + y.place ≡ y.place = omega arith in
@@ -252,13 +252,13 @@ module _ (prelude : Result Codes Fault) (without : HasNoLeaves prelude) where
               named-in : (k : LibName) → IsNamed (records_at m.others (needed g)) k → Among libs k
               named-in k i =
                   let z = marked_from m.others zero g.needs i.record_of i.among in
-                  inr (inr (subst (Among (map (λ (r : LibRecord). r.name) here)) i.name
+                  inr (inr (subst (Among (map (λ (r : CompiledLibrary). r.name) here)) i.name
                   (name-there here i.record_of (marked-there m.others zero f.needs z.place i.record_of ((closed p marked).also z.place z.marked) z.there))))
 
               within : (k : LibName) → Among (g.opened.form.name ∷ libraries_of (Behind m.derived m.others g)) k → Among libs k
               within k (inl e) =
                   let st = (made p (closed p marked).file g x (closed p marked).there there).stands in
-                  inr (inr (subst (Among (map (λ (r : LibRecord). r.name) here)) (st.named ∙ sym e) (name-there here x a)))
+                  inr (inr (subst (Among (map (λ (r : CompiledLibrary). r.name) here)) (st.named ∙ sym e) (name-there here x a)))
               within k (inr (inl e)) = inl e
               within k (inr (inr (inl e))) = inr (inl e)
               within k (inr (inr (inr b))) = named-in k (named_among (records_at m.others (needed g)) k (in-words (records_at m.others (needed g)) k b))
@@ -266,7 +266,7 @@ module _ (prelude : Result Codes Fault) (without : HasNoLeaves prelude) where
       behind-here : Each (Has libs) (Behind m.derived m.others f)
       behind-here = (derived-here, each-among (Has libs) here needed-here)
 
-    new-among : (rs : List LibRecord) (n : LibName) → (n ≡ library.Core → ⊥) → IsNew rs n → IsNewAmong (libraries_of rs) n
+    new-among : (rs : List CompiledLibrary) (n : LibName) → (n ≡ library.Core → ⊥) → IsNew rs n → IsNewAmong (libraries_of rs) n
     new-among rs n other new (inl e) = other e
     new-among rs n other new (inr a) = new (in-words rs n a)
 
@@ -280,13 +280,13 @@ module _ (prelude : Result Codes Fault) (without : HasNoLeaves prelude) where
       no-core : f.opened.form.name ≡ library.Core → ⊥
       no-core e = subst IsUser e (users i file f at)
 
-      row-there : (r : LibRecord) → slice_get m.others i ≡ Some r → IsAt rows i file f
+      row-there : (r : CompiledLibrary) → slice_get m.others i ≡ Some r → IsAt rows i file f
       row-there r there =
           let y = same_place m.others rows i r m.as_many there in
           let e : slice_get s.done i ≡ Some y.0 = subst (λ (xs : List (List ℕ × Found)). slice_get xs i ≡ Some y.0) (sym parts) (at_first rows left i y.0 y.1) in
           subst (λ (z : List ℕ × Found). slice_get rows i ≡ Some z) (one-there s.done i y.0 (file, f) e at) y.1
 
-      holds-here : (r : LibRecord) → slice_get m.others i ≡ Some r → Both (Behind m.derived m.others f) f.opened.path f.opened.form (library_body f.opened.«data») r
+      holds-here : (r : CompiledLibrary) → slice_get m.others i ≡ Some r → Both (Behind m.derived m.others f) f.opened.path f.opened.form (library_body f.opened.«data») r
       holds-here r there =
           let x = m.each i file f r (row-there r there) there in
           let many = x.many in
@@ -294,11 +294,11 @@ module _ (prelude : Result Codes Fault) (without : HasNoLeaves prelude) where
           let low : (p : ℕ) → slice_get (true ∷ f.needs) p ≡ Some true → zero + p < length x.before =
           low_behind (length x.before) f.needs (λ p h. let l = (closed p h).before in omega (arith, l, many, is_at)) (omega (arith, many)) in
           let same : needed_records x.before (true ∷ f.needs) ≡ Behind m.derived m.others f =
-          sym (first_records x.before x.after zero (true ∷ f.needs) low) ∙ ap (λ (rs : List LibRecord). needed_records rs (true ∷ f.needs)) (sym x.parts) ∙ needed_behind m.derived m.others f.needs in
+          sym (first_records x.before x.after zero (true ∷ f.needs) low) ∙ ap (λ (rs : List CompiledLibrary). needed_records rs (true ∷ f.needs)) (sym x.parts) ∙ needed_behind m.derived m.others f.needs in
           both-made (Behind m.derived m.others f) f.opened.path f.opened.form (library_body f.opened.«data») r
           (new-among (Behind m.derived m.others f) f.opened.form.name no-core (library-new s sound users m.derived first.stands first.behind m.others made f closed i file at))
           (behind-here f closed (λ j l. earlier j (omega (arith, l, is_at))))
-          (subst (λ (rs : List LibRecord). expand_library prelude rs f.opened.path f.opened.form (library_body f.opened.«data») ≡ Ok r) same x.made)
+          (subst (λ (rs : List CompiledLibrary). expand_library prelude rs f.opened.path f.opened.form (library_body f.opened.«data») ≡ Ok r) same x.made)
 
     holds-below : (n i : ℕ) → i < n → HoldsAt i
     holds-below zero i less = absurd (omega (arith, less))
@@ -307,16 +307,16 @@ module _ (prelude : Result Codes Fault) (without : HasNoLeaves prelude) where
     holds-at : (i : ℕ) → HoldsAt i
     holds-at i = holds-below (suc i) i (omega arith)
 
-    program-holds : (found : Found) → NeedsAreClosed s.done found → found.opened.form.name ≡ library.Program → (body : List PlainDatum) (program : LibRecord) → expand_found prelude records found body ≡ Ok program
+    program-holds : (found : Found) → NeedsAreClosed s.done found → found.opened.form.name ≡ library.Program → (body : List PlainDatum) (program : CompiledLibrary) → expand_found prelude records found body ≡ Ok program
         → Both (Behind m.derived m.others found) found.opened.path found.opened.form body program
     program-holds found closed named body program h =
         let same : needed_records records (true ∷ found.needs) ≡ Behind m.derived m.others found =
-        ap (λ (rs : List LibRecord). needed_records rs (true ∷ found.needs)) m.parts ∙ needed_behind m.derived m.others found.needs in
+        ap (λ (rs : List CompiledLibrary). needed_records rs (true ∷ found.needs)) m.parts ∙ needed_behind m.derived m.others found.needs in
         both-made (Behind m.derived m.others found) found.opened.path found.opened.form body program
         (new-among (Behind m.derived m.others found) found.opened.form.name (λ e. let bad : library.Program ≡ library.Core = sym named ∙ e in absurd (cc))
         (program-new s sound users m.derived first.stands first.behind m.others made found closed found.opened.form.name named))
         (behind-here found closed (λ j l. holds-at j))
-        (subst (λ (rs : List LibRecord). expand_library prelude rs found.opened.path found.opened.form body ≡ Ok program) same h)
+        (subst (λ (rs : List CompiledLibrary). expand_library prelude rs found.opened.path found.opened.form body ≡ Ok program) same h)
 
     abbrev all-hygienic : PartIsHygienic prelude rows records
     all-hygienic = record {
@@ -333,12 +333,12 @@ module _ (prelude : Result Codes Fault) (without : HasNoLeaves prelude) where
 
 -- A part of a run, as far as it came.
 
-record IsMadeSo (prelude : Result Codes Fault) (s : Loading) (rows : List (List ℕ × Found)) (records : List LibRecord) : Type 0 where
+record IsMadeSo (prelude : Result Codes Fault) (s : Loading) (rows : List (List ℕ × Found)) (records : List CompiledLibrary) : Type 0 where
   made : IsMade prelude rows records
   first : IsFirst made.derived
   behind : AllMadeBehind s made.derived made.others
 
-made-so : (prelude : Result Codes Fault) (s : Loading) (sound : IsSound s) (users : AllUsers s.done) (rows left : List (List ℕ × Found)) (records : List LibRecord) → s.done ≡ rows ++ left → all_records prelude rows ≡ Ok records
+made-so : (prelude : Result Codes Fault) (s : Loading) (sound : IsSound s) (users : AllUsers s.done) (rows left : List (List ℕ × Found)) (records : List CompiledLibrary) → s.done ≡ rows ++ left → all_records prelude rows ≡ Ok records
     → IsMadeSo prelude s rows records
 made-so prelude s sound users rows left records parts recorded =
     let m = all_made prelude rows records recorded in
@@ -347,8 +347,8 @@ made-so prelude s sound users rows left records parts recorded =
     record {
       made = m;
       first = subst IsFirst (same-head p.derived m.derived p.so.others m.others e) p.first;
-      behind = subst (λ (d : LibRecord). AllMadeBehind s d m.others) (same-head p.derived m.derived p.so.others m.others e)
-          (subst (λ (os : List LibRecord). AllMadeBehind s p.derived os) (same-tail p.derived m.derived p.so.others m.others e) p.so.made);
+      behind = subst (λ (d : CompiledLibrary). AllMadeBehind s d m.others) (same-head p.derived m.derived p.so.others m.others e)
+          (subst (λ (os : List CompiledLibrary). AllMadeBehind s p.derived os) (same-tail p.derived m.derived p.so.others m.others e) p.so.made);
     }
 
 pub parts-hygienic : PartsAreHygienic

@@ -13,7 +13,7 @@ use Rattle.sx_base.specs.declared.span.Span.{Span}
 use Rattle.sx_builtin.specs.Exports.{exports, export, library_exports, core_unless, derived_place}
 use Rattle.sx_builtin.specs.Libraries.{library_named, library_numbers}
 use Rattle.sx_builtin.specs.declared.library.Library.{Library}
-use Rattle.sx_core.specs.declared.record.LibRecord.{LibRecord}
+use Rattle.sx_core.specs.declared.record.CompiledLibrary.{CompiledLibrary}
 use Rattle.sx_core_laws.specs.Words.{Each, Among}
 use Rattle.sx_expand_laws.proofs.Fresh.{each-append, each-map}
 use Rattle.sx_forms.specs.declared.set.Import.{Import}
@@ -21,15 +21,15 @@ use Rattle.sx_import.specs.Names.{Labelled, same_label, conflict, join_by, join_
 use Rattle.sx_import.specs.Table.{same_text, value_of}
 use Rattle.sx_import.specs.Turns.{turns}
 use Rattle.sx_import.specs.declared.set.NameAt.{NameAt}
-use Rattle.sx_import.specs.declared.set.Step.{Step}
-use Rattle.sx_import.specs.declared.set.Step.TheVariants.{Only, Except, Prefix, Rename}
+use Rattle.sx_import.specs.declared.set.ImportStep.{ImportStep}
+use Rattle.sx_import.specs.declared.set.ImportStep.TheVariants.{Only, Except, Prefix, Rename}
 use Rattle.sx_derived.specs.Derived.{label_or, relabelled_in}
 use Rattle.sx_library.specs.Imports.{named, refer, record_exports, given_names, exported_by, exported, import_into, form_names}
 use Rattle.sx_expand_laws.specs.Serves.{IsOfImplementation, IsThere, AllServe}
 use Rattle.sx_run_laws.proofs.NameLemmas.{exports_there}
 
 -- each imported label is of a library that is there
-abbrev pub ImportsAreThere : List LibRecord → Labelled → Type 0
+abbrev pub ImportsAreThere : List CompiledLibrary → Labelled → Type 0
 ImportsAreThere records imports = Each (λ (e : List ℕ × Label). IsThere records e.1.0.library) imports
 
 -- what each step keeps holds at the end
@@ -101,7 +101,7 @@ module _ (P : Label → Type 0) where
       by None h = h
       by (Some id) h = absurd (cc)
 
-  step_keeps : (span : Span) (names r : Labelled) (step : Step) → LabelsAre names → step_names span names step ≡ Ok r → LabelsAre r
+  step_keeps : (span : Span) (names r : Labelled) (step : ImportStep) → LabelsAre names → step_names span names step ≡ Ok r → LabelsAre r
   step_keeps span names r (Only ids) h e =
       let k = needed_is names ids (Ok (only ids names)) r e in
       let same : only ids names ≡ r = cc in
@@ -127,7 +127,7 @@ module _ (P : Label → Type 0) where
       by (Err f) g e = absurd (cc)
 
   -- where each library exports such labels, a form imports such labels
-  module _ (records : List LibRecord) (all : (l : LibName) → LabelsAre (exported records l)) where
+  module _ (records : List CompiledLibrary) (all : (l : LibName) → LabelsAre (exported records l)) where
     import_keeps : (names r : Labelled) (import : Import) → LabelsAre names → import_into records names import ≡ Ok r → LabelsAre r
     import_keeps names r import h e = by (import_names import.set import.span (exported records import.set.library)) refl e
       where
@@ -172,16 +172,16 @@ pub each_label : (P : Label → Type 0) (es : Labelled) → Each P (map (λ (e :
 each_label P [] h = tt
 each_label P (e ∷ es) h = (h.0, each_label P es h.1)
 
-module _ (records : List LibRecord) (serve : AllServe [] records) where
+module _ (records : List CompiledLibrary) (serve : AllServe [] records) where
   abbrev There : Label → Type 0
   There l = IsThere records l.0.library
 
-  record_gives : (l : LibName) (o : Option LibRecord) → named l records ≡ o → LabelsAre There (record_exports o)
+  record_gives : (l : LibName) (o : Option CompiledLibrary) → named l records ≡ o → LabelsAre There (record_exports o)
   record_gives l None e = tt
-  record_gives l (Some r) e = each_label There r.exports (exports_there [] records serve r (found_among (λ (x : LibRecord). same_library x.name l) records r e))
+  record_gives l (Some r) e = each_label There r.exports (exports_there [] records serve r (found_among (λ (x : CompiledLibrary). same_library x.name l) records r e))
 
   -- a derived name stands for what the derived record exports
-  module _ (r : LibRecord) (gives : LabelsAre There r.exports) where
+  module _ (r : CompiledLibrary) (gives : LabelsAre There r.exports) where
     looked_up : (name : List ℕ) (rows : Labelled) (l : Label) → LabelsAre There rows → lookup (same_text name) rows ≡ Some l → There l
     looked_up name [] l h e = absurd (cc)
     looked_up name (row ∷ rows) l h e = by (same_text name row.0) (looked_up name rows l h.1) e
@@ -205,7 +205,7 @@ module _ (records : List LibRecord) (serve : AllServe [] records) where
     all_there [] h = tt
     all_there (x ∷ xs) h = (one_there x h.0, all_there xs h.1)
 
-  given_there : (o : Option LibRecord) → named library.Derived records ≡ o → (names : Labelled) → LabelsAre There names → LabelsAre There (given_names o names)
+  given_there : (o : Option CompiledLibrary) → named library.Derived records ≡ o → (names : Labelled) → LabelsAre There names → LabelsAre There (given_names o names)
   given_there None e names h = h
   given_there (Some r) e names h = all_there r (record_gives library.Derived (Some r) e) names h
 

@@ -13,7 +13,7 @@ use Rattle.sx_builtin.specs.Libraries.{in_a_row, run_numbers, library_runs, libr
 use Rattle.sx_builtin.specs.declared.library.Library.{Library}
 use Rattle.sx_builtin.specs.declared.library.Library.TheVariants as l
 use Rattle.sx_builtin.specs.declared.library.Run.{Run}
-use Rattle.sx_core.specs.declared.record.LibRecord.{LibRecord}
+use Rattle.sx_core.specs.declared.record.CompiledLibrary.{CompiledLibrary}
 use Rattle.sx_core_laws.specs.Following.{AllFollow}
 use Rattle.sx_core_laws.specs.Follows.{export_labels, bound_labels, IsKnown}
 use Rattle.sx_core_laws.specs.Words.{Each, Among}
@@ -32,7 +32,7 @@ use Rattle.sx_run_laws.proofs.WiderLemmas.{AreAmong, among_all, all_wider}
 -- ---- records that follow one another export what is known
 
 -- what a record knows, all know that it and those before it are among
-pub known_among : (all earlier : List LibRecord) (r : LibRecord) → AreAmong earlier all → Among all r → (l : Label) → IsKnown r earlier l → IsKnownBefore all l
+pub known_among : (all earlier : List CompiledLibrary) (r : CompiledLibrary) → AreAmong earlier all → Among all r → (l : Label) → IsKnown r earlier l → IsKnownBefore all l
 known_among all earlier r w here l (inl a) = inl (by (among-parts (bound_labels r) (flat_map bound_labels earlier) l a))
   where
     by : Among (bound_labels r) l ⊎ Among (flat_map bound_labels earlier) l → Among (flat_map bound_labels all) l
@@ -40,7 +40,7 @@ known_among all earlier r w here l (inl a) = inl (by (among-parts (bound_labels 
     by (inr b) = all_wider bound_labels earlier all l w b
 known_among all earlier r w here l (inr g) = inr g
 
-pub one_more : (all earlier : List LibRecord) (r : LibRecord) → AreAmong earlier all → Among all r → AreAmong (earlier ++ r ∷ []) all
+pub one_more : (all earlier : List CompiledLibrary) (r : CompiledLibrary) → AreAmong earlier all → Among all r → AreAmong (earlier ++ r ∷ []) all
 one_more all earlier r w here q a = by (among-parts earlier (r ∷ []) q a)
   where
     by : Among earlier q ⊎ Among (r ∷ []) q → Among all q
@@ -48,10 +48,10 @@ one_more all earlier r w here q a = by (among-parts earlier (r ∷ []) q a)
     by (inr (inl e)) = subst (Among all) (sym e) here
     by (inr (inr b)) = elim b [ ]
 
-exports_known : (all earlier rs : List LibRecord) → AllFollow earlier rs → AreAmong earlier all → AreAmong rs all → (r : LibRecord) → Among rs r → Each (IsKnownBefore all) (export_labels r)
+exports_known : (all earlier rs : List CompiledLibrary) → AllFollow earlier rs → AreAmong earlier all → AreAmong rs all → (r : CompiledLibrary) → Among rs r → Each (IsKnownBefore all) (export_labels r)
 exports_known all earlier [] h before these r a = elim a [ ]
 exports_known all earlier (x ∷ rs) h before these r (inl e) =
-    subst (λ (y : LibRecord). Each (IsKnownBefore all) (export_labels y)) (sym e)
+    subst (λ (y : CompiledLibrary). Each (IsKnownBefore all) (export_labels y)) (sym e)
     (each-map (IsKnown x earlier) (IsKnownBefore all) (export_labels x) h.0.labels.exports (known_among all earlier x before (these x (inl refl))))
 exports_known all earlier (x ∷ rs) h before these r (inr a) =
     exports_known all (earlier ++ x ∷ []) rs h.1 (one_more all earlier x before (these x (inl refl))) (λ q b. these q (inr b)) r a
@@ -98,16 +98,16 @@ looked_up P name (row ∷ rows) x h e = by (same_text name row.0) (looked_up P n
     by true rest e = let same : row.1 ≡ x = cc in subst P same h.0
     by false rest e = rest e
 
-module _ (d : LibRecord) (rest : List LibRecord) (follow : AllFollow [] (d ∷ rest)) (is_derived : d.name ≡ library.Derived) (derives : ExportsTheDerived d) where
+module _ (d : CompiledLibrary) (rest : List CompiledLibrary) (follow : AllFollow [] (d ∷ rest)) (is_derived : d.name ≡ library.Derived) (derives : ExportsTheDerived d) where
   abbrev Known : Label → Type 0
   Known x = IsKnownBefore (d ∷ rest) x
 
-  record_known : (r : LibRecord) → Among (d ∷ rest) r → LabelsAre Known r.exports
+  record_known : (r : CompiledLibrary) → Among (d ∷ rest) r → LabelsAre Known r.exports
   record_known r a = each_label Known r.exports (exports_known (d ∷ rest) [] (d ∷ rest) follow (λ q b. elim b [ ]) (λ q b. b) r a)
 
-  named_known : (n : LibName) (o : Option LibRecord) → named n (d ∷ rest) ≡ o → LabelsAre Known (record_exports o)
+  named_known : (n : LibName) (o : Option CompiledLibrary) → named n (d ∷ rest) ≡ o → LabelsAre Known (record_exports o)
   named_known n None e = tt
-  named_known n (Some r) e = record_known r (found_among (λ (x : LibRecord). same_library x.name n) (d ∷ rest) r e)
+  named_known n (Some r) e = record_known r (found_among (λ (x : CompiledLibrary). same_library x.name n) (d ∷ rest) r e)
 
   -- a name of the implementation has a given label, or that under which the derived record exports it
   given_known : (n : ℕ) → n < name_count → (o : Option ℕ) → derived_place n ≡ o → Known (relabelled_in d (op_text n, core_unless n o)).1
@@ -136,7 +136,7 @@ module _ (d : LibRecord) (rest : List LibRecord) (follow : AllFollow [] (d ∷ r
       by : (o : Option Library) → LabelsAre Known (exported_by (named library.Derived (d ∷ rest)) (named (library.User parts) (d ∷ rest)) (option_map library_exports o))
       by None = named_known (library.User parts) (named (library.User parts) (d ∷ rest)) refl
       by (Some x) =
-          subst (λ (o : Option LibRecord). LabelsAre Known (given_names o (library_exports x))) (sym derived_found)
+          subst (λ (o : Option CompiledLibrary). LabelsAre Known (given_names o (library_exports x))) (sym derived_found)
           (numbers_known (library_numbers x) (runs_numbers (library_runs x) (runs_fit x)))
 
   pub imports_known : (imports : List Import) (names : Labelled) → form_names (d ∷ rest) imports ≡ Ok names → LabelsAre Known names

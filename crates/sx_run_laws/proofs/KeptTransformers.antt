@@ -15,13 +15,13 @@ use Rattle.sx_tree.specs.Changes.{enter, leave, stamp}
 use Rattle.sx_tree.specs.Tree.{Tree}
 use Rattle.sx_core.specs.Bindings.{bound_to}
 use Rattle.sx_core.specs.Core.{PlainCore}
-use Rattle.sx_core.specs.declared.record.LibRecord.{LibRecord}
+use Rattle.sx_core.specs.declared.record.CompiledLibrary.{CompiledLibrary}
 use Rattle.sx_core_laws.specs.Records.{defined}
 use Rattle.sx_eval.specs.Codes.{Codes}
 use Rattle.sx_expand.specs.Body.{splice, finish_all}
 use Rattle.sx_expand.specs.Expression.{inside}
 use Rattle.sx_expand.specs.Inside.{Inside}
-use Rattle.sx_expand.specs.Top.{exports, give_record, body_at, finished, first_pass, top}
+use Rattle.sx_expand.specs.Top.{exports, give_record, body_at, second_pass, first_pass, top}
 use Rattle.sx_expand.specs.declared.top.TopAt.{TopAt}
 use Rattle.sx_expand_laws.proofs.GoodKeywords.{exports-same, started-begins}
 use Rattle.sx_expand_laws.proofs.Top.{SameScope, AreShown, same-exports}
@@ -70,7 +70,7 @@ use Rattle.sx_run_laws.proofs.PartRows.{no-text-derived, no-text-program, no-tex
 use Rattle.sx_run_laws.proofs.PlaceLemmas.{needed_behind}
 use Rattle.sx_run_laws.proofs.Unstuck.{texts-read}
 use Rattle.sx_run_laws.proofs.UserLemmas.{program_name}
-use Rattle.sx_run_laws.specs.Parts.{IsPart}
+use Rattle.sx_run_laws.specs.Parts.{IsPartOfRun}
 
 -- ---- a value that fits has its procedure
 
@@ -92,7 +92,7 @@ has-procedure cells (value.Syn x) h = (value.Syn x, refl)
 
 -- ---- whole states, and states that are safe
 
-module _ (own : LibName) (texts : List CodeNo) (rs : List LibRecord) where
+module _ (own : LibName) (texts : List CodeNo) (rs : List CompiledLibrary) where
   goes-whole : (s u : State) → Around own texts rs → Goes own texts rs s u → IsWholeState own texts rs u
   goes-whole s u x g = record { around = x; good = g.onward.0; steady = g.safe }
 
@@ -136,7 +136,7 @@ forms-stay-whole own texts rs room place level depth t s h =
 
 -- ---- the body of a library or program
 
-module _ (own : LibName) (texts : List CodeNo) (rs : List LibRecord) (x : Around own texts rs) (inner : Inside) (holds : Holds own texts rs inner) where
+module _ (own : LibName) (texts : List CodeNo) (rs : List CompiledLibrary) (x : Around own texts rs) (inner : Inside) (holds : Holds own texts rs inner) where
   lines-go : (at : TopAt) (d : Taken) (s t : State) (ls : List (List ℕ × Label)) → Goes own texts rs s t → Sure (G own texts rs s) (after (finish_all inner 0 d.waiting t) (λ lines. give_record at ls lines))
   lines-go at d s t ls first =
       sure-less (G own texts rs t) (G own texts rs s) (after (finish_all inner 0 d.waiting t) (λ lines. give_record at ls lines))
@@ -144,8 +144,8 @@ module _ (own : LibName) (texts : List CodeNo) (rs : List LibRecord) (x : Around
       (λ lines u g. goes-self own texts rs u g.onward.0 g.safe))
       (λ r u g. goes-then own texts rs s t u first g)
 
-  finished-goes : (at : TopAt) (es : List (List ℕ × Tree)) (d : Taken) (s : State) → B own texts rs s → Safe own texts rs s → Sure (G own texts rs s) (finished inner at es d s)
-  unfolding finished
+  finished-goes : (at : TopAt) (es : List (List ℕ × Tree)) (d : Taken) (s : State) → B own texts rs s → Safe own texts rs s → Sure (G own texts rs s) (second_pass inner at es d s)
+  unfolding second_pass
   finished-goes at es d s b h =
       sure-after (λ ls t. Light own texts rs s t × (SameScope s t × AreShown s.frames ls)) (G own texts rs s) (exports at es s) (λ ls t. after (finish_all inner 0 d.waiting t) (λ lines. give_record at ls lines))
       (sure-with (λ ls t. Light own texts rs s t) (λ ls t. SameScope s t × AreShown s.frames ls) (exports at es s) (exports-light own texts rs x inner holds at es s h) (same-exports at es s))
@@ -155,9 +155,9 @@ module _ (own : LibName) (texts : List CodeNo) (rs : List LibRecord) (x : Around
   pub top-goes : (at : TopAt) (es : List (List ℕ × Tree)) (forms : List Tree) (s : State) → at.frame.0.library ≡ own → B own texts rs s → Safe own texts rs s → Sure (G own texts rs s) (top inner at es forms s)
   unfolding top first_pass
   top-goes at es forms s mine b h =
-      sure-after (Takes own texts rs x inner holds s) (G own texts rs s) (splice inner (body_at at s.library) 0 begun (map (stamp at.frame) forms) s) (finished inner at es)
+      sure-after (Takes own texts rs x inner holds s) (G own texts rs s) (splice inner (body_at at s.library) 0 begun (map (stamp at.frame) forms) s) (second_pass inner at es)
       (splice-goes own texts rs x inner holds (body_at at s.library) 0 begun (map (stamp at.frame) forms) s ((λ e. refl), mine) b h tt)
-      (λ d t g. sure-less (G own texts rs t) (G own texts rs s) (finished inner at es d t) (finished-goes at es d t g.0.onward.0 g.0.safe) (λ r u k. goes-then own texts rs s t u g.0 k))
+      (λ d t g. sure-less (G own texts rs t) (G own texts rs s) (second_pass inner at es d t) (finished-goes at es d t g.0.onward.0 g.0.safe) (λ r u k. goes-then own texts rs s t u g.0 k))
 
 pub bodies-stay-whole : BodiesStayWhole
 bodies-stay-whole own texts rs room at es forms s mine h =
@@ -175,21 +175,21 @@ module _ (prelude : Result Codes Fault) (read : AreRead prelude) where
   texts-of : (table : Codes) → prelude ≡ Ok table → AreTexts table
   texts-of table given = subst AreRead given read
 
-  module _ (s : Loading) (sound : IsSound s) (users : AllUsers s.done) (count : ℕ) (records : List LibRecord) (p : PartsAre s sound users count records) where
+  module _ (s : Loading) (sound : IsSound s) (users : AllUsers s.done) (count : ℕ) (records : List CompiledLibrary) (p : PartsAre s sound users count records) where
     -- behind the records that it needs
     needed-start : (f : Found) → NeedsAreClosed s.done f → IsNew (Behind p.derived p.so.others f) f.opened.form.name → (IsOfTexts f.opened.form.name → ⊥)
         → StartsWhole prelude (needed_records records (true ∷ f.needs)) f.opened.form.name
     needed-start f closed new no_text table imports given =
-        subst (λ (rs : List LibRecord). IsWholeState f.opened.form.name (numbers_in table) rs (started f.opened.form.name rs imports table)) (sym same)
+        subst (λ (rs : List CompiledLibrary). IsWholeState f.opened.form.name (numbers_in table) rs (started f.opened.form.name rs imports table)) (sym same)
         (starts-are-whole f.opened.form.name (Behind p.derived p.so.others f) imports table
         (record { new = new; earlier = all-serve s sound users p.derived p.first.stands p.first.behind p.so.others p.so.made f closed })
         (all-behind s sound users p.derived p.first.stands p.first.behind p.so.others p.so.made f closed) no_text (texts-of table given))
       where
         same : needed_records records (true ∷ f.needs) ≡ Behind p.derived p.so.others f
-        same = ap (λ (rs : List LibRecord). needed_records rs (true ∷ f.needs)) p.so.parts ∙ needed_behind p.derived p.so.others f.needs
+        same = ap (λ (rs : List CompiledLibrary). needed_records rs (true ∷ f.needs)) p.so.parts ∙ needed_behind p.derived p.so.others f.needs
 
-  part-starts : (files : Paths) (roots : List (List ℕ)) (path : List ℕ) (s : Loading) (first : List (List ℕ × Found)) (file : List ℕ) (f : Found) (left : List (List ℕ × Found)) (records : List LibRecord)
-      → IsPart prelude files roots path s first ((file, f) ∷ left) records → StartsWhole prelude (needed_records records (true ∷ f.needs)) f.opened.form.name
+  part-starts : (files : Paths) (roots : List (List ℕ)) (path : List ℕ) (s : Loading) (first : List (List ℕ × Found)) (file : List ℕ) (f : Found) (left : List (List ℕ × Found)) (records : List CompiledLibrary)
+      → IsPartOfRun prelude files roots path s first ((file, f) ∷ left) records → StartsWhole prelude (needed_records records (true ∷ f.needs)) f.opened.form.name
   part-starts files roots path s first file f left records part =
       let l : IsLoaded s = subst IsLoaded part.loaded (loaded-is files roots path) in
       let p = parts-are s l.sound l.users prelude first ((file, f) ∷ left) records part.parts part.recorded in
@@ -199,7 +199,7 @@ module _ (prelude : Result Codes Fault) (read : AreRead prelude) where
       (library-new s l.sound l.users p.derived p.first.stands p.first.behind p.so.others p.so.made f closed (length p.so.others) file at)
       (no-text-user f.opened.form.name (l.users (length p.so.others) file f at))
 
-  program-starts : (files : Paths) (roots : List (List ℕ)) (path : List ℕ) (found : Found) (s : Loading) (records : List LibRecord) → load files roots path ≡ Ok (found, s)
+  program-starts : (files : Paths) (roots : List (List ℕ)) (path : List ℕ) (found : Found) (s : Loading) (records : List CompiledLibrary) → load files roots path ≡ Ok (found, s)
       → all_records prelude s.done ≡ Ok records → StartsWhole prelude (needed_records records (true ∷ found.needs)) found.opened.form.name
   program-starts files roots path found s records h recorded =
       let all = loads_all files roots path found s h in

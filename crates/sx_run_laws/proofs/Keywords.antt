@@ -19,7 +19,7 @@ use Rattle.sx_tree.specs.Tree.{Tree, atom, leaf, pair, vector}
 use Rattle.sx_frames.specs.Rows.{Row, is_of, label_in}
 use Rattle.sx_frames.specs.Scope.{rows_at, label_at, or_else}
 use Rattle.sx_core.specs.declared.core_form.CoreForm.TheVariants as core_forms
-use Rattle.sx_core.specs.declared.record.LibRecord.{LibRecord}
+use Rattle.sx_core.specs.declared.record.CompiledLibrary.{CompiledLibrary}
 use Rattle.sx_core.specs.declared.record.Line.{Line}
 use Rattle.sx_core_laws.specs.Words.{Each, Among, Once}
 use Rattle.sx_scope.specs.Stands.{stands}
@@ -47,12 +47,12 @@ use Rattle.sx_expand.specs.Expanding.{ready, body_of, library_record}
 use Rattle.sx_expand.specs.Expression.{inside, full_room}
 use Rattle.sx_expand.specs.Inside.{Inside}
 use Rattle.sx_expand.specs.Keywords.{define_syntax}
-use Rattle.sx_expand.specs.Settle as settle
-use Rattle.sx_expand.specs.Settle.{item_step, item_step_of, settle_item_to, settle_item, next_form, too_many, at_use}
-use Rattle.sx_expand.specs.Top.{exports, give_record, record_in, body_at, finished, first_pass, top}
-use Rattle.sx_expand.specs.declared.settle.ItemStep.{ItemStep}
-use Rattle.sx_expand.specs.declared.settle.ItemStep.TheVariants as item_steps
-use Rattle.sx_expand.specs.declared.settle.SettledItem.{SettledItem}
+use Rattle.sx_expand.specs.ExpandUses as expand_uses
+use Rattle.sx_expand.specs.ExpandUses.{item_step, item_step_of, expand_item_uses_to, expand_item_uses, next_form, too_many, at_use}
+use Rattle.sx_expand.specs.Top.{exports, give_record, record_in, body_at, second_pass, first_pass, top}
+use Rattle.sx_expand.specs.declared.expand_uses.ItemOrUse.{ItemOrUse}
+use Rattle.sx_expand.specs.declared.expand_uses.ItemOrUse.TheVariants as item_steps
+use Rattle.sx_expand.specs.declared.expand_uses.PlannedItem.{PlannedItem}
 use Rattle.sx_expand.specs.declared.top.TopAt.{TopAt}
 use Rattle.sx_eval.specs.Codes.{Codes}
 use Rattle.sx_expand_laws.specs.States.{IsOwn, row_key, AreKeyed}
@@ -184,12 +184,12 @@ module _ (at : BodyAt) (depth : ℕ) where
       by true k = subst (λ (st : Standing). Gave (Plans d s) (headed_item at depth taken (pair q a e) st s)) (sym (word-standing s a f h).1) (form-taken taken (pair q a e) s)
 
   -- a step that is one of these items
-  abbrev IsItem : ItemStep → Type 0
+  abbrev IsItem : ItemOrUse → Type 0
   IsItem (item_steps.Item i) = IsKeyword i
   IsItem (item_steps.Use k) = ⊥
 
-  module _ (rs : List LibRecord) where
-    abbrev Steps : Taken → State → Taken × ItemStep → State → Type 0
+  module _ (rs : List CompiledLibrary) where
+    abbrev Steps : Taken → State → Taken × ItemOrUse → State → Type 0
     Steps d s p u = (p.0.waiting ≡ d.waiting) × ((u ≡ s) × IsItem p.1)
 
     item-stepped : (d e : Taken) (t : Tree) (i : Item) (s : State) → e.waiting ≡ d.waiting → IsKeyword i → Gave (Steps d s) (item_step_of rs at depth t e i s)
@@ -206,21 +206,21 @@ module _ (at : BodyAt) (depth : ℕ) where
         gave-after (Plans d s) (Steps d s) (item_plan at depth d t s) (λ p. item_step_of rs at depth t p.0 p.1) (definition-planned d t s f h)
         (λ p u k. subst (λ (v : State). Gave (Steps d s) (item_step_of rs at depth t p.0 p.1 v)) (sym k.1.0) (item-stepped d p.0 t p.1 s k.0 k.1.1))
 
-    abbrev Settles : Taken → Taken × SettledItem → State → Type 0
+    abbrev Settles : Taken → Taken × PlannedItem → State → Type 0
     Settles d p u = (p.0.waiting ≡ d.waiting) × IsKeyword p.1.item
 
-    item-settled : (onward : Taken → KeywordUse → Does (Taken × SettledItem)) (d : Taken) (t : Tree) (p : Taken × ItemStep) (s u : State) → Steps d s p u → Gave (Settles d) (settle.item_by onward at t p u)
+    item-settled : (onward : Taken → KeywordUse → Does (Taken × PlannedItem)) (d : Taken) (t : Tree) (p : Taken × ItemOrUse) (s u : State) → Steps d s p u → Gave (Settles d) (expand_uses.item_by onward at t p u)
     item-settled onward d t (e, item_steps.Item i) s u k = (k.0, k.1.1)
     item-settled onward d t (e, item_steps.Use l) s u k = elim k.1.1 [ ]
 
-    definition-settled : (left : ℕ) (d : Taken) (t : Tree) (s : State) → Found s → IsDefinition (stamped at.frame blank) t → Gave (Settles d) (settle_item_to rs left at depth d t s)
-    unfolding settle_item_to
+    definition-settled : (left : ℕ) (d : Taken) (t : Tree) (s : State) → Found s → IsDefinition (stamped at.frame blank) t → Gave (Settles d) (expand_item_uses_to rs left at depth d t s)
+    unfolding expand_item_uses_to
     definition-settled zero d t s f h =
-        gave-after (Steps d s) (Settles d) (item_step rs at depth d t s) (settle.item_by (λ done k. too_many t at.place) at t) (definition-stepped d t s f h) (λ p u k. item-settled (λ done j. too_many t at.place) d t p s u k)
+        gave-after (Steps d s) (Settles d) (item_step rs at depth d t s) (expand_uses.item_by (λ done k. too_many t at.place) at t) (definition-stepped d t s f h) (λ p u k. item-settled (λ done j. too_many t at.place) d t p s u k)
     definition-settled (suc left) d t s f h =
         gave-after (Steps d s) (Settles d) (item_step rs at depth d t s)
-        (settle.item_by (λ taken k s'. after (next_form rs left at.place t k (Some at.frame) s') (settle_item_to rs left (at_use at t) depth taken)) at t) (definition-stepped d t s f h)
-        (λ p u k. item-settled (λ taken j s'. after (next_form rs left at.place t j (Some at.frame) s') (settle_item_to rs left (at_use at t) depth taken)) d t p s u k)
+        (expand_uses.item_by (λ taken k s'. after (next_form rs left at.place t k (Some at.frame) s') (expand_item_uses_to rs left (at_use at t) depth taken)) at t) (definition-stepped d t s f h)
+        (λ p u k. item-settled (λ taken j s'. after (next_form rs left at.place t j (Some at.frame) s') (expand_item_uses_to rs left (at_use at t) depth taken)) d t p s u k)
 
   -- and it leaves nothing that waits
   keyword-performed : (go : Inside) (other : BodyAt) (d : Taken) (t : Tree) (i : Item) (s : State) → IsKeyword i → Gave (λ e u. e ≡ d) (perform_item go other depth d t i s)
@@ -236,8 +236,8 @@ module _ (at : BodyAt) (depth : ℕ) where
   pub definition-taken : (go : Inside) (d : Taken) (t : Tree) (s : State) → Found s → IsDefinition (stamped at.frame blank) t → Gave (λ e u. e.waiting ≡ d.waiting) (item go at depth d t s)
   unfolding item
   definition-taken go d t s f h =
-      gave-if (λ e u. e.waiting ≡ d.waiting) (nat_lt most_round depth) _ (after (settle_item go.earlier at depth d t s) (body.perform_settled go depth)) (λ e. tt)
-      (λ e. gave-after (Settles go.earlier d) (λ x u. x.waiting ≡ d.waiting) (settle_item go.earlier at depth d t s) (body.perform_settled go depth) (definition-settled go.earlier s.uses_left d t s f h)
+      gave-if (λ e u. e.waiting ≡ d.waiting) (nat_lt most_round depth) _ (after (expand_item_uses go.earlier at depth d t s) (body.perform_settled go depth)) (λ e. tt)
+      (λ e. gave-after (Settles go.earlier d) (λ x u. x.waiting ≡ d.waiting) (expand_item_uses go.earlier at depth d t s) (body.perform_settled go depth) (definition-settled go.earlier s.uses_left d t s f h)
       (λ p u k. gave-less (λ x v. x ≡ p.0) (λ x v. x.waiting ≡ d.waiting) (body.perform_settled go depth p u) (keyword-performed go p.1.at p.0 p.1.form p.1.item u k.1) (λ x v j. ap (λ (y : Taken). y.waiting) j ∙ k.0)))
 
 -- What the frame of a library gives stays, where it has each symbol under marks once.
@@ -281,7 +281,7 @@ found-row (y ∷ rs) x ms l e = by (is_of x ms y) refl e (found-row rs x ms l)
 
 -- All forms of a body.
 
-module _ (own : LibName) (rs : List LibRecord) (room : ℕ) (at : BodyAt) (low : is_top at.kind ≡ true → at.level ≡ 0) (mine : IsOwn own at.frame.0) where
+module _ (own : LibName) (rs : List CompiledLibrary) (room : ℕ) (at : BodyAt) (low : is_top at.kind ≡ true → at.level ≡ 0) (mine : IsOwn own at.frame.0) where
   record Leaves (start : State) (d : Taken) (t : State) : Type 0 where
     pub takes : Takes own at.frame (is_top at.kind) start start d t
     pub none : d.waiting ≡ []
@@ -313,8 +313,8 @@ module _ (own : LibName) (rs : List LibRecord) (room : ℕ) (at : BodyAt) (low :
 
 -- The record of such a library has no lines.
 
-finished-bare : (go : Inside) (at : TopAt) (es : List (List ℕ × Tree)) (d : Taken) (s : State) → d.waiting ≡ [] → Gave (λ r t. r.run ≡ []) (finished go at es d s)
-unfolding finished
+finished-bare : (go : Inside) (at : TopAt) (es : List (List ℕ × Tree)) (d : Taken) (s : State) → d.waiting ≡ [] → Gave (λ r t. r.run ≡ []) (second_pass go at es d s)
+unfolding second_pass
 finished-bare go at es d s none =
     gave-after (λ ls t. Unit {0}) (λ r t. r.run ≡ []) (exports at es s) (λ ls s'. after (finish_all go 0 d.waiting s') (λ lines. give_record at ls lines)) (gave-any (λ ls t. Unit {0}) (exports at es s) (λ ls t. tt))
     (λ ls t k. subst (λ (ws : List Waiting). Gave (λ r u. r.run ≡ []) (after (finish_all go 0 ws t) (λ lines. give_record at ls lines))) (sym none)
@@ -324,17 +324,17 @@ top-bare : (at : TopAt) (es : List (List ℕ × Tree)) (forms : List Tree) (star
 unfolding top first_pass
 top-bare at es forms start n mine keyed found are =
     let place = body_at at start.library in
-    gave-after (λ d t. d.waiting ≡ []) (λ r t. r.run ≡ []) (splice (inside [] full_room) place 0 begun (map (stamp at.frame) forms) start) (finished (inside [] full_room) at es)
+    gave-after (λ d t. d.waiting ≡ []) (λ r t. r.run ≡ []) (splice (inside [] full_room) place 0 begun (map (stamp at.frame) forms) start) (second_pass (inside [] full_room) at es)
     (definitions-leave start.library [] (most_round + 1) place (λ e. refl) mine start (map (stamp at.frame) forms) n keyed found (definitions-stamped at.frame forms are))
     (λ d t k. finished-bare (inside [] full_room) at es d t k)
 
-pub no-lines : (own : LibName) (path : List ℕ) (imports : List (List ℕ × Label)) (version : List ℕ) (place : Span) (es : List (List ℕ × Tree)) (forms : List Tree) (codes : Codes) (r : LibRecord)
+pub no-lines : (own : LibName) (path : List ℕ) (imports : List (List ℕ × Label)) (version : List ℕ) (place : Span) (es : List (List ℕ × Tree)) (forms : List Tree) (codes : Codes) (r : CompiledLibrary)
     → label_at (started own [] imports codes).frames (first_frame own) word [] ≡ Some defining → (started own [] imports codes).names.library ≡ (started own [] imports codes).library → (started own [] imports codes).library ≡ own → AreKeyed own (started own [] imports codes).frames
     → Each (IsDefinition blank) forms
     → library_record (ready own path [] imports codes) [] version place es forms ≡ Ok r → r.run ≡ []
 no-lines own path imports version place es forms codes r found same lib keyed are e =
     by (top (inside [] full_room) (body_of (ready own path [] imports codes) version place) es forms (started own [] imports codes)) (top-bare (body_of (ready own path [] imports codes) version place) es forms (started own [] imports codes) same (sym lib) (subst (λ (k : LibName). AreKeyed k (started own [] imports codes).frames) (sym lib) keyed) found are) e
   where
-    by : (x : Result (LibRecord × State) Fault) → Gave (λ q t. q.run ≡ []) x → record_in x ≡ Ok r → r.run ≡ []
-    by (Ok p) h k = let is : p.0 ≡ r = cc in subst (λ (q : LibRecord). q.run ≡ []) is h
+    by : (x : Result (CompiledLibrary × State) Fault) → Gave (λ q t. q.run ≡ []) x → record_in x ≡ Ok r → r.run ≡ []
+    by (Ok p) h k = let is : p.0 ≡ r = cc in subst (λ (q : CompiledLibrary). q.run ≡ []) is h
     by (Err f) h k = absurd (cc)

@@ -1,7 +1,7 @@
 -- Records that follow one another mention only what is known.
 use Rattle.std.proofs.Common.{List, [], ◌∷◌, ◌++◌, refl, inl, inr}
 use Rattle.std.specs.List.{flat_map}
-use Rattle.sx_core.specs.declared.record.LibRecord.{LibRecord}
+use Rattle.sx_core.specs.declared.record.CompiledLibrary.{CompiledLibrary}
 use Rattle.sx_core_laws.specs.Following.{AllFollow}
 use Rattle.sx_core_laws.specs.Follows.{names_of, export_labels, row_labels, keywords, IsKnown, Suits, Follows}
 use Rattle.sx_core_laws.specs.Records.{defined, LinesClosed}
@@ -16,9 +16,9 @@ use Rattle.sx_run_laws.proofs.FollowLemmas.{records_follow_in_runs}
 use Rattle.sx_run_laws.proofs.ImportsFollow.{known_among, one_more}
 use Rattle.sx_run_laws.proofs.WiderLemmas.{AreAmong, all_wider, names_wider}
 
-module _ (all : List LibRecord) (closed : Each (LinesClosed (flat_map defined all)) all) where
+module _ (all : List CompiledLibrary) (closed : Each (LinesClosed (flat_map defined all)) all) where
   -- one of them, behind some of them
-  one_mentions : (earlier : List LibRecord) (r : LibRecord) → AreAmong earlier all → Among all r → Follows r earlier → MentionsTheKnown all r
+  one_mentions : (earlier : List CompiledLibrary) (r : CompiledLibrary) → AreAmong earlier all → Among all r → Follows r earlier → MentionsTheKnown all r
   one_mentions earlier r w here h = record {
     exports = each-map (IsKnown r earlier) (IsKnownBefore all) (export_labels r) h.labels.exports (known_among all earlier r w here);
     rows = each-map (IsKnown r earlier) (IsKnownBefore all) (row_labels r) h.labels.rows (known_among all earlier r w here);
@@ -28,14 +28,14 @@ module _ (all : List LibRecord) (closed : Each (LinesClosed (flat_map defined al
     references = each-map (Among (names_of earlier)) (Among (names_of all)) r.refs h.references.known (λ n a. names_wider earlier all n w a);
   }
 
-  all_mention : (earlier rs : List LibRecord) → AreAmong earlier all → AreAmong rs all → AllFollow earlier rs → Each (MentionsTheKnown all) rs
+  all_mention : (earlier rs : List CompiledLibrary) → AreAmong earlier all → AreAmong rs all → AllFollow earlier rs → Each (MentionsTheKnown all) rs
   all_mention earlier [] before these h = tt
   all_mention earlier (r ∷ rs) before these h = (
     one_mentions earlier r before (these r (inl refl)) h.0,
     all_mention (earlier ++ r ∷ []) rs (one_more all earlier r before (these r (inl refl))) (λ q a. these q (inr a)) h.1,
   )
 
-pub followers_mention : (rs : List LibRecord) → AllFollow [] rs → Each (MentionsTheKnown rs) rs
+pub followers_mention : (rs : List CompiledLibrary) → AllFollow [] rs → Each (MentionsTheKnown rs) rs
 followers_mention rs h = all_mention rs (followers_closed rs h) [] rs (λ q a. elim a [ ]) (λ q a. a) h
 
 pub runs_mention_the_known : RunsMentionTheKnown

@@ -3,7 +3,7 @@ use Rattle.std.proofs.Common.{◌≡◌, ℕ, List, [], ◌∷◌, ◌++◌, Res
 use Rattle.sx_base.specs.Gives.{◌>>=◌}
 use Rattle.sx_base.specs.declared.fault.Fault.{Fault}
 use Rattle.sx_core.specs.declared.link.Link.{Link}
-use Rattle.sx_core.specs.declared.record.LibRecord.{LibRecord}
+use Rattle.sx_core.specs.declared.record.CompiledLibrary.{CompiledLibrary}
 use Rattle.sx_derived.specs.Derived.{derived_record}
 use Rattle.sx_eval.specs.Codes.{Codes}
 use Rattle.sx_expand.specs.declared.top.Linked.{Linked}
@@ -25,7 +25,7 @@ use Rattle.sx_xref.specs.Map.{binding_map}
 use Rattle.sx_xref.specs.Text.{xref_text}
 
 -- the records without the links
-abbrev pub recorded : Result Gathered Fault → Result (List LibRecord) Fault
+abbrev pub recorded : Result Gathered Fault → Result (List CompiledLibrary) Fault
 recorded (Ok all) = Ok all.records
 recorded (Err f) = Err f
 
@@ -33,7 +33,7 @@ next-recorded : (all : Gathered) (l : Result Linked Fault) → recorded (l >>= (
 next-recorded all (Ok l) = refl
 next-recorded all (Err f) = refl
 
-then-recorded : (r : Result Gathered Fault) (f : Gathered → Result Gathered Fault) (g : List LibRecord → Result (List LibRecord) Fault)
+then-recorded : (r : Result Gathered Fault) (f : Gathered → Result Gathered Fault) (g : List CompiledLibrary → Result (List CompiledLibrary) Fault)
     → ((all : Gathered) → recorded (f all) ≡ g all.records) → recorded (r >>= f) ≡ (recorded r >>= g)
 then-recorded (Ok all) f g h = h all
 then-recorded (Err e) f g h = refl
@@ -42,7 +42,7 @@ module _ (prelude : Result Codes Fault) where
   next-alone : (all : Gathered) (row : List ℕ × Found) → recorded (link_next prelude all row) ≡ expand_next prelude all.records row
   next-alone all row =
       next-recorded all (link_found prelude all.records row.1 (library_body row.1.opened.«data»))
-      ∙ ap (λ r. r >>= (λ (x : LibRecord). Ok (all.records ++ x ∷ []))) (found_alone prelude all.records row.1 (library_body row.1.opened.«data»))
+      ∙ ap (λ r. r >>= (λ (x : CompiledLibrary). Ok (all.records ++ x ∷ []))) (found_alone prelude all.records row.1 (library_body row.1.opened.«data»))
 
   rows-alone : (rows : List (List ℕ × Found)) (all : Gathered) → recorded (turns (link_next prelude) all rows) ≡ turns (expand_next prelude) all.records rows
   rows-alone [] all = refl
@@ -53,7 +53,7 @@ module _ (prelude : Result Codes Fault) where
   pub all-alone : (rows : List (List ℕ × Found)) → recorded (all_linked prelude rows) ≡ all_records prelude rows
   all-alone rows = by (derived_record prelude)
     where
-      by : (d : Result LibRecord Fault)
+      by : (d : Result CompiledLibrary Fault)
           → recorded ((d >>= (λ r. Ok (let g : Gathered = record { records = r ∷ []; links = [] } in g))) >>= (λ all. turns (link_next prelude) all rows)) ≡ (d >>= (λ r. turns (expand_next prelude) (r ∷ []) rows))
       by (Ok r) = rows-alone rows (record { records = r ∷ []; links = [] })
       by (Err f) = refl
@@ -74,14 +74,14 @@ module _ (prelude : Result Codes Fault) where
           → Told (λ (u : Unit {0}). Unit {0}) (expand_found prelude g.records found (program_body found.opened.«data») >>= (λ program. Ok tt))
           → Told (λ links. Unit {0}) (l >>= (λ x. Ok (g.links ++ x.links)))
       last g (Ok l) e k = tt
-      last g (Err f) e k = subst (λ (r : Result LibRecord Fault). Told (λ (u : Unit {0}). Unit {0}) (r >>= (λ program. Ok tt))) (sym e) k
+      last g (Err f) e k = subst (λ (r : Result CompiledLibrary Fault). Told (λ (u : Unit {0}). Unit {0}) (r >>= (λ program. Ok tt))) (sym e) k
 
       all : (g : Result Gathered Fault) → recorded g ≡ all_records prelude rows → Told (λ links. Unit {0}) (g >>= (λ x. body x >>= (λ l. Ok (x.links ++ l.links))))
       all (Ok g) e =
           last g (body g) (found_alone prelude g.records found (program_body found.opened.«data»))
-          (subst (λ (r : Result (List LibRecord) Fault). Told (λ (u : Unit {0}). Unit {0}) (r >>= (λ records. expand_found prelude records found (program_body found.opened.«data») >>= (λ program. Ok tt)))) (sym e) h)
+          (subst (λ (r : Result (List CompiledLibrary) Fault). Told (λ (u : Unit {0}). Unit {0}) (r >>= (λ records. expand_found prelude records found (program_body found.opened.«data») >>= (λ program. Ok tt)))) (sym e) h)
       all (Err f) e =
-          subst (λ (r : Result (List LibRecord) Fault). Told (λ (u : Unit {0}). Unit {0}) (r >>= (λ records. expand_found prelude records found (program_body found.opened.«data») >>= (λ program. Ok tt)))) (sym e) h
+          subst (λ (r : Result (List CompiledLibrary) Fault). Told (λ (u : Unit {0}). Unit {0}) (r >>= (λ records. expand_found prelude records found (program_body found.opened.«data») >>= (λ program. Ok tt)))) (sym e) h
 
 -- ---- the faults of maps and of texts
 
@@ -97,7 +97,7 @@ ok-err x f h = cc
 
 module _ (prelude : Result Codes Fault) (rows : List (List ℕ × Found)) (found : Found) where
   -- what comes behind records: the text, and the links
-  abbrev text-of : List LibRecord → Result (List ℕ) Fault
+  abbrev text-of : List CompiledLibrary → Result (List ℕ) Fault
   text-of records = expand_found prelude records found (program_body found.opened.«data») >>= (λ program. planned_text records program)
 
   abbrev linked-of : Gathered → Result Linked Fault

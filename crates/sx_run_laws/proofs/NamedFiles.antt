@@ -16,7 +16,7 @@ use Rattle.sx_forms.specs.All.{given}
 use Rattle.sx_forms.specs.Export.{exported}
 use Rattle.sx_forms.specs.Form.{form_of, not_library, or_fault, import_specs, export_specs, library_with, library_of, library_parts, library_in, read_library}
 use Rattle.sx_forms.specs.Name.{leading, behind, version_in, named_by, named}
-use Rattle.sx_forms.specs.Set.{place_of}
+use Rattle.sx_forms.specs.Set.{datum_place}
 use Rattle.sx_forms.specs.Version.{version_fits}
 use Rattle.sx_forms.specs.declared.form.LibraryForm.{LibraryForm}
 use Rattle.sx_forms.specs.declared.name.VersionedName.{VersionedName}
@@ -91,7 +91,7 @@ module _ (file : List ℕ) where
   parts-user f name None es is h = tt
   parts-user f name (Some n) None is h = tt
   parts-user f name (Some n) (Some es) None h = tt
-  parts-user f name (Some n) (Some es) (Some is) h = form-user (place_of file name) es is n h
+  parts-user f name (Some n) (Some es) (Some is) h = form-user (datum_place file name) es is n h
 
   in-user : (f : Fault) (ds : List PlainDatum) → Gives UserForm (library_in file f ds)
   in-user f [] = tt

@@ -7,7 +7,7 @@ use Rattle.sx_base.specs.declared.library.LibName.{LibName}
 use Rattle.sx_base.specs.declared.name.CodeNo.{CodeNo}
 use Rattle.sx_base.specs.declared.name.Label.{Label}
 use Rattle.sx_base.specs.declared.span.Span.{Span}
-use Rattle.sx_core.specs.declared.record.LibRecord.{LibRecord}
+use Rattle.sx_core.specs.declared.record.CompiledLibrary.{CompiledLibrary}
 use Rattle.sx_core_laws.specs.Records.{defined}
 use Rattle.sx_core_laws.specs.Words.{Each}
 use Rattle.sx_expand.specs.Body.{item}
@@ -96,7 +96,7 @@ module _ (own : LibName) (test : State → Bool) (go : Inside) where
       item = λ at depth d t s low b a. gave-unless (λ e u. Onward own given s u × AreUnspent own u (taken_labels e)) (test-at at) at.place (go.item at depth d t) s (k.item at depth d t s low b a);
     }
 
-  module _ (texts : List CodeNo) (rs : List LibRecord) (passes : (s : State) → B own texts rs s → Safe own texts rs s → test s ≡ true) where
+  module _ (texts : List CodeNo) (rs : List CompiledLibrary) (passes : (s : State) → B own texts rs s → Safe own texts rs s → test s ≡ true) where
     passes-at : (at : BodyAt) (s : State) → Placed own at → B own texts rs s → Safe own texts rs s → test-at at s ≡ true
     passes-at at s low b h = both-true (test s) (same_library at.frame.0.library own) (passes s b h) ((same_library_decides at.frame.0.library own).1 low.1)
 
@@ -127,7 +127,7 @@ spared own s (l ∷ ls) h = ((h.0.made, (λ x. h.0.unnamed x.0 x.1.0 x.1.1.0 x.1
 
 -- ---- the laws
 
-module _ (own : LibName) (texts : List CodeNo) (rs : List LibRecord) (test : State → Bool) (room : ℕ) (passes : PassesWhole own texts rs test) (x : Around own texts rs) where
+module _ (own : LibName) (texts : List CodeNo) (rs : List CompiledLibrary) (test : State → Bool) (room : ℕ) (passes : PassesWhole own texts rs test) (x : Around own texts rs) where
   with-test-holds : Holds own texts rs (with_entry_test own test (inside rs room))
   with-test-holds = holds-with-test own test (inside rs room) texts rs (λ s b h. passes s (record { around = x; good = b; steady = h })) (inside-holds own texts rs x room)
 

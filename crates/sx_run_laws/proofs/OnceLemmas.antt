@@ -5,7 +5,7 @@ use Rattle.std.specs.List.{flat_map}
 use Rattle.sx_base.specs.declared.library.LibName.{LibName}
 use Rattle.sx_base.specs.declared.name.CodeNo.{CodeNo}
 use Rattle.sx_base.specs.declared.name.Label.{Label}
-use Rattle.sx_core.specs.declared.record.LibRecord.{LibRecord}
+use Rattle.sx_core.specs.declared.record.CompiledLibrary.{CompiledLibrary}
 use Rattle.sx_core_laws.specs.Following.{AllFollow}
 use Rattle.sx_core_laws.specs.Follows.{names_of, Key, key_of, export_names, bound_labels, all_binders, all_numbers, Follows}
 use Rattle.sx_core_laws.specs.Words.{Each, Among, Once}
@@ -18,30 +18,30 @@ use Rattle.sx_run_laws.proofs.FollowLemmas.{records_follow_in_runs}
 
 -- ---- each name once
 
-names_new : (earlier rs : List LibRecord) → AllFollow earlier rs → (n : LibName) → Among (names_of earlier) n → Among (names_of rs) n → ⊥
+names_new : (earlier rs : List CompiledLibrary) → AllFollow earlier rs → (n : LibName) → Among (names_of earlier) n → Among (names_of rs) n → ⊥
 names_new earlier [] h n a b = elim b [ ]
 names_new earlier (r ∷ rs) h n a (inl e) = h.0.named.new (subst (Among (names_of earlier)) e a)
 names_new earlier (r ∷ rs) h n a (inr b) = names_new (earlier ++ r ∷ []) rs h.1 n (names_first earlier (r ∷ []) n a) b
 
-names_once : (earlier rs : List LibRecord) → AllFollow earlier rs → Once (names_of rs)
+names_once : (earlier rs : List CompiledLibrary) → AllFollow earlier rs → Once (names_of rs)
 names_once earlier [] h = tt
 names_once earlier (r ∷ rs) h = ((λ a. names_new (earlier ++ r ∷ []) rs h.1 r.name (names_second earlier (r ∷ []) r.name (inl refl)) a), names_once (earlier ++ r ∷ []) rs h.1)
 
 -- what holds of each record that follows others
-each_follower : (P : LibRecord → Type 0) → ((r : LibRecord) (before : List LibRecord) → Follows r before → P r) → (earlier rs : List LibRecord) → AllFollow earlier rs → Each P rs
+each_follower : (P : CompiledLibrary → Type 0) → ((r : CompiledLibrary) (before : List CompiledLibrary) → Follows r before → P r) → (earlier rs : List CompiledLibrary) → AllFollow earlier rs → Each P rs
 each_follower P one earlier [] h = tt
 each_follower P one earlier (r ∷ rs) h = (one r earlier h.0, each_follower P one (earlier ++ r ∷ []) rs h.1)
 
 -- ---- what each has is its own, and stands in it once
 
-module _ {A : Type 0} (of : LibRecord → List A) (library : A → LibName) where
-  abbrev AreOwn : LibRecord → Type 0
+module _ {A : Type 0} (of : CompiledLibrary → List A) (library : A → LibName) where
+  abbrev AreOwn : CompiledLibrary → Type 0
   AreOwn r = Each (λ (x : A). library x ≡ r.name) (of r)
 
-  abbrev AreOnce : LibRecord → Type 0
+  abbrev AreOnce : CompiledLibrary → Type 0
   AreOnce r = Once (of r)
 
-  library_named : (rs : List LibRecord) → Each AreOwn rs → (x : A) → Among (flat_map of rs) x → Among (names_of rs) (library x)
+  library_named : (rs : List CompiledLibrary) → Each AreOwn rs → (x : A) → Among (flat_map of rs) x → Among (names_of rs) (library x)
   library_named [] own x a = elim a [ ]
   library_named (r ∷ rs) own x a = by (among-parts (of r) (flat_map of rs) x a) (library_named rs own.1 x)
     where
@@ -49,7 +49,7 @@ module _ {A : Type 0} (of : LibRecord → List A) (library : A → LibName) wher
       by (inl b) rest = inl (each-at (λ (y : A). library y ≡ r.name) (of r) x own.0 b)
       by (inr b) rest = inr (rest b)
 
-  all_once : (rs : List LibRecord) → Once (names_of rs) → Each AreOwn rs → Each AreOnce rs → Once (flat_map of rs)
+  all_once : (rs : List CompiledLibrary) → Once (names_of rs) → Each AreOwn rs → Each AreOnce rs → Once (flat_map of rs)
   all_once [] names own once = tt
   all_once (r ∷ rs) names own once =
       once-append (of r) (flat_map of rs) once.0 (all_once rs names.1 own.1 once.1)
@@ -64,11 +64,11 @@ code_library n = n.0.library
 abbrev key_library : Key → LibName
 key_library k = k.0.0.library
 
-keys_own : (r : LibRecord) (rows : List FrameRow) → Each (λ (f : FrameRow). f.frame.0.library ≡ r.name) rows → Each (λ (k : Key). key_library k ≡ r.name) (map key_of rows)
+keys_own : (r : CompiledLibrary) (rows : List FrameRow) → Each (λ (f : FrameRow). f.frame.0.library ≡ r.name) rows → Each (λ (k : Key). key_library k ≡ r.name) (map key_of rows)
 keys_own r [] h = tt
 keys_own r (f ∷ rows) h = (h.0, keys_own r rows h.1)
 
-pub followers_name_once : (rs : List LibRecord) → AllFollow [] rs → NameOnce rs
+pub followers_name_once : (rs : List CompiledLibrary) → AllFollow [] rs → NameOnce rs
 followers_name_once rs h =
     let names = names_once [] rs h in
     record {
@@ -76,7 +76,7 @@ followers_name_once rs h =
       binders = all_once all_binders label_library rs names (each_follower (AreOwn all_binders label_library) (λ r b f. f.own.own_binders) [] rs h) (each_follower (AreOnce all_binders label_library) (λ r b f. f.own.binders_once) [] rs h);
       codes = all_once all_numbers code_library rs names (each_follower (AreOwn all_numbers code_library) (λ r b f. f.own.own_codes) [] rs h) (each_follower (AreOnce all_numbers code_library) (λ r b f. f.own.codes_once) [] rs h);
       rows = all_once row_keys key_library rs names (each_follower (AreOwn row_keys key_library) (λ r b f. keys_own r r.frames f.own.own_frames) [] rs h) (each_follower (AreOnce row_keys key_library) (λ r b f. f.own.rows_once) [] rs h);
-      exports = each_follower (λ (r : LibRecord). Once (export_names r)) (λ r b f. f.named.exports_once) [] rs h;
+      exports = each_follower (λ (r : CompiledLibrary). Once (export_names r)) (λ r b f. f.named.exports_once) [] rs h;
     }
 
 pub runs_name_once : RunsNameOnce

@@ -11,7 +11,7 @@ use Rattle.sx_base.specs.declared.library.LibName.TheVariants as library
 use Rattle.sx_base.specs.declared.span.Span.{Span}
 use Rattle.sx_builtin.specs.Exports.{exports, derived}
 use Rattle.sx_builtin.specs.declared.derived.TheConstants.{DERIVED_SOURCE}
-use Rattle.sx_core.specs.declared.record.LibRecord.{LibRecord}
+use Rattle.sx_core.specs.declared.record.CompiledLibrary.{CompiledLibrary}
 use Rattle.sx_derived.specs.Derived as derived_forms
 use Rattle.sx_derived.specs.Derived.{forms_of, record_of, derived_record}
 use Rattle.sx_derived.specs.Names.{path, start, names, exports_of}
@@ -88,20 +88,20 @@ syntax-other e = absurd (cc)
 fitting-other : {A : Type 0} (version : List ℕ) (set : ImportSet) (x : A) → Tells IsOther (fitting version set x)
 fitting-other version set x = o-if (version_fits version set.version) _ _ tt version-other
 
-refer-other : (records : List LibRecord) (set : ImportSet) → Tells IsOther (referred records set)
+refer-other : (records : List CompiledLibrary) (set : ImportSet) → Tells IsOther (referred records set)
 refer-other records set = o-if (is_some (exports set.library)) _ _ (fitting-other builtin_version set tt) (by (named set.library records))
   where
-    by : (o : Option LibRecord) → Tells IsOther (record_referred set o)
+    by : (o : Option CompiledLibrary) → Tells IsOther (record_referred set o)
     by None = library-found-other
     by (Some r) = fitting-other r.version set tt
 
-import-other : (records : List LibRecord) (names : Labelled) (i : Import) → Tells IsOther (import_into records names i)
+import-other : (records : List CompiledLibrary) (names : Labelled) (i : Import) → Tells IsOther (import_into records names i)
 import-other records names i =
     let es = exported records i.set.library in
     o-then (import_names i.set i.span es) (λ more. joined i.span names more) (tells-less IsOfImports IsOther other-imports (import_names i.set i.span es) (imports-tell i.set i.span es))
     (λ more. tells-less IsOfImports IsOther other-imports (joined i.span names more) (joins-tell i.span names more))
 
-names-other : (records : List LibRecord) (is : List Import) → Tells IsOther (form_names records is)
+names-other : (records : List CompiledLibrary) (is : List Import) → Tells IsOther (form_names records is)
 unfolding form_names
 names-other records is =
     o-then (turns (refer records) tt is) (λ done. turns (import_into records) [] is) (tells-turns IsOther (refer records) (λ s i. refer-other records i.set) tt is)
@@ -132,7 +132,7 @@ trees-other place done (d ∷ ds) =
 
 -- ---- a library or a program
 
-module _ (prelude : Result Codes Fault) (read : AreRead prelude) (records : List LibRecord) (all : AllBehind [] records) (form : LibraryForm) (is_ready : IsReady form.name records)
+module _ (prelude : Result Codes Fault) (read : AreRead prelude) (records : List CompiledLibrary) (all : AllBehind [] records) (form : LibraryForm) (is_ready : IsReady form.name records)
     (no_text : IsOfTexts form.name → ⊥) (path : List ℕ) where
   pub library-other : (body : List PlainDatum) → Tells IsOther (expand_library prelude records path form body)
   unfolding expand_library

@@ -4,7 +4,7 @@ use Rattle.std.specs.Prelude.{slice_get}
 use Rattle.sx_base.specs.Gives.{◌>>=◌}
 use Rattle.sx_core.specs.Core as core
 use Rattle.sx_core.specs.Core.{PlainCore, PlainCores, PlainInits, PlainCases}
-use Rattle.sx_core.specs.declared.record.LibRecord.{LibRecord}
+use Rattle.sx_core.specs.declared.record.CompiledLibrary.{CompiledLibrary}
 use Rattle.sx_core.specs.declared.record.Line.{Line}
 use Rattle.sx_core.specs.declared.record.Line.TheVariants as line
 use Rattle.sx_core_text.specs.Syntax.{checked, all_checked, inits_checked, cases_checked, line_checked, lines_checked}
@@ -48,14 +48,14 @@ lines : (xs : List Line) → Tells IsOther (lines_checked xs)
 lines [] = tt
 lines (x ∷ xs) = o-then (line_checked x) (λ _. lines_checked xs) (one-line x) (λ _. lines xs)
 
-of-record : (o : Option LibRecord) → Tells IsOther (record_checked o)
+of-record : (o : Option CompiledLibrary) → Tells IsOther (record_checked o)
 of-record None = tt
 of-record (Some r) = lines r.run
 
-plan : (records : List LibRecord) (ps : List ℕ) → Tells IsOther (plan_checked records ps)
+plan : (records : List CompiledLibrary) (ps : List ℕ) → Tells IsOther (plan_checked records ps)
 plan records [] = tt
 plan records (p ∷ ps) = o-then (record_checked (slice_get records p)) (λ _. plan_checked records ps) (of-record (slice_get records p)) (λ _. plan records ps)
 
-pub text-other : (records : List LibRecord) (ps : List ℕ) (program : LibRecord) → Tells IsOther (core_text records ps program)
+pub text-other : (records : List CompiledLibrary) (ps : List ℕ) (program : CompiledLibrary) → Tells IsOther (core_text records ps program)
 text-other records ps program =
     o-then (plan_checked records ps) _ (plan records ps) (λ _. o-then (lines_checked program.run) (λ _. Ok (all_text (all_names records ps program) records ps program)) (lines program.run) (λ _. tt))

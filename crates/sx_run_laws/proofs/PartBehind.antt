@@ -3,7 +3,7 @@ use Rattle.std.proofs.Common.{◌≡◌, ℕ, zero, suc, ◌+◌, ◌<◌, Bool,
 use Rattle.std.specs.Prelude.{◌⊎◌, slice_get}
 use Rattle.sx_base.specs.declared.library.LibName.{LibName}
 use Rattle.sx_base.specs.declared.library.LibName.TheVariants as library
-use Rattle.sx_core.specs.declared.record.LibRecord.{LibRecord}
+use Rattle.sx_core.specs.declared.record.CompiledLibrary.{CompiledLibrary}
 use Rattle.sx_core_laws.specs.Follows.{names_of}
 use Rattle.sx_core_laws.specs.Words.{Among}
 use Rattle.sx_expand_laws.specs.Serves.{Serves, AllServe}
@@ -42,27 +42,27 @@ earlier-there (a ∷ xs) (suc p) zero x less h = absurd (omega (arith, less))
 earlier-there (a ∷ xs) (suc p) (suc k) x less h = earlier-there xs p k x (omega (arith, less)) h
 
 -- names of some records are names of records among which they are
-names-within : (xs ys : List LibRecord) → ((r : LibRecord) → Among xs r → Among ys r) → (n : LibName) → Among (names_of xs) n → Among (names_of ys) n
+names-within : (xs ys : List CompiledLibrary) → ((r : CompiledLibrary) → Among xs r → Among ys r) → (n : LibName) → Among (names_of xs) n → Among (names_of ys) n
 names-within xs ys within n a = let x = named_among xs n a in subst (Among (names_of ys)) x.name (name_among ys x.record_of (within x.record_of x.among))
 
 -- The records that a library needs, behind that of the derived library: those of these that it marks.
-abbrev pub Behind : LibRecord → List LibRecord → Found → List LibRecord
+abbrev pub Behind : CompiledLibrary → List CompiledLibrary → Found → List CompiledLibrary
 Behind d others f = d ∷ records_at others (needed f)
 
 -- The record of a library of a part of a run: it stands behind what the library needs of the records before it.
-pub record IsMadeBehind (d : LibRecord) (others : List LibRecord) (f : Found) (r : LibRecord) : Type 0 where
-  pub before : List LibRecord
-  pub after : List LibRecord
+pub record IsMadeBehind (d : CompiledLibrary) (others : List CompiledLibrary) (f : Found) (r : CompiledLibrary) : Type 0 where
+  pub before : List CompiledLibrary
+  pub after : List CompiledLibrary
   pub parts : others ≡ before ++ after
   pub stands : Stands (Behind d before f) f.opened.form.name r
   pub behind : IsBehind (Behind d before f) r
 
 -- so it is with each record that there is
-abbrev pub AllMadeBehind : Loading → LibRecord → List LibRecord → Type 0
-AllMadeBehind s d others = (i : ℕ) (file : List ℕ) (f : Found) (r : LibRecord) → IsAt s.done i file f → slice_get others i ≡ Some r → IsMadeBehind d others f r
+abbrev pub AllMadeBehind : Loading → CompiledLibrary → List CompiledLibrary → Type 0
+AllMadeBehind s d others = (i : ℕ) (file : List ℕ) (f : Found) (r : CompiledLibrary) → IsAt s.done i file f → slice_get others i ≡ Some r → IsMadeBehind d others f r
 
-module _ (s : Loading) (sound : IsSound s) (users : AllUsers s.done) (d : LibRecord) (first : Stands [] library.Derived d) (first_behind : IsBehind [] d)
-    (others : List LibRecord) (made : AllMadeBehind s d others) where
+module _ (s : Loading) (sound : IsSound s) (users : AllUsers s.done) (d : CompiledLibrary) (first : Stands [] library.Derived d) (first_behind : IsBehind [] d)
+    (others : List CompiledLibrary) (made : AllMadeBehind s d others) where
   -- libraries of one name stand at one place
   pub one-place : (i j : ℕ) (file other : List ℕ) (f g : Found) → IsAt s.done i file f → IsAt s.done j other g → f.opened.form.name ≡ g.opened.form.name → i ≡ j
   one-place i j file other f g at to e =
@@ -71,55 +71,55 @@ module _ (s : Loading) (sound : IsSound s) (users : AllUsers s.done) (d : LibRec
 
   module _ (f : Found) (closed : NeedsAreClosed s.done f) where
     -- a record at a place before this one
-    record IsBelow (k : ℕ) (x : LibRecord) : Type 0 where
+    record IsBelow (k : ℕ) (x : CompiledLibrary) : Type 0 where
       place : ℕ
       less : place < k
       there : slice_get others place ≡ Some x
 
     -- the record of the derived library, and those that are needed below a place, and no more
-    record Has (done : List LibRecord) (k : ℕ) : Type 0 where
+    record Has (done : List CompiledLibrary) (k : ℕ) : Type 0 where
       derived : Among done d
-      below : (p : ℕ) (x : LibRecord) → p < k → Needs f p → slice_get others p ≡ Some x → Among done x
-      only : (x : LibRecord) → Among done x → (x ≡ d) ⊎ IsBelow k x
+      below : (p : ℕ) (x : CompiledLibrary) → p < k → Needs f p → slice_get others p ≡ Some x → Among done x
+      only : (x : CompiledLibrary) → Among done x → (x ≡ d) ⊎ IsBelow k x
 
-    still-below : (k : ℕ) (x : LibRecord) → (x ≡ d) ⊎ IsBelow k x → (x ≡ d) ⊎ IsBelow (suc k) x
+    still-below : (k : ℕ) (x : CompiledLibrary) → (x ≡ d) ⊎ IsBelow k x → (x ≡ d) ⊎ IsBelow (suc k) x
     still-below k x (inl e) = inl e
     still-below k x (inr b) = let l = b.less in inr (record { place = b.place; less = omega (arith, l); there = b.there })
 
-    has-past : (done : List LibRecord) (k : ℕ) → Has done k → ((x : LibRecord) → Needs f k → slice_get others k ≡ Some x → ⊥) → Has done (suc k)
+    has-past : (done : List CompiledLibrary) (k : ℕ) → Has done k → ((x : CompiledLibrary) → Needs f k → slice_get others k ≡ Some x → ⊥) → Has done (suc k)
     has-past done k has none = record { derived = has.derived; below = λ p x less need at. by p x (below-next p k less) need at; only = λ x a. still-below k x (has.only x a) }
       where
-        by : (p : ℕ) (x : LibRecord) → (p < k) ⊎ (p ≡ k) → Needs f p → slice_get others p ≡ Some x → Among done x
+        by : (p : ℕ) (x : CompiledLibrary) → (p < k) ⊎ (p ≡ k) → Needs f p → slice_get others p ≡ Some x → Among done x
         by p x (inl l) need at = has.below p x l need at
         by p x (inr e) need at = absurd (none x (subst (Needs f) e need) (subst (λ i. slice_get others i ≡ Some x) e at))
 
-    has-new : (done : List LibRecord) (k : ℕ) (r : LibRecord) → Has done k → slice_get others k ≡ Some r → Has (done ++ r ∷ []) (suc k)
+    has-new : (done : List CompiledLibrary) (k : ℕ) (r : CompiledLibrary) → Has done k → slice_get others k ≡ Some r → Has (done ++ r ∷ []) (suc k)
     has-new done k r has here = record {
       derived = among_first done (r ∷ []) d has.derived;
       below = λ p x less need at. by p x (below-next p k less) need at;
       only = λ x a. to x (among_parts done (r ∷ []) x a);
     }
       where
-        by : (p : ℕ) (x : LibRecord) → (p < k) ⊎ (p ≡ k) → Needs f p → slice_get others p ≡ Some x → Among (done ++ r ∷ []) x
+        by : (p : ℕ) (x : CompiledLibrary) → (p < k) ⊎ (p ≡ k) → Needs f p → slice_get others p ≡ Some x → Among (done ++ r ∷ []) x
         by p x (inl l) need at = among_first done (r ∷ []) x (has.below p x l need at)
         by p x (inr e) need at =
             let there : slice_get others k ≡ Some x = subst (λ i. slice_get others i ≡ Some x) e at in
             let same : x ≡ r = cc in
             among_second done (r ∷ []) x (inl same)
 
-        to : (x : LibRecord) → Among done x ⊎ Among (r ∷ []) x → (x ≡ d) ⊎ IsBelow (suc k) x
+        to : (x : CompiledLibrary) → Among done x ⊎ Among (r ∷ []) x → (x ≡ d) ⊎ IsBelow (suc k) x
         to x (inl a) = still-below k x (has.only x a)
         to x (inr (inr a)) = absurd a
-        to x (inr (inl e)) = inr (record { place = k; less = omega arith; there = subst (λ (y : LibRecord). slice_get others k ≡ Some y) (sym e) here })
+        to x (inr (inl e)) = inr (record { place = k; less = omega arith; there = subst (λ (y : CompiledLibrary). slice_get others k ≡ Some y) (sym e) here })
 
     -- ---- one of these records
 
-    module _ (done : List LibRecord) (k : ℕ) (r : LibRecord) (has : Has done k) (need : Needs f k) (at : slice_get others k ≡ Some r) where
+    module _ (done : List CompiledLibrary) (k : ℕ) (r : CompiledLibrary) (has : Has done k) (need : Needs f k) (at : slice_get others k ≡ Some r) where
       -- it stands behind records that are there: what its library needs is needed, and came before it
       here : IsMadeBehind d others (closed k need).library r
       here = let n = closed k need in made k n.file n.library r n.there at
 
-      within : (y : LibRecord) → Among (Behind d here.before (closed k need).library) y → Among done y
+      within : (y : CompiledLibrary) → Among (Behind d here.before (closed k need).library) y → Among done y
       within y (inl e) = subst (Among done) (sym e) has.derived
       within y (inr a) =
           let n = closed k need in
@@ -129,15 +129,15 @@ module _ (s : Loading) (sound : IsSound s) (users : AllUsers s.done) (d : LibRec
           let place = sound.once.in_order k n.file n.library n.there in
           let less : z.place < k = omega (arith, earlier, place) in
           let there : slice_get here.before z.place ≡ Some y = subst (λ p. slice_get here.before p ≡ Some y) same z.there in
-          has.below z.place y less (n.also z.place z.marked) (subst (λ (rs : List LibRecord). slice_get rs z.place ≡ Some y) (sym here.parts) (at_first here.before here.after z.place y there))
+          has.below z.place y less (n.also z.place z.marked) (subst (λ (rs : List CompiledLibrary). slice_get rs z.place ≡ Some y) (sym here.parts) (at_first here.before here.after z.place y there))
 
       new-here : Among (names_of done) r.name → ⊥
       new-here a = let x = named_among done r.name a in by x.record_of x.name (has.only x.record_of x.among)
         where
-          by : (x : LibRecord) → x.name ≡ r.name → (x ≡ d) ⊎ IsBelow k x → ⊥
+          by : (x : CompiledLibrary) → x.name ≡ r.name → (x ≡ d) ⊎ IsBelow k x → ⊥
           by x e (inl same) =
               let n = closed k need in
-              user-no-derived n.library.opened.form.name (users k n.file n.library n.there) (sym here.stands.named ∙ sym e ∙ ap (λ (y : LibRecord). y.name) same ∙ first.named)
+              user-no-derived n.library.opened.form.name (users k n.file n.library n.there) (sym here.stands.named ∙ sym e ∙ ap (λ (y : CompiledLibrary). y.name) same ∙ first.named)
           by x e (inr b) =
               let n = closed k need in
               let l = earlier-there s.done b.place k (n.file, n.library) b.less n.there in
@@ -164,10 +164,10 @@ module _ (s : Loading) (sound : IsSound s) (users : AllUsers s.done) (d : LibRec
     marks-on : (k : ℕ) (m : Bool) (ms : List Bool) → AreMarks k (m ∷ ms) → AreMarks (suc k) ms
     marks-on k m ms same p = let e : k + suc p ≡ suc k + p = omega arith in same (suc p) ∙ ap (slice_get f.needs) e
 
-    abbrev Both : List LibRecord → List LibRecord → Type 0
+    abbrev Both : List CompiledLibrary → List CompiledLibrary → Type 0
     Both done rest = AllServe done rest × AllBehind done rest
 
-    walk : (k : ℕ) (ms : List Bool) (done : List LibRecord) → AreMarks k ms → Has done k → Both done (records_at others (places_from k ms))
+    walk : (k : ℕ) (ms : List Bool) (done : List CompiledLibrary) → AreMarks k ms → Has done k → Both done (records_at others (places_from k ms))
     unfolding places_from
     walk k [] done same has = (tt, tt)
     walk k (false ∷ ms) done same has =
@@ -175,7 +175,7 @@ module _ (s : Loading) (sound : IsSound s) (users : AllUsers s.done) (d : LibRec
         walk (suc k) ms done (marks-on k false ms same) (has-past done k has (λ x need at. cc))
     walk k (true ∷ ms) done same has = by (slice_get others k) refl (λ more h. walk (suc k) ms more (marks-on k true ms same) h)
       where
-        by : (o : Option LibRecord) → slice_get others k ≡ o → ((more : List LibRecord) → Has more (suc k) → Both more (records_at others (places_from (suc k) ms)))
+        by : (o : Option CompiledLibrary) → slice_get others k ≡ o → ((more : List CompiledLibrary) → Has more (suc k) → Both more (records_at others (places_from (suc k) ms)))
             → Both done (or_skip o (records_at others (places_from (suc k) ms)))
         by None e rest = rest done (has-past done k has (λ x need at. cc))
         by (Some r) e rest =
@@ -187,7 +187,7 @@ module _ (s : Loading) (sound : IsSound s) (users : AllUsers s.done) (d : LibRec
     all = walk zero f.needs (d ∷ []) (λ p. let e : p ≡ zero + p = omega arith in ap (slice_get f.needs) e)
         (record { derived = inl refl; below = λ p x less need at. absurd (omega (arith, less)); only = λ x a. by x a })
       where
-        by : (x : LibRecord) → Among (d ∷ []) x → (x ≡ d) ⊎ IsBelow zero x
+        by : (x : CompiledLibrary) → Among (d ∷ []) x → (x ≡ d) ⊎ IsBelow zero x
         by x (inl e) = inl e
         by x (inr a) = absurd a
 

@@ -5,7 +5,7 @@ use Rattle.sx_base.specs.Gives.{◌>>=◌}
 use Rattle.sx_base.specs.declared.fault.Fault.{Fault}
 use Rattle.sx_base.specs.declared.library.LibName.{LibName}
 use Rattle.sx_base.specs.declared.library.LibName.TheVariants as library
-use Rattle.sx_core.specs.declared.record.LibRecord.{LibRecord}
+use Rattle.sx_core.specs.declared.record.CompiledLibrary.{CompiledLibrary}
 use Rattle.sx_core_laws.specs.Words.{Each}
 use Rattle.sx_derived.specs.Derived.{derived_record}
 use Rattle.sx_derived.specs.Names as derived_library
@@ -28,7 +28,7 @@ use Rattle.sx_load_laws.proofs.ReferLemmas.{IsSound}
 use Rattle.sx_load_laws.proofs.RowLemmas.{at_first}
 use Rattle.sx_outside.specs.Contents.{Paths}
 use Rattle.sx_run.specs.Whole.{loading_of}
-use Rattle.sx_run_laws.specs.Fitting.{Fits, AllFit, Begins}
+use Rattle.sx_run_laws.specs.Fitting.{Fits, AllFit, BeginsApart}
 use Rattle.sx_run_laws.specs.Parts.{PartsFit, PartsBegin, ProgramsBegin, DerivedBegins}
 use Rattle.sx_run_laws.specs.Run.{Stands}
 use Rattle.sx_run_laws.proofs.BehindLemmas.{IsNew, library_stands, derived_stands}
@@ -52,51 +52,51 @@ pub at-next : {A : Type 0} (xs ys : List A) (y : A) → slice_get (xs ++ y ∷ y
 at-next [] ys y = refl
 at-next (x ∷ xs) ys y = at-next xs ys y
 
-fit-more : (earlier rs : List LibRecord) (r : LibRecord) → AllFit earlier rs → Fits (earlier ++ rs) r → AllFit earlier (rs ++ r ∷ [])
-fit-more earlier [] r h f = (subst (λ (xs : List LibRecord). Fits xs r) (append-nil earlier) f, tt)
-fit-more earlier (x ∷ rs) r h f = (h.0, fit-more (earlier ++ x ∷ []) rs r h.1 (subst (λ (xs : List LibRecord). Fits xs r) (sym (append_assoc earlier (x ∷ []) rs)) f))
+fit-more : (earlier rs : List CompiledLibrary) (r : CompiledLibrary) → AllFit earlier rs → Fits (earlier ++ rs) r → AllFit earlier (rs ++ r ∷ [])
+fit-more earlier [] r h f = (subst (λ (xs : List CompiledLibrary). Fits xs r) (append-nil earlier) f, tt)
+fit-more earlier (x ∷ rs) r h f = (h.0, fit-more (earlier ++ x ∷ []) rs r h.1 (subst (λ (xs : List CompiledLibrary). Fits xs r) (sym (append_assoc earlier (x ∷ []) rs)) f))
 
 -- ---- records
 
 -- one that can be put beside those of other libraries, and is none of the implementation's names
-record IsFine (r : LibRecord) : Type 0 where
+record IsFine (r : CompiledLibrary) : Type 0 where
   fits : OneFits r
   no_core : r.name ≡ library.Core → ⊥
 
-abbrev IsElse : LibName → LibRecord → Type 0
+abbrev IsElse : LibName → CompiledLibrary → Type 0
 IsElse n r = r.name ≡ n → ⊥
 
-apart-from : (n : LibName) (rs : List LibRecord) → Each (IsElse n) rs → Each IsFine rs → Each (IsApart n) rs
+apart-from : (n : LibName) (rs : List CompiledLibrary) → Each (IsElse n) rs → Each IsFine rs → Each (IsApart n) rs
 apart-from n [] h k = tt
 apart-from n (r ∷ rs) h k = ((h.0, k.0.fits.own_rows), apart-from n rs h.1 k.1)
 
-core-apart : (rs : List LibRecord) → Each IsFine rs → Each (IsApart library.Core) rs
+core-apart : (rs : List CompiledLibrary) → Each IsFine rs → Each (IsApart library.Core) rs
 core-apart [] k = tt
 core-apart (r ∷ rs) k = ((k.0.no_core, k.0.fits.own_rows), core-apart rs k.1)
 
-fits-behind : (earlier : List LibRecord) (r : LibRecord) → Each (IsApart r.name) earlier → OneFits r → Fits earlier r
+fits-behind : (earlier : List CompiledLibrary) (r : CompiledLibrary) → Each (IsApart r.name) earlier → OneFits r → Fits earlier r
 fits-behind earlier r apart o = record { name = names-apart r.name earlier apart; own_rows = o.own_rows; rows = o.once.rows; own_labels = o.own_labels; labels = o.once.labels }
 
 user-other : (n : LibName) → IsUser n → n ≡ library.Core → ⊥
 user-other n u e = subst IsUser e u
 
-first-is : (prelude : Result Codes Fault) (d : LibRecord) → derived_record prelude ≡ Ok d → IsFirst d
+first-is : (prelude : Result Codes Fault) (d : CompiledLibrary) → derived_record prelude ≡ Ok d → IsFirst d
 first-is prelude d h = let st = derived_stands d prelude h in record { stands = st; behind = is-behind [] library.Derived d tt (λ a. elim a [ ]) no-text-derived st }
 
-first-fine : (prelude : Result Codes Fault) (d : LibRecord) → derived_record prelude ≡ Ok d → IsFine d
+first-fine : (prelude : Result Codes Fault) (d : CompiledLibrary) → derived_record prelude ≡ Ok d → IsFine d
 first-fine prelude d h =
     let st = derived_stands d prelude h in
     record { fits = one-fits [] library.Derived d st (derived-once d st.named prelude h); no_core = λ e. let bad : library.Derived ≡ library.Core = sym st.named ∙ e in absurd (cc) }
 
-module _ (s : Loading) (sound : IsSound s) (users : AllUsers s.done) (d : LibRecord) (first : IsFirst d) where
+module _ (s : Loading) (sound : IsSound s) (users : AllUsers s.done) (d : CompiledLibrary) (first : IsFirst d) where
   -- ---- the library that comes next
 
-  module _ (others : List LibRecord) (made : AllMadeBehind s d others) (fine : Each IsFine (d ∷ others)) (file : List ℕ) (f : Found) (at : IsAt s.done (length others) file f) where
+  module _ (others : List CompiledLibrary) (made : AllMadeBehind s d others) (fine : Each IsFine (d ∷ others)) (file : List ℕ) (f : Found) (at : IsAt s.done (length others) file f) where
     user : IsUser f.opened.form.name
     user = users (length others) file f at
 
     -- no record before it has its name
-    others-else : (p : ℕ) (x : LibRecord) → slice_get others p ≡ Some x → IsElse f.opened.form.name x
+    others-else : (p : ℕ) (x : CompiledLibrary) → slice_get others p ≡ Some x → IsElse f.opened.form.name x
     others-else p x there e =
         let less = before-end others p x there in
         let row = earlier-there s.done p (length others) (file, f) less at in
@@ -113,7 +113,7 @@ module _ (s : Loading) (sound : IsSound s) (users : AllUsers s.done) (d : LibRec
     needed-apart : Each (IsApart f.opened.form.name) (needed_records (d ∷ others) (true ∷ f.needs))
     needed-apart = each-records (IsApart f.opened.form.name) (d ∷ others) (places_from 0 (true ∷ f.needs)) apart
 
-    next-begins : (names : Labelled) → form_names (needed_records (d ∷ others) (true ∷ f.needs)) f.opened.form.imports ≡ Ok names → Begins (needed_records (d ∷ others) (true ∷ f.needs)) f.opened.form.name names
+    next-begins : (names : Labelled) → form_names (needed_records (d ∷ others) (true ∷ f.needs)) f.opened.form.imports ≡ Ok names → BeginsApart (needed_records (d ∷ others) (true ∷ f.needs)) f.opened.form.name names
     next-begins names n =
         begins f.opened.form.name (needed_records (d ∷ others) (true ∷ f.needs)) needed-apart (user-other f.opened.form.name user) names
         (each-records (IsApart library.Core) (d ∷ others) (places_from 0 (true ∷ f.needs)) (core-apart (d ∷ others) fine))
@@ -123,13 +123,13 @@ module _ (s : Loading) (sound : IsSound s) (users : AllUsers s.done) (d : LibRec
     closed = (sound.stand (length others) file f at).closed
 
     -- its record
-    module _ (prelude : Result Codes Fault) (r : LibRecord) (h : expand_found prelude (d ∷ others) f (library_body f.opened.«data») ≡ Ok r) where
+    module _ (prelude : Result Codes Fault) (r : CompiledLibrary) (h : expand_found prelude (d ∷ others) f (library_body f.opened.«data») ≡ Ok r) where
       new : IsNew (Behind d others f) f.opened.form.name
       new = library-new s sound users d first.stands first.behind others made f closed (length others) file at
 
       stands : Stands (Behind d others f) f.opened.form.name r
       stands = library_stands (Behind d others f) (all-serve s sound users d first.stands first.behind others made f closed) f.opened.path f.opened.form new (library_body f.opened.«data») r prelude
-          (subst (λ (rs : List LibRecord). expand_library prelude rs f.opened.path f.opened.form (library_body f.opened.«data») ≡ Ok r) (needed_behind d others f.needs) h)
+          (subst (λ (rs : List CompiledLibrary). expand_library prelude rs f.opened.path f.opened.form (library_body f.opened.«data») ≡ Ok r) (needed_behind d others f.needs) h)
 
       its : IsItsRecord s sound users d first others f r
       its = record {
@@ -150,8 +150,8 @@ module _ (s : Loading) (sound : IsSound s) (users : AllUsers s.done) (d : LibRec
   -- ---- one after another
 
   -- so many records behind that of the derived library
-  pub record AreSo (count : ℕ) (records : List LibRecord) : Type 0 where
-    pub others : List LibRecord
+  pub record AreSo (count : ℕ) (records : List CompiledLibrary) : Type 0 where
+    pub others : List CompiledLibrary
     pub parts : records ≡ d ∷ others
     pub many : length others ≡ count
     pub made : AllMadeBehind s d others
@@ -163,7 +163,7 @@ module _ (s : Loading) (sound : IsSound s) (users : AllUsers s.done) (d : LibRec
   AreThere k rows = (p : ℕ) (row : List ℕ × Found) → slice_get rows p ≡ Some row → slice_get s.done (k + p) ≡ Some row
 
   module _ (prelude : Result Codes Fault) where
-    walk : (rows : List (List ℕ × Found)) (others records : List LibRecord) → AreThere (length others) rows → AllMadeBehind s d others → Each IsFine (d ∷ others) → AllFit [] (d ∷ others)
+    walk : (rows : List (List ℕ × Found)) (others records : List CompiledLibrary) → AreThere (length others) rows → AllMadeBehind s d others → Each IsFine (d ∷ others) → AllFit [] (d ∷ others)
         → turns (expand_next prelude) (d ∷ others) rows ≡ Ok records → AreSo (length others + length rows) records
     walk [] others records there made fine fit h =
         let same : d ∷ others ≡ records = cc in
@@ -174,9 +174,9 @@ module _ (s : Loading) (sound : IsSound s) (users : AllUsers s.done) (d : LibRec
         here : IsAt s.done (length others) row.0 row.1
         here = let e : length others + zero ≡ length others = omega arith in subst (λ n. slice_get s.done n ≡ Some row) e (there zero row refl)
 
-        by : ((r : LibRecord) → AreThere (length (others ++ r ∷ [])) rows → AllMadeBehind s d (others ++ r ∷ []) → Each IsFine (d ∷ (others ++ r ∷ [])) → AllFit [] (d ∷ (others ++ r ∷ []))
+        by : ((r : CompiledLibrary) → AreThere (length (others ++ r ∷ [])) rows → AllMadeBehind s d (others ++ r ∷ []) → Each IsFine (d ∷ (others ++ r ∷ [])) → AllFit [] (d ∷ (others ++ r ∷ []))
             → turns (expand_next prelude) (d ∷ (others ++ r ∷ [])) rows ≡ Ok records → AreSo (length (others ++ r ∷ []) + length rows) records)
-            → (x : Result LibRecord Fault) → expand_found prelude (d ∷ others) row.1 (library_body row.1.opened.«data») ≡ x
+            → (x : Result CompiledLibrary Fault) → expand_found prelude (d ∷ others) row.1 (library_body row.1.opened.«data») ≡ x
             → ((x >>= (λ r. Ok (d ∷ (others ++ r ∷ [])))) >>= (λ more. turns (expand_next prelude) more rows)) ≡ Ok records → AreSo (length others + suc (length rows)) records
         by rest (Ok r) e k =
             subst (λ n. AreSo n records) (sym (last-place s sound users d first others r (length rows)))
@@ -189,15 +189,15 @@ module _ (s : Loading) (sound : IsSound s) (users : AllUsers s.done) (d : LibRec
 -- ---- a part of a run
 
 module _ (s : Loading) (sound : IsSound s) (users : AllUsers s.done) where
-  pub record PartsAre (count : ℕ) (records : List LibRecord) : Type 0 where
-    pub derived : LibRecord
+  pub record PartsAre (count : ℕ) (records : List CompiledLibrary) : Type 0 where
+    pub derived : CompiledLibrary
     pub first : IsFirst derived
     pub so : AreSo s sound users derived first count records
 
-  pub parts-are : (prelude : Result Codes Fault) (rows left : List (List ℕ × Found)) (records : List LibRecord) → s.done ≡ rows ++ left → all_records prelude rows ≡ Ok records → PartsAre (length rows) records
+  pub parts-are : (prelude : Result Codes Fault) (rows left : List (List ℕ × Found)) (records : List CompiledLibrary) → s.done ≡ rows ++ left → all_records prelude rows ≡ Ok records → PartsAre (length rows) records
   parts-are prelude rows left records parts h = by (derived_record prelude) refl h
     where
-      by : (x : Result LibRecord Fault) → derived_record prelude ≡ x → (x >>= (λ d. turns (expand_next prelude) (d ∷ []) rows)) ≡ Ok records → PartsAre (length rows) records
+      by : (x : Result CompiledLibrary Fault) → derived_record prelude ≡ x → (x >>= (λ d. turns (expand_next prelude) (d ∷ []) rows)) ≡ Ok records → PartsAre (length rows) records
       by (Ok d) e k =
           let fine = first-fine prelude d e in
           let none : (n : ℕ) → zero + n ≡ n = λ n. omega arith in
@@ -211,37 +211,37 @@ module _ (s : Loading) (sound : IsSound s) (users : AllUsers s.done) where
           }
       by (Err f) e k = absurd (cc)
 
-  part-fits : (count : ℕ) (records : List LibRecord) → PartsAre count records → AllFit [] records
+  part-fits : (count : ℕ) (records : List CompiledLibrary) → PartsAre count records → AllFit [] records
   part-fits count records p = subst (AllFit []) (sym p.so.parts) p.so.fit
 
-  part-begins : (rows left : List (List ℕ × Found)) (file : List ℕ) (f : Found) (records : List LibRecord) (names : Labelled) → s.done ≡ rows ++ (file, f) ∷ left → PartsAre (length rows) records
-      → form_names (needed_records records (true ∷ f.needs)) f.opened.form.imports ≡ Ok names → Begins (needed_records records (true ∷ f.needs)) f.opened.form.name names
+  part-begins : (rows left : List (List ℕ × Found)) (file : List ℕ) (f : Found) (records : List CompiledLibrary) (names : Labelled) → s.done ≡ rows ++ (file, f) ∷ left → PartsAre (length rows) records
+      → form_names (needed_records records (true ∷ f.needs)) f.opened.form.imports ≡ Ok names → BeginsApart (needed_records records (true ∷ f.needs)) f.opened.form.name names
   part-begins rows left file f records names parts p n =
       let at : IsAt s.done (length p.so.others) file f = ap (slice_get s.done) p.so.many ∙ ap (λ xs. slice_get xs (length rows)) parts ∙ at-next rows left (file, f) in
-      subst (λ (rs : List LibRecord). Begins (needed_records rs (true ∷ f.needs)) f.opened.form.name names) (sym p.so.parts)
+      subst (λ (rs : List CompiledLibrary). BeginsApart (needed_records rs (true ∷ f.needs)) f.opened.form.name names) (sym p.so.parts)
       (next-begins s sound users p.derived p.first p.so.others p.so.made p.so.fine file f at names
-      (subst (λ (rs : List LibRecord). form_names (needed_records rs (true ∷ f.needs)) f.opened.form.imports ≡ Ok names) p.so.parts n))
+      (subst (λ (rs : List CompiledLibrary). form_names (needed_records rs (true ∷ f.needs)) f.opened.form.imports ≡ Ok names) p.so.parts n))
 
   -- the program, behind the records of all libraries
-  program-apart : (records : List LibRecord) (p : PartsAre (length s.done) records) → Each (IsApart library.Program) (p.derived ∷ p.so.others)
+  program-apart : (records : List CompiledLibrary) (p : PartsAre (length s.done) records) → Each (IsApart library.Program) (p.derived ∷ p.so.others)
   program-apart records p = apart-from library.Program (p.derived ∷ p.so.others)
       ((λ e. let bad : library.Derived ≡ library.Program = sym p.first.stands.named ∙ e in absurd (cc)), of-places (IsElse library.Program) p.so.others (λ i x there e. other i x there e)) p.so.fine
     where
-      other : (i : ℕ) (x : LibRecord) → slice_get p.so.others i ≡ Some x → IsElse library.Program x
+      other : (i : ℕ) (x : CompiledLibrary) → slice_get p.so.others i ≡ Some x → IsElse library.Program x
       other i x there e =
           let row = same_place p.so.others s.done i x p.so.many there in
           let m = p.so.made i row.0.0 row.0.1 x row.1 there in
           subst IsUser (sym m.stands.named ∙ e) (users i row.0.0 row.0.1 row.1)
 
-  program-begins : (found : Found) (records : List LibRecord) (names : Labelled) → PartsAre (length s.done) records
-      → form_names (needed_records records (true ∷ found.needs)) found.opened.form.imports ≡ Ok names → Begins (needed_records records (true ∷ found.needs)) library.Program names
+  program-begins : (found : Found) (records : List CompiledLibrary) (names : Labelled) → PartsAre (length s.done) records
+      → form_names (needed_records records (true ∷ found.needs)) found.opened.form.imports ≡ Ok names → BeginsApart (needed_records records (true ∷ found.needs)) library.Program names
   program-begins found records names p n =
-      subst (λ (rs : List LibRecord). Begins (needed_records rs (true ∷ found.needs)) library.Program names) (sym p.so.parts)
+      subst (λ (rs : List CompiledLibrary). BeginsApart (needed_records rs (true ∷ found.needs)) library.Program names) (sym p.so.parts)
       (begins library.Program (needed_records (p.derived ∷ p.so.others) (true ∷ found.needs))
       (each-records (IsApart library.Program) (p.derived ∷ p.so.others) (places_from 0 (true ∷ found.needs)) (program-apart records p)) (λ e. absurd (cc)) names
       (each-records (IsApart library.Core) (p.derived ∷ p.so.others) (places_from 0 (true ∷ found.needs)) (core-apart (p.derived ∷ p.so.others) p.so.fine))
       (names-once (needed_records (p.derived ∷ p.so.others) (true ∷ found.needs)) found.opened.form.imports names
-      (subst (λ (rs : List LibRecord). form_names (needed_records rs (true ∷ found.needs)) found.opened.form.imports ≡ Ok names) p.so.parts n)))
+      (subst (λ (rs : List CompiledLibrary). form_names (needed_records rs (true ∷ found.needs)) found.opened.form.imports ≡ Ok names) p.so.parts n)))
 
 -- ---- as far as loading came
 

@@ -6,7 +6,7 @@ use Rattle.sx_base.specs.Gives.{◌>>=◌}
 use Rattle.sx_base.specs.declared.fault.Fault.{Fault}
 use Rattle.sx_base.specs.declared.library.LibName.{LibName}
 use Rattle.sx_base.specs.declared.library.LibName.TheVariants as library
-use Rattle.sx_core.specs.declared.record.LibRecord.{LibRecord}
+use Rattle.sx_core.specs.declared.record.CompiledLibrary.{CompiledLibrary}
 use Rattle.sx_core_laws.specs.Follows.{names_of}
 use Rattle.sx_core_laws.specs.Words.{Among}
 use Rattle.sx_derived.specs.Derived.{derived_record}
@@ -58,13 +58,13 @@ no-text-user n u (inl e) = subst IsUser e u
 no-text-user n u (inr e) = subst IsUser e u
 
 -- a record that expansion leaves stands behind the others too
-pub is-behind : (records : List LibRecord) (n : LibName) (r : LibRecord) → AllBehind [] records → (Among (names_of records) n → ⊥) → (IsOfTexts n → ⊥) → Stands records n r → IsBehind records r
+pub is-behind : (records : List CompiledLibrary) (n : LibName) (r : CompiledLibrary) → AllBehind [] records → (Among (names_of records) n → ⊥) → (IsOfTexts n → ⊥) → Stands records n r → IsBehind records r
 is-behind records n r all new no_text st =
     stands-behind records r all st.good st.keywords st.serves (λ a. new (subst (Among (names_of records)) st.named a)) (λ t. no_text (subst IsOfTexts st.named t))
 
 -- ---- the derived library
 
-pub record IsFirst (d : LibRecord) : Type 0 where
+pub record IsFirst (d : CompiledLibrary) : Type 0 where
   pub stands : Stands [] library.Derived d
   pub behind : IsBehind [] d
 
@@ -73,45 +73,45 @@ first-told prelude read =
     told-with IsFirst (derived_record prelude) (derived-other prelude read)
     (λ d h. let st = derived_stands d prelude h in record { stands = st; behind = is-behind [] library.Derived d tt (λ a. elim a [ ]) no-text-derived st })
 
-module _ (s : Loading) (sound : IsSound s) (users : AllUsers s.done) (d : LibRecord) (first : IsFirst d) where
+module _ (s : Loading) (sound : IsSound s) (users : AllUsers s.done) (d : CompiledLibrary) (first : IsFirst d) where
   -- ---- one library
 
   -- what its record is, where it has one
-  pub record IsItsRecord (others : List LibRecord) (f : Found) (r : LibRecord) : Type 0 where
+  pub record IsItsRecord (others : List CompiledLibrary) (f : Found) (r : CompiledLibrary) : Type 0 where
     pub stands : Stands (Behind d others f) f.opened.form.name r
     pub behind : IsBehind (Behind d others f) r
 
   -- ---- one after another
 
-  pub last-place : (xs : List LibRecord) (r : LibRecord) (j : ℕ) → length xs + suc j ≡ length (xs ++ r ∷ []) + j
+  pub last-place : (xs : List CompiledLibrary) (r : CompiledLibrary) (j : ℕ) → length xs + suc j ≡ length (xs ++ r ∷ []) + j
   last-place [] r j = omega arith
   last-place (z ∷ xs) r j = let e = last-place xs r j in omega (arith, e)
 
   -- the record is the last of them
-  pub made-more : (others : List LibRecord) → AllMadeBehind s d others → (file : List ℕ) (f : Found) → IsAt s.done (length others) file f → (r : LibRecord) → IsItsRecord others f r
+  pub made-more : (others : List CompiledLibrary) → AllMadeBehind s d others → (file : List ℕ) (f : Found) → IsAt s.done (length others) file f → (r : CompiledLibrary) → IsItsRecord others f r
       → AllMadeBehind s d (others ++ r ∷ [])
   made-more others made file f here r g i name x y at there = by (at_cases others r i y there)
     where
       by : (slice_get others i ≡ Some y) ⊎ ((i ≡ length others) × (r ≡ y)) → IsMadeBehind d (others ++ r ∷ []) x y
       by (inl old) =
           let m = made i name x y at old in
-          let parts : others ++ r ∷ [] ≡ m.before ++ (m.after ++ r ∷ []) = ap (λ (rs : List LibRecord). rs ++ r ∷ []) m.parts ∙ append_assoc m.before m.after (r ∷ []) in
+          let parts : others ++ r ∷ [] ≡ m.before ++ (m.after ++ r ∷ []) = ap (λ (rs : List CompiledLibrary). rs ++ r ∷ []) m.parts ∙ append_assoc m.before m.after (r ∷ []) in
           record { before = m.before; after = m.after ++ r ∷ []; parts = parts; stands = m.stands; behind = m.behind }
       by (inr e) =
           let place : slice_get s.done (length others) ≡ Some (name, x) = subst (λ n. slice_get s.done n ≡ Some (name, x)) e.0 at in
           let rows : ◌≡◌ {A = List ℕ × Found} (file, f) (name, x) = cc in
           let same : f ≡ x = ap (λ (row : List ℕ × Found). row.1) rows in
-          subst (λ (z : LibRecord). IsMadeBehind d (others ++ r ∷ []) x z) e.1
+          subst (λ (z : CompiledLibrary). IsMadeBehind d (others ++ r ∷ []) x z) e.1
           (subst (λ (z : Found). IsMadeBehind d (others ++ r ∷ []) z r) same (record { before = others; after = r ∷ []; parts = refl; stands = g.stands; behind = g.behind }))
 
-module _ (prelude : Result Codes Fault) (read : AreRead prelude) (s : Loading) (sound : IsSound s) (users : AllUsers s.done) (d : LibRecord) (first : IsFirst d) where
-  abbrev Its : List LibRecord → Found → LibRecord → Type 0
+module _ (prelude : Result Codes Fault) (read : AreRead prelude) (s : Loading) (sound : IsSound s) (users : AllUsers s.done) (d : CompiledLibrary) (first : IsFirst d) where
+  abbrev Its : List CompiledLibrary → Found → CompiledLibrary → Type 0
   Its others f r = IsItsRecord s sound users d first others f r
 
-  pub found-told : (others : List LibRecord) → AllMadeBehind s d others → (f : Found) → NeedsAreClosed s.done f → IsNew (Behind d others f) f.opened.form.name
+  pub found-told : (others : List CompiledLibrary) → AllMadeBehind s d others → (f : Found) → NeedsAreClosed s.done f → IsNew (Behind d others f) f.opened.form.name
       → (IsOfTexts f.opened.form.name → ⊥) → (body : List PlainDatum) → Told (Its others f) (expand_found prelude (d ∷ others) f body)
   found-told others made f closed new no_text body =
-      subst (λ (rs : List LibRecord). Told (Its others f) (expand_library prelude rs f.opened.path f.opened.form body)) (sym (needed_behind d others f.needs))
+      subst (λ (rs : List CompiledLibrary). Told (Its others f) (expand_library prelude rs f.opened.path f.opened.form body)) (sym (needed_behind d others f.needs))
       (told-with (Its others f) (expand_library prelude (Behind d others f) f.opened.path f.opened.form body)
       (library-other prelude read (Behind d others f) behind f.opened.form (record { new = new; earlier = serve }) no_text f.opened.path body)
       (λ r h. let st = library_stands (Behind d others f) serve f.opened.path f.opened.form new body r prelude h in
@@ -124,8 +124,8 @@ module _ (prelude : Result Codes Fault) (read : AreRead prelude) (s : Loading) (
       behind = all-behind s sound users d first.stands first.behind others made f closed
 
   -- the records of a part of a run
-  pub record AreMade (records : List LibRecord) : Type 0 where
-    pub others : List LibRecord
+  pub record AreMade (records : List CompiledLibrary) : Type 0 where
+    pub others : List CompiledLibrary
     pub parts : records ≡ d ∷ others
     pub made : AllMadeBehind s d others
 
@@ -134,12 +134,12 @@ module _ (prelude : Result Codes Fault) (read : AreRead prelude) (s : Loading) (
   AreLeft k rows = (p : ℕ) → slice_get rows p ≡ slice_get s.done (k + p)
 
   -- one more record
-  record IsNext (others : List LibRecord) (f : Found) (more : List LibRecord) : Type 0 where
-    last : LibRecord
+  record IsNext (others : List CompiledLibrary) (f : Found) (more : List CompiledLibrary) : Type 0 where
+    last : CompiledLibrary
     parts : more ≡ d ∷ (others ++ last ∷ [])
     gives : Its others f last
 
-  pub rows-told : (rows : List (List ℕ × Found)) (others : List LibRecord) → AreLeft (length others) rows → AllMadeBehind s d others → Told AreMade (turns (expand_next prelude) (d ∷ others) rows)
+  pub rows-told : (rows : List (List ℕ × Found)) (others : List CompiledLibrary) → AreLeft (length others) rows → AllMadeBehind s d others → Told AreMade (turns (expand_next prelude) (d ∷ others) rows)
   rows-told [] others left made = record { others = others; parts = refl; made = made }
   rows-told (row ∷ rows) others left made =
       told-then (IsNext others row.1) AreMade (expand_next prelude (d ∷ others) row) (λ more. turns (expand_next prelude) more rows)
@@ -148,7 +148,7 @@ module _ (prelude : Result Codes Fault) (read : AreRead prelude) (s : Loading) (
       (no-text-user row.1.opened.form.name (users (length others) row.0 row.1 here)) body)
       (λ r g. record { last = r; parts = refl; gives = g }))
       (λ more n.
-      subst (λ (rs : List LibRecord). Told AreMade (turns (expand_next prelude) rs rows)) (sym n.parts)
+      subst (λ (rs : List CompiledLibrary). Told AreMade (turns (expand_next prelude) rs rows)) (sym n.parts)
       (rows-told rows (others ++ n.last ∷ []) (left-on n.last) (made-more s sound users d first others made row.0 row.1 here n.last n.gives)))
     where
       body : List PlainDatum
@@ -160,5 +160,5 @@ module _ (prelude : Result Codes Fault) (read : AreRead prelude) (s : Loading) (
       closed : NeedsAreClosed s.done row.1
       closed = (sound.stand (length others) row.0 row.1 here).closed
 
-      left-on : (r : LibRecord) → AreLeft (length (others ++ r ∷ [])) rows
+      left-on : (r : CompiledLibrary) → AreLeft (length (others ++ r ∷ [])) rows
       left-on r p = left (suc p) ∙ ap (slice_get s.done) (last-place s sound users d first others r p)

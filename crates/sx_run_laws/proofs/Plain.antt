@@ -16,7 +16,7 @@ use Rattle.sx_core_laws.specs.Parts.{parts, all_parts, init_parts, case_parts, i
 use Rattle.sx_core_laws.specs.Records.{line_core, line_binders}
 use Rattle.sx_core_laws.specs.Scope.{Closed, AllClosed, InitsClosed, CasesClosed}
 use Rattle.sx_core_laws.specs.Words.{Each, Among}
-use Rattle.sx_core_text.specs.CoreText.{Names, name_of}
+use Rattle.sx_core_text.specs.CoreText.{VariableNames, name_of}
 use Rattle.sx_core_text.specs.Syntax.{Checked, written, checked, all_checked, inits_checked, cases_checked, line_checked, lines_checked}
 use Rattle.sx_expand_laws.proofs.Fresh.{among-parts, among-first, among-second}
 use Rattle.sx_text_laws.proofs.Words.{among-map}
@@ -123,7 +123,7 @@ lines-plain (x ∷ xs) k =
 
 -- Closed by names.
 
-module _ (names : Names) where
+module _ (names : VariableNames) where
   wider : (ls ms : List Label) → names_for names (ls ++ ms) ≡ names_for names ls ++ names_for names ms
   wider ls ms = map-append (name_of names) ls ms
 

@@ -12,7 +12,7 @@ use Rattle.sx_builtin.specs.Exports.{derived}
 use Rattle.sx_builtin.specs.Prelude.{prelude_text}
 use Rattle.sx_builtin.specs.declared.derived.TheConstants.{DERIVED_SOURCE}
 use Rattle.sx_core.specs.Core.{PlainCode}
-use Rattle.sx_core.specs.declared.record.LibRecord.{LibRecord}
+use Rattle.sx_core.specs.declared.record.CompiledLibrary.{CompiledLibrary}
 use Rattle.sx_expand.specs.Expression.{full_room}
 use Rattle.sx_derived.specs.Derived.{forms_of, record_of, derived_record}
 use Rattle.sx_derived.specs.Derived as of_derived
@@ -21,14 +21,14 @@ use Rattle.sx_eval.specs.Codes.{Codes, with_procedure, with_code}
 use Rattle.sx_expand.specs.Expanding.{ready, expression}
 use Rattle.sx_fresh_laws.proofs.Eachs.{each_and}
 use Rattle.sx_fresh_laws.proofs.Trees.{OkHolds}
-use Rattle.sx_prelude.specs.Prelude.{procedures, names, path_of, place_of, text_of, at_place, first_tree, tree_in, procedure_of, expanded, text_code, without_state, prelude_codes, filled}
+use Rattle.sx_prelude.specs.Prelude.{procedures, names, path_of, text_place, text_of, at_place, first_tree, tree_in, procedure_of, expanded, text_code, without_state, prelude_codes, filled}
 use Rattle.sx_reader.specs.Read.{data_of, file_nesting}
 use Rattle.sx_readable_laws.specs.Readable.{ReadableDatum, ReadableTree, ReadableCode, ReadableCodes}
 use Rattle.sx_readable_laws.proofs.Codes.{one-code, case-codes}
 use Rattle.sx_readable_laws.proofs.Stages.{changed-holds}
 use Rattle.sx_readable_expansion_laws.specs.Records.{ReadableRecord}
 use Rattle.sx_readable_expansion_laws.proofs.Recorded.{started-holds, records-stay}
-use Rattle.sx_readable_expansion_laws.proofs.Settled.{inside-keeps}
+use Rattle.sx_readable_expansion_laws.proofs.PlannedForm.{inside-keeps}
 use Rattle.sx_readable_expansion_laws.proofs.Shapes.{then-holds}
 use Rattle.sx_readable_expansion_laws.proofs.Standing.{C, F, Gave, gave-after, gave-each}
 use Rattle.sx_standing.specs.Start.{first_frame}
@@ -58,13 +58,13 @@ first-holds place [] h = tt
 first-holds place (d ∷ ds) h = placed-holds place d h.0
 
 tree-in-holds : (n : ℕ) → OkHolds ReadableTree (tree_in n)
-tree-in-holds n = then-holds Ds ReadableTree (data_of (path_of n) (text_of (prelude_text n)) file_nesting) (first_tree (place_of n)) (text-data (path_of n) (text_of (prelude_text n))) (first-holds (place_of n))
+tree-in-holds n = then-holds Ds ReadableTree (data_of (path_of n) (text_of (prelude_text n)) file_nesting) (first_tree (text_place n)) (text-data (path_of n) (text_of (prelude_text n))) (first-holds (text_place n))
 
 expanded-holds : (n : ℕ) (r : Result Tree Fault) (s : State) → F s → OkHolds ReadableTree r → Gave ReadableCode (expanded n r s)
 expanded-holds n (Err f) s h k = tt
 expanded-holds n (Ok t) s h k =
-    gave-after C ReadableCode (expression [] (place_of n) 0 (stamp (first_frame library.Prelude) t) s) (λ c. give (procedure_of n c))
-    ((inside-keeps [] full_room tt).form (place_of n) 0 0 (stamp (first_frame library.Prelude) t) s h (changed-holds (change.Stamp (first_frame library.Prelude) ∷ []) t k)) (λ c u i y. (i, (y, tt)))
+    gave-after C ReadableCode (expression [] (text_place n) 0 (stamp (first_frame library.Prelude) t) s) (λ c. give (procedure_of n c))
+    ((inside-keeps [] full_room tt).form (text_place n) 0 0 (stamp (first_frame library.Prelude) t) s h (changed-holds (change.Stamp (first_frame library.Prelude) ∷ []) t k)) (λ c u i y. (i, (y, tt)))
 
 code-holds : (n : ℕ) (s : State) → F s → Gave ReadableCode (text_code n s)
 unfolding text_code
@@ -109,7 +109,7 @@ forms-hold : (text : List ℕ) → OkHolds (Each ReadableTree) (forms_of text)
 unfolding forms_of
 forms-hold text = then-holds Ds (Each ReadableTree) (data_of derived_names.path text file_nesting) (of_derived.trees []) (text-data derived_names.path text) (λ ds k. trees-hold [] ds tt k)
 
-module _ (d : LibRecord) (prelude : Result Codes Fault) (given : IsReadablePrelude prelude) where
+module _ (d : CompiledLibrary) (prelude : Result Codes Fault) (given : IsReadablePrelude prelude) where
   from-forms : (table : Codes) (forms : List Tree) → ReadableCodes table → Each ReadableTree forms → record_of table forms ≡ Ok d → ReadableRecord d
   unfolding record_of
   from-forms table forms k read h = records-stay library.Derived derived_names.path [] derived_names.names [] derived_names.start (derived_names.exports_of derived) forms table d tt k read h

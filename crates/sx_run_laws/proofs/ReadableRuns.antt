@@ -9,10 +9,10 @@ use Rattle.sx_base.specs.declared.fault.Fault.{Fault}
 use Rattle.sx_base.specs.declared.library.LibName.{LibName}
 use Rattle.sx_core.specs.Core.{PlainCore, quoted, variable, primitive, one_armed, two_armed, assignment, sequence, procedure, letrec, call, instance, matching}
 use Rattle.sx_core.specs.Core.{PlainCores, none, more, PlainInits, no_init, init, PlainCases, no_case, case, PlainClauses, no_clause, clause, fended}
-use Rattle.sx_core.specs.declared.record.LibRecord.{LibRecord}
+use Rattle.sx_core.specs.declared.record.CompiledLibrary.{CompiledLibrary}
 use Rattle.sx_core.specs.declared.record.Line.{Line}
 use Rattle.sx_core.specs.declared.record.Line.TheVariants as line
-use Rattle.sx_core_grammar.specs.Laws.{IsCoreText, CoreTextIsReadBack, CoreTextTellsItsLines}
+use Rattle.sx_core_grammar.specs.Laws.{IsWrittenCoreText, CoreTextIsReadBack, CoreTextTellsItsLines}
 use Rattle.sx_core_grammar.specs.Spellable.{CanBeRead, own_constant, constants}
 use Rattle.sx_core_laws.specs.Parts.{parts, all_parts, init_parts, case_parts, clause_parts}
 use Rattle.sx_core_laws.specs.Records.{line_core}
@@ -131,19 +131,19 @@ module _ (files : Paths) (roots : List (List ℕ)) (path : List ℕ) (found : Fo
 
 -- Records.
 
-abbrev Rs : List LibRecord → Type 0
+abbrev Rs : List CompiledLibrary → Type 0
 Rs rs = Each ReadableRecord rs
 
-at-places : (rs : List LibRecord) (ps : List ℕ) → Rs rs → Rs (records_at rs ps)
+at-places : (rs : List CompiledLibrary) (ps : List ℕ) → Rs rs → Rs (records_at rs ps)
 at-places rs [] h = tt
 at-places rs (p ∷ ps) h = by (slice_get rs p) (each_at ReadableRecord rs p h) (at-places rs ps h)
   where
-    by : (o : Option LibRecord) → OptionHolds ReadableRecord o → Rs (records_at rs ps) → Rs (or_skip o (records_at rs ps))
+    by : (o : Option CompiledLibrary) → OptionHolds ReadableRecord o → Rs (records_at rs ps) → Rs (or_skip o (records_at rs ps))
     by None k j = j
     by (Some r) k j = (k, j)
 
 module _ (prelude : Result Codes Fault) (given : IsReadablePrelude prelude) where
-  made-holds : (records : List LibRecord) (path : List ℕ) (form : LibraryForm) (body : List PlainDatum) (r : LibRecord) → Rs records → Ds body → expand_library prelude records path form body ≡ Ok r → ReadableRecord r
+  made-holds : (records : List CompiledLibrary) (path : List ℕ) (form : LibraryForm) (body : List PlainDatum) (r : CompiledLibrary) → Rs records → Ds body → expand_library prelude records path form body ≡ Ok r → ReadableRecord r
   unfolding expand_library
   made-holds records path form body r before holds h = by-names (form_names records form.imports) h
     where
@@ -163,22 +163,22 @@ module _ (prelude : Result Codes Fault) (given : IsReadablePrelude prelude) wher
       by-names (Ok names) h = by-forms names (trees_at form.name_span [] body) (trees-hold form.name_span [] body tt holds) h
       by-names (Err f) h = absurd (cc)
 
-  found-holds : (records : List LibRecord) (f : Found) (body : List PlainDatum) (r : LibRecord) → Rs records → Ds body → expand_found prelude records f body ≡ Ok r → ReadableRecord r
+  found-holds : (records : List CompiledLibrary) (f : Found) (body : List PlainDatum) (r : CompiledLibrary) → Rs records → Ds body → expand_found prelude records f body ≡ Ok r → ReadableRecord r
   found-holds records f body r before holds h = made-holds (needed_records records (true ∷ f.needs)) f.opened.path f.opened.form body r (at-places records (places_from 0 (true ∷ f.needs)) before) holds h
 
-  turns-hold : (done : List LibRecord) (rows : List (List ℕ × Found)) (records : List LibRecord) → Rs done → Each RowHolds rows → turns (expand_next prelude) done rows ≡ Ok records → Rs records
+  turns-hold : (done : List CompiledLibrary) (rows : List (List ℕ × Found)) (records : List CompiledLibrary) → Rs done → Each RowHolds rows → turns (expand_next prelude) done rows ≡ Ok records → Rs records
   turns-hold done [] records h k e = let same : done ≡ records = cc in subst Rs same h
   turns-hold done (row ∷ rows) records h k e = by (λ more j i. turns-hold more rows records j k.1 i) (expand_found prelude done row.1 (library_body row.1.opened.«data»)) refl e
     where
-      by : ((more : List LibRecord) → Rs more → turns (expand_next prelude) more rows ≡ Ok records → Rs records) → (x : Result LibRecord Fault) → expand_found prelude done row.1 (library_body row.1.opened.«data») ≡ x
+      by : ((more : List CompiledLibrary) → Rs more → turns (expand_next prelude) more rows ≡ Ok records → Rs records) → (x : Result CompiledLibrary Fault) → expand_found prelude done row.1 (library_body row.1.opened.«data») ≡ x
           → ((x >>= (λ r. Ok (done ++ r ∷ []))) >>= (λ more. turns (expand_next prelude) more rows)) ≡ Ok records → Rs records
       by rest (Ok r) i e = rest (done ++ r ∷ []) (each_and ReadableRecord done r h (found-holds done row.1 (library_body row.1.opened.«data») r h (library-body row.1.opened.«data» k.0) i)) e
       by rest (Err f) i e = absurd (cc)
 
-  records-hold : (rows : List (List ℕ × Found)) (records : List LibRecord) → Each RowHolds rows → all_records prelude rows ≡ Ok records → Rs records
+  records-hold : (rows : List (List ℕ × Found)) (records : List CompiledLibrary) → Each RowHolds rows → all_records prelude rows ≡ Ok records → Rs records
   records-hold rows records k e = by (derived_record prelude) refl e
     where
-      by : (x : Result LibRecord Fault) → derived_record prelude ≡ x → (x >>= (λ d. turns (expand_next prelude) (d ∷ []) rows)) ≡ Ok records → Rs records
+      by : (x : Result CompiledLibrary Fault) → derived_record prelude ≡ x → (x >>= (λ d. turns (expand_next prelude) (d ∷ []) rows)) ≡ Ok records → Rs records
       by (Ok d) i e = turns-hold (d ∷ []) rows records (derived-readable d prelude given i, tt) k e
       by (Err f) i e = absurd (cc)
 
@@ -264,8 +264,8 @@ constants-read files roots path found s records program run =
     (each-of (λ r. words.Each LineHolds r.run) (text_of records program) (λ r a. lines-hold r.run (each-at ReadableRecord (records ++ program ∷ []) r readable (text-known records program standing r a)).run)) in
     all-can (run_lines records program) lines
 
-is-text : (files : Paths) (roots : List (List ℕ)) (path : List ℕ) (found : Found) (s : Loading) (records : List LibRecord) (program : LibRecord) (text : List ℕ)
-    → GivesText prelude_table files roots path found s records program text → IsCoreText records (plan_of records program) program text
+is-text : (files : Paths) (roots : List (List ℕ)) (path : List ℕ) (found : Found) (s : Loading) (records : List CompiledLibrary) (program : CompiledLibrary) (text : List ℕ)
+    → GivesText prelude_table files roots path found s records program text → IsWrittenCoreText records (plan_of records program) program text
 is-text files roots path found s records program text h = core-text prelude_table files roots path found s records program text h (constants-read files roots path found s records program h.run)
 
 pub texts-back : CoreTextIsReadBack → TextsAreReadBack

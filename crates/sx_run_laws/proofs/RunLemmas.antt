@@ -4,7 +4,7 @@ use Rattle.std.specs.Prelude.{◌⊎◌, slice_get}
 use Rattle.sx_base.specs.declared.fault.Fault.{Fault}
 use Rattle.sx_base.specs.declared.library.LibName.{LibName}
 use Rattle.sx_base.specs.declared.library.LibName.TheVariants as library
-use Rattle.sx_core.specs.declared.record.LibRecord.{LibRecord}
+use Rattle.sx_core.specs.declared.record.CompiledLibrary.{CompiledLibrary}
 use Rattle.sx_core_laws.specs.Follows.{names_of}
 use Rattle.sx_core_laws.specs.Words.{Among, Once}
 use Rattle.sx_eval.specs.Codes.{Codes}
@@ -49,19 +49,19 @@ user_no_derived : (n : LibName) → IsUser n → n ≡ library.Derived → ⊥
 user_no_derived n u e = subst IsUser e u
 
 module _ (prelude : Result Codes Fault) (files : Paths) (roots : List (List ℕ)) (path : List ℕ) (found : Found) (s : Loading)
-    (records : List LibRecord) (program : LibRecord) (run : IsRun prelude files roots path found s records program) (m : IsMade prelude s.done records) where
+    (records : List CompiledLibrary) (program : CompiledLibrary) (run : IsRun prelude files roots path found s records program) (m : IsMade prelude s.done records) where
   -- the record of the derived library, and those of the others
-  abbrev d : LibRecord
+  abbrev d : CompiledLibrary
   d = m.derived
 
-  abbrev others : List LibRecord
+  abbrev others : List CompiledLibrary
   others = m.others
 
   first : Stands [] library.Derived d
   first = derived_stands d prelude m.made
 
   -- the records that a library stands behind
-  abbrev Behind : Found → List LibRecord
+  abbrev Behind : Found → List CompiledLibrary
   Behind f = d ∷ records_at others (needed f)
 
   whole : IsWhole (found, s)
@@ -69,7 +69,7 @@ module _ (prelude : Result Codes Fault) (files : Paths) (roots : List (List ℕ)
 
   -- the record at a place stands
   abbrev StandsAt : ℕ → Type 0
-  StandsAt i = (file : List ℕ) (f : Found) (r : LibRecord) → IsAt s.done i file f → slice_get others i ≡ Some r → Stands (Behind f) f.opened.form.name r
+  StandsAt i = (file : List ℕ) (f : Found) (r : CompiledLibrary) → IsAt s.done i file f → slice_get others i ≡ Some r → Stands (Behind f) f.opened.form.name r
 
   -- ---- behind the records that a library needs
 
@@ -93,31 +93,31 @@ module _ (prelude : Result Codes Fault) (files : Paths) (roots : List (List ℕ)
         record { place = m.place; file = i.file; library_there = i.library; there = i.there; before = i.before; name = sym st.named ∙ x.name }
 
     -- these records have the name of the derived library, and the names of those that are needed below a place
-    abbrev Below : List LibRecord → ℕ → Type 0
-    Below done k = (p : ℕ) (x : LibRecord) → p < k → Needs f p → slice_get others p ≡ Some x → Among (names_of done) x.name
+    abbrev Below : List CompiledLibrary → ℕ → Type 0
+    Below done k = (p : ℕ) (x : CompiledLibrary) → p < k → Needs f p → slice_get others p ≡ Some x → Among (names_of done) x.name
 
-    abbrev Has : List LibRecord → ℕ → Type 0
+    abbrev Has : List CompiledLibrary → ℕ → Type 0
     Has done k = Among (names_of done) d.name × Below done k
 
-    has_past : (done : List LibRecord) (k : ℕ) → Has done k → ((x : LibRecord) → Needs f k → slice_get others k ≡ Some x → ⊥) → Has done (suc k)
+    has_past : (done : List CompiledLibrary) (k : ℕ) → Has done k → ((x : CompiledLibrary) → Needs f k → slice_get others k ≡ Some x → ⊥) → Has done (suc k)
     has_past done k has none = (has.0, (λ p x less need at. by p x (below_next p k less) need at))
       where
-        by : (p : ℕ) (x : LibRecord) → (p < k) ⊎ (p ≡ k) → Needs f p → slice_get others p ≡ Some x → Among (names_of done) x.name
+        by : (p : ℕ) (x : CompiledLibrary) → (p < k) ⊎ (p ≡ k) → Needs f p → slice_get others p ≡ Some x → Among (names_of done) x.name
         by p x (inl l) need at = has.1 p x l need at
         by p x (inr e) need at = absurd (none x (subst (Needs f) e need) (subst (λ i. slice_get others i ≡ Some x) e at))
 
-    has_new : (done : List LibRecord) (k : ℕ) (r : LibRecord) → Has done k → slice_get others k ≡ Some r → Has (done ++ r ∷ []) (suc k)
+    has_new : (done : List CompiledLibrary) (k : ℕ) (r : CompiledLibrary) → Has done k → slice_get others k ≡ Some r → Has (done ++ r ∷ []) (suc k)
     has_new done k r has here = (names_first done (r ∷ []) d.name has.0, (λ p x less need at. by p x (below_next p k less) need at))
       where
-        by : (p : ℕ) (x : LibRecord) → (p < k) ⊎ (p ≡ k) → Needs f p → slice_get others p ≡ Some x → Among (names_of (done ++ r ∷ [])) x.name
+        by : (p : ℕ) (x : CompiledLibrary) → (p < k) ⊎ (p ≡ k) → Needs f p → slice_get others p ≡ Some x → Among (names_of (done ++ r ∷ [])) x.name
         by p x (inl l) need at = names_first done (r ∷ []) x.name (has.1 p x l need at)
         by p x (inr e) need at =
             let there : slice_get others k ≡ Some x = subst (λ i. slice_get others i ≡ Some x) e at in
             let same : x ≡ r = cc in
-            names_second done (r ∷ []) x.name (inl (ap (λ (y : LibRecord). y.name) same))
+            names_second done (r ∷ []) x.name (inl (ap (λ (y : CompiledLibrary). y.name) same))
 
     -- what a needed library needs is needed, and comes before it
-    serves_here : (done : List LibRecord) (k : ℕ) (r : LibRecord) → Has done k → Needs f k → slice_get others k ≡ Some r → Serves done r
+    serves_here : (done : List CompiledLibrary) (k : ℕ) (r : CompiledLibrary) → Has done k → Needs f k → slice_get others k ≡ Some r → Serves done r
     serves_here done k r has need at =
         let n = closed k need in
         let st = earlier k n.before n.file n.library r n.there at in
@@ -147,7 +147,7 @@ module _ (prelude : Result Codes Fault) (files : Paths) (roots : List (List ℕ)
     marks_on : (k : ℕ) (m : Bool) (ms : List Bool) → AreMarks k (m ∷ ms) → AreMarks (suc k) ms
     marks_on k m ms same p = let e : k + suc p ≡ suc k + p = omega arith in same (suc p) ∙ ap (slice_get f.needs) e
 
-    serve_from : (k : ℕ) (ms : List Bool) (done : List LibRecord) → AreMarks k ms → Has done k → AllServe done (records_at others (places_from k ms))
+    serve_from : (k : ℕ) (ms : List Bool) (done : List CompiledLibrary) → AreMarks k ms → Has done k → AllServe done (records_at others (places_from k ms))
     unfolding places_from
     serve_from k [] done same has = tt
     serve_from k (false ∷ ms) done same has =
@@ -155,7 +155,7 @@ module _ (prelude : Result Codes Fault) (files : Paths) (roots : List (List ℕ)
         serve_from (suc k) ms done (marks_on k false ms same) (has_past done k has (λ x need at. cc))
     serve_from k (true ∷ ms) done same has = by (slice_get others k) refl (λ more h. serve_from (suc k) ms more (marks_on k true ms same) h)
       where
-        by : (o : Option LibRecord) → slice_get others k ≡ o → ((more : List LibRecord) → Has more (suc k) → AllServe more (records_at others (places_from (suc k) ms)))
+        by : (o : Option CompiledLibrary) → slice_get others k ≡ o → ((more : List CompiledLibrary) → Has more (suc k) → AllServe more (records_at others (places_from (suc k) ms)))
             → AllServe done (or_skip o (records_at others (places_from (suc k) ms)))
         by None e rest = rest done (has_past done k has (λ x need at. cc))
         by (Some r) e rest = (serves_here done k r has (mark_here k true ms same) e, rest (done ++ r ∷ []) (has_new done k r has e))
@@ -192,16 +192,16 @@ module _ (prelude : Result Codes Fault) (files : Paths) (roots : List (List ℕ)
     is_new : IsNew (Behind f) f.opened.form.name
     is_new = new_behind f closed before f.opened.form.name (user_no_derived f.opened.form.name (user_at files roots path found s run.loaded i file f at)) is_other
 
-    stands_here : (r : LibRecord) → slice_get others i ≡ Some r → Stands (Behind f) f.opened.form.name r
+    stands_here : (r : CompiledLibrary) → slice_get others i ≡ Some r → Stands (Behind f) f.opened.form.name r
     stands_here r there =
         let x = m.each i file f r at there in
         let many = x.many in
         let low : (p : ℕ) → slice_get (true ∷ f.needs) p ≡ Some true → zero + p < length x.before =
         low_behind (length x.before) f.needs (λ p h. let l = (closed p h).before in omega (arith, l, many, place)) (omega (arith, many)) in
         let same : needed_records x.before (true ∷ f.needs) ≡ Behind f =
-        sym (first_records x.before x.after zero (true ∷ f.needs) low) ∙ ap (λ (rs : List LibRecord). needed_records rs (true ∷ f.needs)) (sym x.parts) ∙ needed_behind d others f.needs in
+        sym (first_records x.before x.after zero (true ∷ f.needs) low) ∙ ap (λ (rs : List CompiledLibrary). needed_records rs (true ∷ f.needs)) (sym x.parts) ∙ needed_behind d others f.needs in
         library_stands (Behind f) (all_serve f closed before) f.opened.path f.opened.form is_new (library_body f.opened.«data») r prelude
-        (subst (λ (rs : List LibRecord). expand_library prelude rs f.opened.path f.opened.form (library_body f.opened.«data») ≡ Ok r) same x.made)
+        (subst (λ (rs : List CompiledLibrary). expand_library prelude rs f.opened.path f.opened.form (library_body f.opened.«data») ≡ Ok r) same x.made)
 
   stands_below : (n i : ℕ) → i < n → StandsAt i
   stands_below zero i less = absurd (omega (arith, less))
@@ -225,26 +225,26 @@ module _ (prelude : Result Codes Fault) (files : Paths) (roots : List (List ℕ)
 
   program_stands : Stands (Behind found) library.Program program
   program_stands =
-      let same : needed_records records (true ∷ found.needs) ≡ Behind found = ap (λ (rs : List LibRecord). needed_records rs (true ∷ found.needs)) m.parts ∙ needed_behind d others found.needs in
+      let same : needed_records records (true ∷ found.needs) ≡ Behind found = ap (λ (rs : List CompiledLibrary). needed_records rs (true ∷ found.needs)) m.parts ∙ needed_behind d others found.needs in
       subst (λ (n : LibName). Stands (Behind found) n program) program_is
       (library_stands (Behind found) (all_serve found whole.stands.closed (λ j less. stands_at j)) found.opened.path found.opened.form program_new (program_body found.opened.«data») program prelude
-      (subst (λ (rs : List LibRecord). expand_library prelude rs found.opened.path found.opened.form (program_body found.opened.«data») ≡ Ok program) same run.expanded))
+      (subst (λ (rs : List CompiledLibrary). expand_library prelude rs found.opened.path found.opened.form (program_body found.opened.«data») ≡ Ok program) same run.expanded))
 
   -- ---- each name once
 
   -- the library of a record
-  record IsRecordOf (i : ℕ) (r : LibRecord) : Type 0 where
+  record IsRecordOf (i : ℕ) (r : CompiledLibrary) : Type 0 where
     pub file : List ℕ
     pub library_there : Found
     pub there : IsAt s.done i file library_there
     pub name : r.name ≡ library_there.opened.form.name
 
-  library_of : (i : ℕ) (r : LibRecord) → slice_get others i ≡ Some r → IsRecordOf i r
+  library_of : (i : ℕ) (r : CompiledLibrary) → slice_get others i ≡ Some r → IsRecordOf i r
   library_of i r h =
       let x = same_place others s.done i r m.as_many h in
       record { file = x.0.0; library_there = x.0.1; there = x.1; name = (stands_at i x.0.0 x.0.1 r x.1 h).named }
 
-  records_apart : (i j : ℕ) (a b : LibRecord) → slice_get others i ≡ Some a → slice_get others j ≡ Some b → a.name ≡ b.name → i ≡ j
+  records_apart : (i j : ℕ) (a b : CompiledLibrary) → slice_get others i ≡ Some a → slice_get others j ≡ Some b → a.name ≡ b.name → i ≡ j
   records_apart i j a b h k e =
       let x = library_of i a h in
       let y = library_of j b k in
@@ -253,7 +253,7 @@ module _ (prelude : Result Codes Fault) (files : Paths) (roots : List (List ℕ)
       whole.sound.once.once i j y.file x.library_there y.library_there (subst (λ n. IsAt s.done i n x.library_there) files_same x.there) y.there
 
   -- no library has the name of the program
-  program_apart : (i : ℕ) (a : LibRecord) → slice_get others i ≡ Some a → a.name ≡ program.name → ⊥
+  program_apart : (i : ℕ) (a : CompiledLibrary) → slice_get others i ≡ Some a → a.name ≡ program.name → ⊥
   program_apart i a h e =
       let x = library_of i a h in
       user_no_program x.library_there.opened.form.name (user_at files roots path found s run.loaded i x.file x.library_there x.there) (sym x.name ∙ e ∙ program_stands.named)
@@ -261,28 +261,28 @@ module _ (prelude : Result Codes Fault) (files : Paths) (roots : List (List ℕ)
   others_once : Once (names_of (others ++ program ∷ []))
   others_once = once_named (others ++ program ∷ []) apart
     where
-      apart : (i j : ℕ) (a b : LibRecord) → slice_get (others ++ program ∷ []) i ≡ Some a → slice_get (others ++ program ∷ []) j ≡ Some b → a.name ≡ b.name → i ≡ j
+      apart : (i j : ℕ) (a b : CompiledLibrary) → slice_get (others ++ program ∷ []) i ≡ Some a → slice_get (others ++ program ∷ []) j ≡ Some b → a.name ≡ b.name → i ≡ j
       apart i j a b h k e = elim (at_cases others program i a h) [
         | inl x ↦ elim (at_cases others program j b k) [
           | inl y ↦ records_apart i j a b x y e
-          | inr y ↦ absurd (program_apart i a x (e ∙ ap (λ (r : LibRecord). r.name) (sym y.1)))
+          | inr y ↦ absurd (program_apart i a x (e ∙ ap (λ (r : CompiledLibrary). r.name) (sym y.1)))
         ]
         | inr x ↦ elim (at_cases others program j b k) [
-          | inl y ↦ absurd (program_apart j b y (sym e ∙ ap (λ (r : LibRecord). r.name) (sym x.1)))
+          | inl y ↦ absurd (program_apart j b y (sym e ∙ ap (λ (r : CompiledLibrary). r.name) (sym x.1)))
           | inr y ↦ x.0 ∙ sym y.0
         ]
       ]
 
   -- none has the name of the derived library
-  no_other_derived : (i : ℕ) (a : LibRecord) → slice_get (others ++ program ∷ []) i ≡ Some a → a.name ≡ library.Derived → ⊥
+  no_other_derived : (i : ℕ) (a : CompiledLibrary) → slice_get (others ++ program ∷ []) i ≡ Some a → a.name ≡ library.Derived → ⊥
   no_other_derived i a h e = by (at_cases others program i a h)
     where
       by : (slice_get others i ≡ Some a) ⊎ ((i ≡ length others) × (program ≡ a)) → ⊥
       by (inl x) = let y = library_of i a x in user_no_derived y.library_there.opened.form.name (user_at files roots path found s run.loaded i y.file y.library_there y.there) (sym y.name ∙ e)
-      by (inr x) = let bad : library.Program ≡ library.Derived = sym program_stands.named ∙ ap (λ (r : LibRecord). r.name) x.1 ∙ e in absurd (cc)
+      by (inr x) = let bad : library.Program ≡ library.Derived = sym program_stands.named ∙ ap (λ (r : CompiledLibrary). r.name) x.1 ∙ e in absurd (cc)
 
   names_once : Once (names_of (records ++ program ∷ []))
-  names_once = subst (λ (rs : List LibRecord). Once (names_of (rs ++ program ∷ []))) (sym m.parts)
+  names_once = subst (λ (rs : List CompiledLibrary). Once (names_of (rs ++ program ∷ []))) (sym m.parts)
       ((λ a. let x = named_at (others ++ program ∷ []) d.name a in no_other_derived x.place x.record_of x.there (x.name ∙ first.named)), others_once)
 
   all_stand : AllStand found s records program

@@ -10,7 +10,7 @@ use Rattle.sx_builtin.specs.Exports.{derived}
 use Rattle.sx_builtin.specs.declared.derived.TheConstants.{DERIVED_SOURCE}
 use Rattle.sx_tree.specs.Tree.{Tree}
 use Rattle.sx_tree.specs.declared.frame_row.FrameRow.{FrameRow}
-use Rattle.sx_core.specs.declared.record.LibRecord.{LibRecord}
+use Rattle.sx_core.specs.declared.record.CompiledLibrary.{CompiledLibrary}
 use Rattle.sx_core_laws.specs.Follows.{names_of, bound_labels, IsOwn}
 use Rattle.sx_core_laws.specs.Words.{Each, Among, Once}
 use Rattle.sx_derived.specs.Derived.{forms_of, record_of, derived_record}
@@ -40,14 +40,14 @@ use Rattle.sx_run_laws.proofs.MadeLemmas.{IsMade, all_made}
 use Rattle.sx_run_laws.proofs.RunLemmas.{same_place, all_records_stand}
 use Rattle.sx_run_laws.proofs.UserLemmas.{IsUser, user_at}
 use Rattle.sx_run_laws.specs.Expansion.{IsOnceOver}
-use Rattle.sx_run_laws.specs.Fitting.{AllFit, RecordsFit, Begins, ExpansionsBegin}
+use Rattle.sx_run_laws.specs.Fitting.{AllFit, RecordsFit, BeginsApart, ExpansionsBegin}
 use Rattle.sx_run_laws.proofs.Derived.{derived-names-once}
 use Rattle.sx_run_laws.proofs.Starts.{IsApart, names-apart, begins}
 use Rattle.sx_run_laws.proofs.Tops.{once-behind}
 
 -- Names of a form come once.
 
-module _ (records : List LibRecord) where
+module _ (records : List CompiledLibrary) where
   into-once : (names : Labelled) (i : Import) (more r : Labelled) → IsOnce names → import_into records names i ≡ Ok r → IsOnce r
   into-once names i more r o h = by (import_names i.set i.span (exported records i.set.library)) h
     where
@@ -83,30 +83,30 @@ module _ {A : Type 0} (P : A → Type 0) where
   each-first [] ys h = tt
   each-first (x ∷ xs) ys h = (h.0, each-first xs ys h.1)
 
-pub each-records : (P : LibRecord → Type 0) (rs : List LibRecord) (is : List ℕ) → Each P rs → Each P (records_at rs is)
+pub each-records : (P : CompiledLibrary → Type 0) (rs : List CompiledLibrary) (is : List ℕ) → Each P rs → Each P (records_at rs is)
 each-records P rs [] h = tt
 each-records P rs (i ∷ is) h = by (slice_get rs i) refl (each-records P rs is h)
   where
-    by : (o : Option LibRecord) → slice_get rs i ≡ o → Each P (records_at rs is) → Each P (or_skip o (records_at rs is))
+    by : (o : Option CompiledLibrary) → slice_get rs i ≡ o → Each P (records_at rs is) → Each P (or_skip o (records_at rs is))
     by None e rest = rest
     by (Some r) e rest = (at-place P rs i r h e, rest)
 
 -- those of one list, and what comes first behind it
-once-apart : (xs : List LibRecord) (r : LibRecord) (ys : List LibRecord) → Once (names_of (xs ++ r ∷ ys)) → Each (λ (x : LibRecord). x.name ≡ r.name → ⊥) xs
+once-apart : (xs : List CompiledLibrary) (r : CompiledLibrary) (ys : List CompiledLibrary) → Once (names_of (xs ++ r ∷ ys)) → Each (λ (x : CompiledLibrary). x.name ≡ r.name → ⊥) xs
 once-apart [] r ys h = tt
 once-apart (x ∷ xs) r ys h = ((λ e. h.0 (subst (Among (names_of (xs ++ r ∷ ys))) (sym e) (there xs))), once-apart xs r ys h.1)
   where
-    there : (zs : List LibRecord) → Among (names_of (zs ++ r ∷ ys)) r.name
+    there : (zs : List CompiledLibrary) → Among (names_of (zs ++ r ∷ ys)) r.name
     there [] = inl refl
     there (z ∷ zs) = inr (there zs)
 
-record IsNext (before after : List LibRecord) (r : LibRecord) : Type 0 where
-  pub rest : List LibRecord
+record IsNext (before after : List CompiledLibrary) (r : CompiledLibrary) : Type 0 where
+  pub rest : List CompiledLibrary
   pub is : after ≡ r ∷ rest
 
-next-at : (before after : List LibRecord) (n : ℕ) (r : LibRecord) → length before ≡ n → slice_get (before ++ after) n ≡ Some r → IsNext before after r
+next-at : (before after : List CompiledLibrary) (n : ℕ) (r : CompiledLibrary) → length before ≡ n → slice_get (before ++ after) n ≡ Some r → IsNext before after r
 next-at [] [] n r e h = absurd (cc)
-next-at [] (x ∷ xs) zero r e h = let same : x ≡ r = cc in record { rest = xs; is = ap (λ (y : LibRecord). y ∷ xs) same }
+next-at [] (x ∷ xs) zero r e h = let same : x ≡ r = cc in record { rest = xs; is = ap (λ (y : CompiledLibrary). y ∷ xs) same }
 next-at [] (x ∷ xs) (suc n) r e h = absurd (omega (arith, e))
 next-at (b ∷ before) after zero r e h = absurd (omega (arith, e))
 next-at (b ∷ before) after (suc n) r e h = let x = next-at before after n r (omega (arith, e)) h in record { rest = x.rest; is = x.is }
@@ -114,16 +114,16 @@ next-at (b ∷ before) after (suc n) r e h = let x = next-at before after n r (o
 -- One record.
 
 -- a record can be put beside those of other libraries
-pub record OneFits (r : LibRecord) : Type 0 where
+pub record OneFits (r : CompiledLibrary) : Type 0 where
   pub own_rows : Each (λ (f : FrameRow). IsOwn r f.frame.0) r.frames
   pub own_labels : Each (λ l. IsOwn r l.0) (bound_labels r)
   pub once : IsOnceOver r
 
-pub one-fits : (earlier : List LibRecord) (name : LibName) (r : LibRecord) → Stands earlier name r → IsOnceOver r → OneFits r
+pub one-fits : (earlier : List CompiledLibrary) (name : LibName) (r : CompiledLibrary) → Stands earlier name r → IsOnceOver r → OneFits r
 one-fits earlier name r st o = record { own_rows = st.serves.own_frames; own_labels = st.serves.own_bindings; once = o }
 
-module _ (prelude : Result Codes Fault) (records : List LibRecord) (path : List ℕ) (form : LibraryForm) (apart : Each (IsApart form.name) records) (other : form.name ≡ library.Core → ⊥)
-    (body : List PlainDatum) (r : LibRecord) (named : r.name ≡ form.name) where
+module _ (prelude : Result Codes Fault) (records : List CompiledLibrary) (path : List ℕ) (form : LibraryForm) (apart : Each (IsApart form.name) records) (other : form.name ≡ library.Core → ⊥)
+    (body : List PlainDatum) (r : CompiledLibrary) (named : r.name ≡ form.name) where
   pub library-once : expand_library prelude records path form body ≡ Ok r → IsOnceOver r
   unfolding expand_library
   library-once h = by_names (form_names records form.imports) refl h
@@ -146,7 +146,7 @@ module _ (prelude : Result Codes Fault) (records : List LibRecord) (path : List 
       by_names (Err f) n k = absurd (cc)
 
 -- the derived library imports each name of the implementation once
-module _ (d : LibRecord) (named : d.name ≡ library.Derived) where
+module _ (d : CompiledLibrary) (named : d.name ≡ library.Derived) where
   forms-once : (codes : Codes) (forms : List Tree) → record_of codes forms ≡ Ok d → IsOnceOver d
   unfolding record_of
   forms-once codes forms h = once-behind library.Derived path [] derived_library.names [] start (exports_of derived) forms codes d tt (λ e. absurd (cc)) derived-names-once h named
@@ -165,19 +165,19 @@ module _ (d : LibRecord) (named : d.name ≡ library.Derived) where
 
 -- A run.
 
-parts-same : (x y : LibRecord) (xs ys : List LibRecord) → x ∷ xs ≡ y ∷ ys → (x ≡ y) × (xs ≡ ys)
+parts-same : (x y : CompiledLibrary) (xs ys : List CompiledLibrary) → x ∷ xs ≡ y ∷ ys → (x ≡ y) × (xs ≡ ys)
 parts-same x y xs ys e = (cc, cc)
 
-module _ (prelude : Result Codes Fault) (files : Paths) (roots : List (List ℕ)) (path : List ℕ) (found : Found) (s : Loading) (records : List LibRecord) (program : LibRecord)
+module _ (prelude : Result Codes Fault) (files : Paths) (roots : List (List ℕ)) (path : List ℕ) (found : Found) (s : Loading) (records : List CompiledLibrary) (program : CompiledLibrary)
     (run : IsRun prelude files roots path found s records program) (all : AllStand found s records program) (made : IsMade prelude s.done records) where
   -- the library of a record
-  record IsOf (r : LibRecord) : Type 0 where
+  record IsOf (r : CompiledLibrary) : Type 0 where
     pub name : LibName
     pub user : IsUser name
-    pub behind : List LibRecord
+    pub behind : List CompiledLibrary
     pub stands : Stands behind name r
 
-  of-others : (i : ℕ) (r : LibRecord) → slice_get all.others i ≡ Some r → IsOf r
+  of-others : (i : ℕ) (r : CompiledLibrary) → slice_get all.others i ≡ Some r → IsOf r
   of-others i r h =
       let x = same_place all.others s.done i r all.as_many h in
       record { name = x.0.1.opened.form.name; user = user_at files roots path found s run.loaded i x.0.0 x.0.1 x.1; behind = all.derived ∷ records_at all.others (needed x.0.1); stands = all.each i x.0.0 x.0.1 r x.1 h }
@@ -185,7 +185,7 @@ module _ (prelude : Result Codes Fault) (files : Paths) (roots : List (List ℕ)
   user-other : (n : LibName) → IsUser n → n ≡ library.Core → ⊥
   user-other n u e = subst IsUser e u
 
-  abbrev OwnFrames : LibRecord → Type 0
+  abbrev OwnFrames : CompiledLibrary → Type 0
   OwnFrames r = Each (λ (x : FrameRow). IsOwn r x.frame.0) r.frames
 
   own-frames-are : Each OwnFrames records
@@ -197,23 +197,23 @@ module _ (prelude : Result Codes Fault) (files : Paths) (roots : List (List ℕ)
     of-places (IsApart library.Core) all.others (λ i r h. let x = of-others i r h in ((λ e. user-other x.name x.user (sym x.stands.named ∙ e)), x.stands.serves.own_frames)),
   )
 
-  both-each : (n : LibName) (rs : List LibRecord) → Each (λ (y : LibRecord). y.name ≡ n → ⊥) rs → Each OwnFrames rs → Each (IsApart n) rs
+  both-each : (n : LibName) (rs : List CompiledLibrary) → Each (λ (y : CompiledLibrary). y.name ≡ n → ⊥) rs → Each OwnFrames rs → Each (IsApart n) rs
   both-each n [] h k = tt
   both-each n (y ∷ ys) h k = ((h.0, k.0), both-each n ys h.1 k.1)
 
   -- the records before one are of other libraries
-  before-apart : (before after : List LibRecord) (r : LibRecord) → records ≡ before ++ after → IsNext before after r → Each (IsApart r.name) before
+  before-apart : (before after : List CompiledLibrary) (r : CompiledLibrary) → records ≡ before ++ after → IsNext before after r → Each (IsApart r.name) before
   before-apart before after r e x =
       let same : records ++ program ∷ [] ≡ before ++ (r ∷ (x.rest ++ program ∷ [])) =
-      ap (λ (rs : List LibRecord). rs ++ program ∷ []) (e ∙ ap (λ (rs : List LibRecord). before ++ rs) x.is) ∙ append_assoc before (r ∷ x.rest) (program ∷ []) in
-      both-each r.name before (once-apart before r (x.rest ++ program ∷ []) (subst (λ (rs : List LibRecord). Once (names_of rs)) same all.once))
+      ap (λ (rs : List CompiledLibrary). rs ++ program ∷ []) (e ∙ ap (λ (rs : List CompiledLibrary). before ++ rs) x.is) ∙ append_assoc before (r ∷ x.rest) (program ∷ []) in
+      both-each r.name before (once-apart before r (x.rest ++ program ∷ []) (subst (λ (rs : List CompiledLibrary). Once (names_of rs)) same all.once))
       (each-first OwnFrames before after (subst (Each OwnFrames) e own-frames-are))
 
-  there : (i : ℕ) (r : LibRecord) → slice_get all.others i ≡ Some r → (before after : List LibRecord) → records ≡ before ++ after → length before ≡ suc i → IsNext before after r
-  there i r h before after e many = next-at before after (suc i) r many (subst (λ (rs : List LibRecord). slice_get rs (suc i) ≡ Some r) (sym all.parts ∙ e) h)
+  there : (i : ℕ) (r : CompiledLibrary) → slice_get all.others i ≡ Some r → (before after : List CompiledLibrary) → records ≡ before ++ after → length before ≡ suc i → IsNext before after r
+  there i r h before after e many = next-at before after (suc i) r many (subst (λ (rs : List CompiledLibrary). slice_get rs (suc i) ≡ Some r) (sym all.parts ∙ e) h)
 
   -- behind those before it that it needs
-  needed-apart : (before after : List LibRecord) (i : ℕ) (f : Found) (r : LibRecord) → slice_get all.others i ≡ Some r → records ≡ before ++ after → length before ≡ suc i → r.name ≡ f.opened.form.name
+  needed-apart : (before after : List CompiledLibrary) (i : ℕ) (f : Found) (r : CompiledLibrary) → slice_get all.others i ≡ Some r → records ≡ before ++ after → length before ≡ suc i → r.name ≡ f.opened.form.name
       → Each (IsApart f.opened.form.name) (needed_records before (true ∷ f.needs))
   needed-apart before after i f r h e many named =
       each-records (IsApart f.opened.form.name) before (places_from 0 (true ∷ f.needs)) (subst (λ (n : LibName). Each (IsApart n) before) named (before-apart before after r e (there i r h before after e many)))
@@ -221,11 +221,11 @@ module _ (prelude : Result Codes Fault) (files : Paths) (roots : List (List ℕ)
   both-parts : (all.derived ≡ made.derived) × (all.others ≡ made.others)
   both-parts = parts-same all.derived made.derived all.others made.others (sym all.parts ∙ made.parts)
 
-  other-fits : (i : ℕ) (r : LibRecord) → slice_get all.others i ≡ Some r → OneFits r
+  other-fits : (i : ℕ) (r : CompiledLibrary) → slice_get all.others i ≡ Some r → OneFits r
   other-fits i r h =
       let x = same_place all.others s.done i r all.as_many h in
       let st = all.each i x.0.0 x.0.1 r x.1 h in
-      let m = made.each i x.0.0 x.0.1 r x.1 (subst (λ (rs : List LibRecord). slice_get rs i ≡ Some r) both-parts.1 h) in
+      let m = made.each i x.0.0 x.0.1 r x.1 (subst (λ (rs : List CompiledLibrary). slice_get rs i ≡ Some r) both-parts.1 h) in
       let f = x.0.1 in
       one-fits (all.derived ∷ records_at all.others (needed f)) f.opened.form.name r st
       (library-once prelude (needed_records m.before (true ∷ f.needs)) f.opened.path f.opened.form (needed-apart m.before m.after i f r h (made.parts ∙ m.parts) m.many st.named)
@@ -233,10 +233,10 @@ module _ (prelude : Result Codes Fault) (files : Paths) (roots : List (List ℕ)
 
   first-fits : OneFits all.derived
   first-fits =
-      let first : Stands [] library.Derived made.derived = subst (λ (r : LibRecord). Stands [] library.Derived r) both-parts.0 all.first in
+      let first : Stands [] library.Derived made.derived = subst (λ (r : CompiledLibrary). Stands [] library.Derived r) both-parts.0 all.first in
       subst OneFits (sym both-parts.0) (one-fits [] library.Derived made.derived first (derived-once made.derived first.named prelude made.made))
 
-  all-fit : (earlier rs : List LibRecord) → records ≡ earlier ++ rs → Each OneFits rs → AllFit earlier rs
+  all-fit : (earlier rs : List CompiledLibrary) → records ≡ earlier ++ rs → Each OneFits rs → AllFit earlier rs
   all-fit earlier [] e h = tt
   all-fit earlier (r ∷ rs) e h = (
     record {
@@ -252,15 +252,15 @@ module _ (prelude : Result Codes Fault) (files : Paths) (roots : List (List ℕ)
   fit : AllFit [] records
   fit = all-fit [] records refl (subst (Each OneFits) (sym all.parts) (first-fits, of-places OneFits all.others other-fits))
 
-  begins-at : (before after : List LibRecord) (i : ℕ) (file : List ℕ) (f : Found) (names : Labelled) → records ≡ before ++ after → length before ≡ suc i → IsAt s.done i file f
-      → form_names (needed_records before (true ∷ f.needs)) f.opened.form.imports ≡ Ok names → Begins (needed_records before (true ∷ f.needs)) f.opened.form.name names
+  begins-at : (before after : List CompiledLibrary) (i : ℕ) (file : List ℕ) (f : Found) (names : Labelled) → records ≡ before ++ after → length before ≡ suc i → IsAt s.done i file f
+      → form_names (needed_records before (true ∷ f.needs)) f.opened.form.imports ≡ Ok names → BeginsApart (needed_records before (true ∷ f.needs)) f.opened.form.name names
   begins-at before after i file f names e many at n =
       let x = same_place s.done all.others i (file, f) (sym all.as_many) at in
       let st = all.each i file f x.0 at x.1 in
       begins f.opened.form.name (needed_records before (true ∷ f.needs)) (needed-apart before after i f x.0 x.1 e many st.named) (user-other f.opened.form.name (user_at files roots path found s run.loaded i file f at)) names
       (each-records (IsApart library.Core) before (places_from 0 (true ∷ f.needs)) (each-first (IsApart library.Core) before after (subst (Each (IsApart library.Core)) e no-core))) (names-once (needed_records before (true ∷ f.needs)) f.opened.form.imports names n)
 
-  program-begins : (names : Labelled) → form_names (needed_records records (true ∷ found.needs)) found.opened.form.imports ≡ Ok names → Begins (needed_records records (true ∷ found.needs)) library.Program names
+  program-begins : (names : Labelled) → form_names (needed_records records (true ∷ found.needs)) found.opened.form.imports ≡ Ok names → BeginsApart (needed_records records (true ∷ found.needs)) library.Program names
   program-begins names n =
       let apart : Each (IsApart library.Program) records = subst (λ (l : LibName). Each (IsApart l) records) all.last.named (both-each program.name records (once-apart records program [] all.once) own-frames-are) in
       begins library.Program (needed_records records (true ∷ found.needs)) (each-records (IsApart library.Program) records (places_from 0 (true ∷ found.needs)) apart) (λ e. absurd (cc)) names

@@ -8,7 +8,7 @@ use Rattle.sx_base.specs.declared.name.Label.{Label}
 use Rattle.sx_base.specs.declared.span.Span.{Span}
 use Rattle.sx_tree.specs.Tree.{Tree}
 use Rattle.sx_core.specs.Core.{instance}
-use Rattle.sx_core.specs.declared.record.LibRecord.{LibRecord}
+use Rattle.sx_core.specs.declared.record.CompiledLibrary.{CompiledLibrary}
 use Rattle.sx_shapes.specs.At.{place_of}
 use Rattle.sx_shapes.specs.declared.shape.BindingSpec.{BindingSpec}
 use Rattle.sx_shapes.specs.declared.shape.Shape.{Shape}
@@ -28,13 +28,13 @@ use Rattle.sx_heads.specs.declared.plan.Plan.{Plan}
 use Rattle.sx_heads.specs.declared.plan.Plan.TheVariants as plans
 use Rattle.sx_heads.specs.declared.taken.BodyAt.{BodyAt}
 use Rattle.sx_heads.specs.declared.taken.Taken.{Taken}
-use Rattle.sx_expand.specs.Settle.{next_form, too_many, set_step, step_of, step, settled_by, settle_to, at_use, set_item_step, item_step_of, item_step, settle_item_to}
-use Rattle.sx_expand.specs.Settle as settle
-use Rattle.sx_expand.specs.declared.settle.Step.{Step}
-use Rattle.sx_expand.specs.declared.settle.Step.TheVariants as steps
-use Rattle.sx_expand.specs.declared.settle.ItemStep.{ItemStep}
-use Rattle.sx_expand.specs.declared.settle.ItemStep.TheVariants as item_steps
-use Rattle.sx_expand.specs.declared.settle.SettledItem.{SettledItem}
+use Rattle.sx_expand.specs.ExpandUses.{next_form, too_many, set_step, step_of, step, planned_by, expand_uses_to, at_use, set_item_step, item_step_of, item_step, expand_item_uses_to}
+use Rattle.sx_expand.specs.ExpandUses as expand_uses
+use Rattle.sx_expand.specs.declared.expand_uses.PlanOrUse.{PlanOrUse}
+use Rattle.sx_expand.specs.declared.expand_uses.PlanOrUse.TheVariants as steps
+use Rattle.sx_expand.specs.declared.expand_uses.ItemOrUse.{ItemOrUse}
+use Rattle.sx_expand.specs.declared.expand_uses.ItemOrUse.TheVariants as item_steps
+use Rattle.sx_expand.specs.declared.expand_uses.PlannedItem.{PlannedItem}
 use Rattle.sx_expand.proofs.Linked.{linked-keeps}
 use Rattle.sx_expand_laws.proofs.Acts.{Gave, gave-after, gave-less, gave-if}
 use Rattle.sx_expand_laws.proofs.Items.{item-cases}
@@ -43,7 +43,7 @@ use Rattle.sx_expand_laws.proofs.References.{Refers, AssignsBy, marked, referenc
 use Rattle.sx_run_laws.proofs.Binding.{steps-variable, steps-keyword, steps-asks, steps-next, steps-template}
 use Rattle.sx_run_laws.proofs.Steps.{Steps, Names, St, stays, self, steps-then, steps-after}
 
-module _ (own : LibName) (rs : List LibRecord) where
+module _ (own : LibName) (rs : List CompiledLibrary) where
   -- Expressions.
 
   module _ (place : Span) (level : ℕ) (s : State) (n : Names own s) where
@@ -84,21 +84,21 @@ module _ (own : LibName) (rs : List LibRecord) where
   unfolding step
   steps-step place level t s n = steps-after own s (plan_of place level t s) (step_of rs place t) (steps-plan place level s n t) (λ p u m. steps-of place t p u m)
 
-  pub steps-settle : (left : ℕ) (place : Span) (level : ℕ) (t : Tree) (s : State) → Names own s → Gave (St own s) (settle_to rs left place level t s)
-  unfolding settle_to
-  steps-settle zero place level t s n = steps-after own s (step rs place level t s) (settled_by (λ l. too_many t place) place t) (steps-step place level t s n) by
+  pub steps-expand_uses : (left : ℕ) (place : Span) (level : ℕ) (t : Tree) (s : State) → Names own s → Gave (St own s) (expand_uses_to rs left place level t s)
+  unfolding expand_uses_to
+  steps-expand_uses zero place level t s n = steps-after own s (step rs place level t s) (planned_by (λ l. too_many t place) place t) (steps-step place level t s n) by
     where
-      by : (x : Step) (u : State) → Names own u → Gave (St own u) (settled_by (λ l. too_many t place) place t x u)
+      by : (x : PlanOrUse) (u : State) → Names own u → Gave (St own u) (planned_by (λ l. too_many t place) place t x u)
       by (steps.Plan p) u m = linked-keeps (Steps own u) t u (λ ls. stays own u (record u { links = ls }) m refl) p
       by (steps.Use l) u m = tt
-  steps-settle (suc left) place level t s n =
-      steps-after own s (step rs place level t s) (settled_by (λ l s'. after (next_form rs left place t l None s') (settle_to rs left (place_of t place) level)) place t) (steps-step place level t s n)
-      (λ x u m. by x u m (λ y v k. steps-settle left (place_of t place) level y v k))
+  steps-expand_uses (suc left) place level t s n =
+      steps-after own s (step rs place level t s) (planned_by (λ l s'. after (next_form rs left place t l None s') (expand_uses_to rs left (place_of t place) level)) place t) (steps-step place level t s n)
+      (λ x u m. by x u m (λ y v k. steps-expand_uses left (place_of t place) level y v k))
     where
-      by : (x : Step) (u : State) → Names own u → ((y : Tree) (v : State) → Names own v → Gave (St own v) (settle_to rs left (place_of t place) level y v))
-          → Gave (St own u) (settled_by (λ l s'. after (next_form rs left place t l None s') (settle_to rs left (place_of t place) level)) place t x u)
+      by : (x : PlanOrUse) (u : State) → Names own u → ((y : Tree) (v : State) → Names own v → Gave (St own v) (expand_uses_to rs left (place_of t place) level y v))
+          → Gave (St own u) (planned_by (λ l s'. after (next_form rs left place t l None s') (expand_uses_to rs left (place_of t place) level)) place t x u)
       by (steps.Plan p) u m next = linked-keeps (Steps own u) t u (λ ls. stays own u (record u { links = ls }) m refl) p
-      by (steps.Use l) u m next = steps-after own u (next_form rs left place t l None u) (settle_to rs left (place_of t place) level) (steps-next own rs left place t l None u m) next
+      by (steps.Use l) u m next = steps-after own u (next_form rs left place t l None u) (expand_uses_to rs left (place_of t place) level) (steps-next own rs left place t l None u m) next
 
   -- Forms of a body, whose frame is one of the library.
 
@@ -156,24 +156,24 @@ module _ (own : LibName) (rs : List LibRecord) where
     steps-item-step depth d t s n = steps-after own s (item_plan at depth d t s) (λ p. item_step_of rs at depth t p.0 p.1) (steps-item-plan depth d t s n) (λ p u m. steps-item-of depth t p.0 p.1 u m)
 
   -- in the same frame
-  abbrev pub SettlesAt : BodyAt → State → Taken × SettledItem → State → Type 0
+  abbrev pub SettlesAt : BodyAt → State → Taken × PlannedItem → State → Type 0
   SettlesAt at s p u = Steps own s u × (p.1.at.frame ≡ at.frame)
 
   abbrev Onward : Type 0
-  Onward = Taken → KeywordUse → Does (Taken × SettledItem)
+  Onward = Taken → KeywordUse → Does (Taken × PlannedItem)
 
-  item-by : (at : BodyAt) (t : Tree) (onward : Onward) (s u : State) → Steps own s u → ((d : Taken) (k : KeywordUse) → Gave (SettlesAt at s) (onward d k u)) → (p : Taken × ItemStep) → Gave (SettlesAt at s) (settle.item_by onward at t p u)
+  item-by : (at : BodyAt) (t : Tree) (onward : Onward) (s u : State) → Steps own s u → ((d : Taken) (k : KeywordUse) → Gave (SettlesAt at s) (onward d k u)) → (p : Taken × ItemOrUse) → Gave (SettlesAt at s) (expand_uses.item_by onward at t p u)
   item-by at t onward s u h next (d, item_steps.Item i) = (h, refl)
   item-by at t onward s u h next (d, item_steps.Use k) = next d k
 
-  pub steps-settle-item : (left : ℕ) (at : BodyAt) (mine : at.frame.0.library ≡ own) (depth : ℕ) (d : Taken) (t : Tree) (s : State) → Names own s → Gave (SettlesAt at s) (settle_item_to rs left at depth d t s)
-  unfolding settle_item_to
-  steps-settle-item zero at mine depth d t s n =
-      gave-after (St own s) (SettlesAt at s) (item_step rs at depth d t s) (settle.item_by (λ taken k. too_many t at.place) at t) (steps-item-step at mine depth d t s n)
+  pub steps-expand_uses-item : (left : ℕ) (at : BodyAt) (mine : at.frame.0.library ≡ own) (depth : ℕ) (d : Taken) (t : Tree) (s : State) → Names own s → Gave (SettlesAt at s) (expand_item_uses_to rs left at depth d t s)
+  unfolding expand_item_uses_to
+  steps-expand_uses-item zero at mine depth d t s n =
+      gave-after (St own s) (SettlesAt at s) (item_step rs at depth d t s) (expand_uses.item_by (λ taken k. too_many t at.place) at t) (steps-item-step at mine depth d t s n)
       (λ p u h. item-by at t (λ taken k. too_many t at.place) s u h (λ e k. tt) p)
-  steps-settle-item (suc left) at mine depth d t s n =
-      gave-after (St own s) (SettlesAt at s) (item_step rs at depth d t s) (settle.item_by (λ taken k s'. after (next_form rs left at.place t k (Some at.frame) s') (settle_item_to rs left (at_use at t) depth taken)) at t) (steps-item-step at mine depth d t s n)
-      (λ p u h. item-by at t (λ taken k s'. after (next_form rs left at.place t k (Some at.frame) s') (settle_item_to rs left (at_use at t) depth taken)) s u h
-      (λ e k. gave-after (St own u) (SettlesAt at s) (next_form rs left at.place t k (Some at.frame) u) (settle_item_to rs left (at_use at t) depth e) (steps-next own rs left at.place t k (Some at.frame) u h.next)
-      (λ x v j. gave-less (SettlesAt (at_use at t) v) (SettlesAt at s) (settle_item_to rs left (at_use at t) depth e x v) (steps-settle-item left (at_use at t) mine depth e x v j.next)
+  steps-expand_uses-item (suc left) at mine depth d t s n =
+      gave-after (St own s) (SettlesAt at s) (item_step rs at depth d t s) (expand_uses.item_by (λ taken k s'. after (next_form rs left at.place t k (Some at.frame) s') (expand_item_uses_to rs left (at_use at t) depth taken)) at t) (steps-item-step at mine depth d t s n)
+      (λ p u h. item-by at t (λ taken k s'. after (next_form rs left at.place t k (Some at.frame) s') (expand_item_uses_to rs left (at_use at t) depth taken)) s u h
+      (λ e k. gave-after (St own u) (SettlesAt at s) (next_form rs left at.place t k (Some at.frame) u) (expand_item_uses_to rs left (at_use at t) depth e) (steps-next own rs left at.place t k (Some at.frame) u h.next)
+      (λ x v j. gave-less (SettlesAt (at_use at t) v) (SettlesAt at s) (expand_item_uses_to rs left (at_use at t) depth e x v) (steps-expand_uses-item left (at_use at t) mine depth e x v j.next)
       (λ y w m. (steps-then own s v w (steps-then own s u v h j) m.0, m.1)))) p)

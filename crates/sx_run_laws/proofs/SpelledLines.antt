@@ -1,7 +1,7 @@
 -- The lines of a run, record by record.
 use Rattle.std.proofs.Common.{ℕ, List, [], ◌∷◌, ◌++◌, Option, None, Some}
 use Rattle.std.specs.Prelude.{slice_get}
-use Rattle.sx_core.specs.declared.record.LibRecord.{LibRecord}
+use Rattle.sx_core.specs.declared.record.CompiledLibrary.{CompiledLibrary}
 use Rattle.sx_core.specs.declared.record.Line.{Line}
 use Rattle.sx_core_grammar.specs.Lines.{record_lines, all_lines}
 use Rattle.sx_core_laws.specs.Words.{Each}
@@ -10,15 +10,15 @@ use Rattle.sx_plan.specs.Planned.{plan_of}
 use Rattle.sx_standing.specs.Start.{or_skip, records_at}
 use Rattle.sx_text_laws.specs.Text.{text_of}
 
-module _ (P : Line → Type 0) (records : List LibRecord) (program : LibRecord) where
-  abbrev OfLines : LibRecord → Type 0
+module _ (P : Line → Type 0) (records : List CompiledLibrary) (program : CompiledLibrary) where
+  abbrev OfLines : CompiledLibrary → Type 0
   OfLines r = Each P r.run
 
   planned-lines : (ps : List ℕ) → Each OfLines (records_at records ps ++ program ∷ []) → Each P (all_lines records ps program)
   planned-lines [] h = h.0
   planned-lines (p ∷ ps) h = by (slice_get records p) h (λ k. planned-lines ps k)
     where
-      by : (o : Option LibRecord) → Each OfLines (or_skip o (records_at records ps) ++ program ∷ []) → (Each OfLines (records_at records ps ++ program ∷ []) → Each P (all_lines records ps program))
+      by : (o : Option CompiledLibrary) → Each OfLines (or_skip o (records_at records ps) ++ program ∷ []) → (Each OfLines (records_at records ps ++ program ∷ []) → Each P (all_lines records ps program))
           → Each P (record_lines o ++ all_lines records ps program)
       by None k rest = rest k
       by (Some r) k rest = each-append P r.run (all_lines records ps program) k.0 (rest k.1)

@@ -8,9 +8,9 @@ use Rattle.sx_base.specs.declared.name.Label.{Label}
 use Rattle.sx_core.specs.Core.{PlainCore}
 use Rattle.sx_core.specs.Labels.{same_label}
 use Rattle.sx_core.specs.References.{binders, mentions, references}
-use Rattle.sx_core.specs.declared.record.LibRecord.{LibRecord}
+use Rattle.sx_core.specs.declared.record.CompiledLibrary.{CompiledLibrary}
 use Rattle.sx_core.specs.declared.record.Line.{Line}
-use Rattle.sx_core_grammar.specs.Laws.{IsCoreText, CoreTextIsReadBack, CoreTextTellsItsLines}
+use Rattle.sx_core_grammar.specs.Laws.{IsWrittenCoreText, CoreTextIsReadBack, CoreTextTellsItsLines}
 use Rattle.sx_core_grammar.specs.Names.{IsPrimitive}
 use Rattle.sx_core_grammar.specs.Spellable.{HasName, IsLineSpellable}
 use Rattle.sx_core_grammar.proofs.Bound.{names_are_generated}
@@ -23,7 +23,7 @@ use Rattle.sx_core_laws.specs.WellMade.{IsWellMade}
 use Rattle.sx_core_laws.specs.Words.{Each, Among, among}
 use Rattle.sx_core_laws.proofs.GivenLemmas.{references_given}
 use Rattle.sx_core_laws.proofs.ScopeLemmas.{given_decides}
-use Rattle.sx_core_text.specs.CoreText.{Names}
+use Rattle.sx_core_text.specs.CoreText.{VariableNames}
 use Rattle.sx_eval.specs.Codes.{Codes}
 use Rattle.sx_expand_laws.specs.Good.{IsGood}
 use Rattle.sx_expand_laws.proofs.Fresh.{each-at, each-of, each-append, among-first, among-second}
@@ -46,18 +46,18 @@ use Rattle.sx_run_laws.proofs.Written.{HasText, IsSound, all-sound, binder, firs
 
 -- What expansion promises of the lines of a record.
 
-record IsFine (r : LibRecord) : Type 0 where
+record IsFine (r : CompiledLibrary) : Type 0 where
   well_made : Each (IsWellMade []) (line_cores r)
   primitives : Each (λ o. is_keyword o ≡ false) (flat_map ops (line_cores r))
 
-fine : (earlier : List LibRecord) (r : LibRecord) → IsGood earlier r → IsFine r
+fine : (earlier : List CompiledLibrary) (r : CompiledLibrary) → IsGood earlier r → IsFine r
 fine earlier r h = record { well_made = h.well_made; primitives = h.primitives }
 
-all-fine : (found : Found) (s : Loading) (records : List LibRecord) (program : LibRecord) → AllStand found s records program → Each IsFine (records ++ program ∷ [])
+all-fine : (found : Found) (s : Loading) (records : List CompiledLibrary) (program : CompiledLibrary) → AllStand found s records program → Each IsFine (records ++ program ∷ [])
 all-fine found s records program h =
     each-append IsFine records (program ∷ []) (subst (Each IsFine) (sym h.parts) (fine _ h.derived h.first.good, each_place IsFine h.others here)) (fine _ program h.last.good, tt)
   where
-    here : (i : ℕ) (r : LibRecord) → slice_get h.others i ≡ Some r → IsFine r
+    here : (i : ℕ) (r : CompiledLibrary) → slice_get h.others i ≡ Some r → IsFine r
     here i r e = let x = same_place h.others s.done i r h.as_many e in fine _ r (h.each i x.0.0 x.0.1 r x.1 e).good
 
 -- what closed core code mentions, it binds, or it is given
@@ -70,12 +70,12 @@ mention-known ls c l closed a P bound given = by (among same_label (binders c) l
         let free : Among (binders c) l → ⊥ = λ d. let k = (given_decides (binders c) l).1 d in let bad : true ≡ false = sym k ∙ e in absurd (cc) in
         given (each-at (Among ls) (references c) l (references_given ls c closed) (free-referenced c l free a))
 
-module _ (records : List LibRecord) (program : LibRecord) (standing : AreStanding records program) (sound : Each IsSound (records ++ program ∷ [])) (checked : Each HasText (text_of records program))
+module _ (records : List CompiledLibrary) (program : CompiledLibrary) (standing : AreStanding records program) (sound : Each IsSound (records ++ program ∷ [])) (checked : Each HasText (text_of records program))
     (once : IsClosedOnce (text_of records program)) (good : Each IsFine (records ++ program ∷ [])) where
-  abbrev T : List LibRecord
+  abbrev T : List CompiledLibrary
   T = text_of records program
 
-  abbrev names : Names
+  abbrev names : VariableNames
   names = run_names records program
 
   bound-named : (l : Label) → Among (flat_map run_binders T) l → HasName names l
@@ -88,7 +88,7 @@ module _ (records : List LibRecord) (program : LibRecord) (standing : AreStandin
   defined-named : (l : Label) → Among (flat_map defined T) l → HasName names l
   defined-named l a = let found = flat-among defined T l a in bound-named l (among-flat run_binders T found.0 l found.1 (defined-bound found.0.run l found.2))
 
-  module _ (r : LibRecord) (there : Among T r) (x : Line) (in-run : Among r.run x) where
+  module _ (r : CompiledLibrary) (there : Among T r) (x : Line) (in-run : Among r.run x) where
     here : IsFine r
     here = each-at IsFine (records ++ program ∷ []) r good (text-known records program standing r there)
 
@@ -136,8 +136,8 @@ runs-spelled prelude files roots path found s records program text h =
     record { generated = names_are_generated records (plan_of records program) program; spellable = spellable; spellings = spelled.ds; spelled = spelled.spelled }
 
 -- it is core text
-pub core-text : (prelude : Result Codes Fault) (files : Paths) (roots : List (List ℕ)) (path : List ℕ) (found : Found) (s : Loading) (records : List LibRecord) (program : LibRecord) (text : List ℕ)
-    → GivesText prelude files roots path found s records program text → CanAllBeRead (run_lines records program) → IsCoreText records (plan_of records program) program text
+pub core-text : (prelude : Result Codes Fault) (files : Paths) (roots : List (List ℕ)) (path : List ℕ) (found : Found) (s : Loading) (records : List CompiledLibrary) (program : CompiledLibrary) (text : List ℕ)
+    → GivesText prelude files roots path found s records program text → CanAllBeRead (run_lines records program) → IsWrittenCoreText records (plan_of records program) program text
 core-text prelude files roots path found s records program text h readable =
     let k = runs-spelled prelude files roots path found s records program text h in
     record { given = h.given; generated = k.generated; spellable = k.spellable; readable = readable }

@@ -10,7 +10,7 @@ use Rattle.sx_tree.specs.declared.frame_row.FrameRow.{FrameRow}
 use Rattle.sx_frames.specs.Rows.{label_in}
 use Rattle.sx_frames.specs.Scope.{Scope, has_frame, rows_at, label_at, with_row, row_in, adopted, are_new}
 use Rattle.sx_frames.proofs.FrameLaws.{rows_at-with_row}
-use Rattle.sx_core.specs.declared.record.LibRecord.{LibRecord}
+use Rattle.sx_core.specs.declared.record.CompiledLibrary.{CompiledLibrary}
 use Rattle.sx_core_laws.specs.Follows.{names_of, IsOwn}
 use Rattle.sx_core_laws.specs.Words.{Each, Among}
 use Rattle.sx_eval.specs.Codes.{Codes}
@@ -23,28 +23,28 @@ use Rattle.sx_standing.specs.Start.{rows_of, first_frame, import_row, started}
 use Rattle.sx_expand_laws.specs.Serves.{AllServe}
 use Rattle.sx_expand_laws.proofs.Fresh.{each-append, each-map}
 use Rattle.sx_run_laws.specs.Bound.{AreBound}
-use Rattle.sx_run_laws.specs.Fitting.{Begins}
+use Rattle.sx_run_laws.specs.Fitting.{BeginsApart}
 use Rattle.sx_run_laws.proofs.Rows.{OnceBehind, RowsOnce, is-bound, adopted-once, AreElsewhere, has-none, rows-none, adopted-append, label-end, other-symbol}
 
 -- The rows of records and of what record forms introduce.
 
 -- a record of another library, with rows of its own frames
-abbrev pub IsApart : LibName → LibRecord → Type 0
+abbrev pub IsApart : LibName → CompiledLibrary → Type 0
 IsApart own r = (r.name ≡ own → ⊥) × Each (λ (x : FrameRow). IsOwn r x.frame.0) r.frames
 
-rows-elsewhere : (f : FrameNo) (rs : List LibRecord) → Each (IsApart f.0.library) rs → AreElsewhere f (rows_of rs)
+rows-elsewhere : (f : FrameNo) (rs : List CompiledLibrary) → Each (IsApart f.0.library) rs → AreElsewhere f (rows_of rs)
 rows-elsewhere f [] h = tt
 rows-elsewhere f (r ∷ rs) h = each-append (λ (x : FrameRow). f ≢ x.frame) r.frames (rows_of rs)
     (each-map (λ (x : FrameRow). IsOwn r x.frame.0) (λ (x : FrameRow). f ≢ x.frame) r.frames h.0.1 (λ x mine same. h.0.0 (sym mine ∙ ap (λ (g : FrameNo). g.0.library) (sym same))))
     (rows-elsewhere f rs h.1)
 
-pub names-apart : (own : LibName) (rs : List LibRecord) → Each (IsApart own) rs → Among (names_of rs) own → ⊥
+pub names-apart : (own : LibName) (rs : List CompiledLibrary) → Each (IsApart own) rs → Among (names_of rs) own → ⊥
 names-apart own [] h a = a
 names-apart own (r ∷ rs) h (inl e) = h.0.0 (sym e)
 names-apart own (r ∷ rs) h (inr a) = names-apart own rs h.1 a
 
 -- where records serve, that is so of each
-pub ready-apart : (own : LibName) (earlier rs : List LibRecord) → AllServe earlier rs → (Among (names_of rs) own → ⊥) → Each (IsApart own) rs
+pub ready-apart : (own : LibName) (earlier rs : List CompiledLibrary) → AllServe earlier rs → (Among (names_of rs) own → ⊥) → Each (IsApart own) rs
 ready-apart own earlier [] h new = tt
 ready-apart own earlier (r ∷ rs) h new = (((λ e. new (inl (sym e))), h.0.own_frames), ready-apart own (earlier ++ r ∷ []) rs h.1 (λ a. new (inr a)))
 
@@ -102,7 +102,7 @@ all-new f fs (n ∷ names) h = (ap (λ rows. label_in rows n.0 []) h, all-new f 
 
 -- The beginning.
 
-module _ (name : LibName) (records : List LibRecord) (apart : Each (IsApart name) records) (other : name ≡ library.Core → ⊥) where
+module _ (name : LibName) (records : List CompiledLibrary) (apart : Each (IsApart name) records) (other : name ≡ library.Core → ⊥) where
   abbrev before : Scope
   before = adopted [] (rows_of records ++ record_frame)
 
@@ -116,7 +116,7 @@ module _ (name : LibName) (records : List LibRecord) (apart : Each (IsApart name
   names-bound : (names : Labelled) → IsOnce names → AreBound before (map (import_row (first_frame name)) names)
   names-bound names o = imports-bound (first_frame name) before names (all-new (first_frame name) before names (own-none (first_frame name) refl)) o
 
-  pub begins : (names : Labelled) → Each (IsApart library.Core) records → IsOnce names → Begins records name names
+  pub begins : (names : Labelled) → Each (IsApart library.Core) records → IsOnce names → BeginsApart records name names
   begins names none o = record {
     new = names-apart name records apart;
     introduced = introduced-new (adopted [] (rows_of records)) (has-none core_frame [] (rows_of records) (rows-elsewhere core_frame records none) refl);

@@ -11,7 +11,7 @@ use Rattle.sx_tree.specs.Tree.{Tree}
 use Rattle.sx_frames.specs.Listed.{rows_in}
 use Rattle.sx_core.specs.Bindings.{bound_to}
 use Rattle.sx_core.specs.declared.binding.Binding.{Binding}
-use Rattle.sx_core.specs.declared.record.LibRecord.{LibRecord}
+use Rattle.sx_core.specs.declared.record.CompiledLibrary.{CompiledLibrary}
 use Rattle.sx_core_laws.specs.Words.{Each, Once}
 use Rattle.sx_eval.specs.Codes.{Codes}
 use Rattle.sx_import_laws.specs.Algebra.{IsOnce}
@@ -24,7 +24,7 @@ use Rattle.sx_expand.specs.Body.{splice, finish_all}
 use Rattle.sx_expand.specs.Expanding.{ready, body_of, library_record}
 use Rattle.sx_expand.specs.Expression.{inside, full_room}
 use Rattle.sx_expand.specs.Inside.{Inside}
-use Rattle.sx_expand.specs.Top.{record_in, give_record, exports, body_at, finished, first_pass, top}
+use Rattle.sx_expand.specs.Top.{record_in, give_record, exports, body_at, second_pass, first_pass, top}
 use Rattle.sx_expand.specs.declared.top.TopAt.{TopAt}
 use Rattle.sx_expand_laws.specs.States.{IsNumbered, Later}
 use Rattle.sx_expand_laws.proofs.Acts.{Gave, gave-after, told}
@@ -63,7 +63,7 @@ pub starts-numbered : StartsAreNumbered
 starts-numbered own records imports codes h = (started-sound own records imports codes h).numbered
 
 -- the frames and bindings of a record are those of the state that its expansion ended in
-record Ends (own : LibName) (start : State) (r : LibRecord) : Type 0 where
+record Ends (own : LibName) (start : State) (r : CompiledLibrary) : Type 0 where
   pub ended : State
   pub binds : Binds own start.frames ended.frames
   pub frames : r.frames ≡ rows_in r.name ended.frames
@@ -74,26 +74,26 @@ module _ (own : LibName) (go : Inside) (inner : Inner own go) (at : TopAt) (mine
   ends-record es d s h = gave-after (St own s) (λ r v. Ends own start r) (finish_all go 0 d.waiting s) (λ lines. give_record at es lines) (b-lines own go inner 0 d.waiting s h.next)
       (λ xs v k. record { ended = v; binds = (steps-then own start s v h k).binds; frames = refl; bindings = refl })
 
-  ends-finished : (es : List (List ℕ × Tree)) (d : Taken) (s : State) → Steps own start s → Gave (λ r v. Ends own start r) (finished go at es d s)
-  unfolding finished
+  ends-finished : (es : List (List ℕ × Tree)) (d : Taken) (s : State) → Steps own start s → Gave (λ r v. Ends own start r) (second_pass go at es d s)
+  unfolding second_pass
   ends-finished es d s h = gave-after (λ ls t. SameScope s t × AreShown s.frames ls) (λ r v. Ends own start r) (exports at es s) (λ ls t. after (finish_all go 0 d.waiting t) (λ lines. give_record at ls lines)) (same-exports at es s)
       (λ ls t k. ends-record ls d t (steps-then own start s t h (stays own s t (ap (λ n. n.library) k.0.names ∙ h.next) k.0.frames)))
 
   ends-top : (es : List (List ℕ × Tree)) (forms : List Tree) → Names own start → Gave (λ r v. Ends own start r) (top go at es forms start)
   unfolding top first_pass
-  ends-top es forms n = gave-after (St own start) (λ r v. Ends own start r) (splice go (body_at at start.library) 0 begun (map (stamp at.frame) forms) start) (finished go at es)
+  ends-top es forms n = gave-after (St own start) (λ r v. Ends own start r) (splice go (body_at at start.library) 0 begun (map (stamp at.frame) forms) start) (second_pass go at es)
       (b-splice own go inner (body_at at start.library) 0 begun (map (stamp at.frame) forms) start mine n) (λ d t k. ends-finished es d t k)
 
-in-record : (P : LibRecord → Type 0) (x : Result (LibRecord × State) Fault) (r : LibRecord) → Gave (λ y v. P y) x → record_in x ≡ Ok r → P r
+in-record : (P : CompiledLibrary → Type 0) (x : Result (CompiledLibrary × State) Fault) (r : CompiledLibrary) → Gave (λ y v. P y) x → record_in x ≡ Ok r → P r
 in-record P (Ok p) r h e = let is : p.0 ≡ r = cc in subst P is h
 in-record P (Err f) r h e = absurd (cc)
 
-started-names : (own : LibName) (records : List LibRecord) (imports : List (List ℕ × Label)) (codes : Codes) → (started own records imports codes).names.library ≡ own
+started-names : (own : LibName) (records : List CompiledLibrary) (imports : List (List ℕ × Label)) (codes : Codes) → (started own records imports codes).names.library ≡ own
 unfolding started
 started-names own records imports codes = refl
 
 -- behind records of other libraries
-pub once-behind : (own : LibName) (path : List ℕ) (records : List LibRecord) (imports : List (List ℕ × Label)) (version : List ℕ) (place : Span) (exports : List (List ℕ × Tree)) (forms : List Tree) (codes : Codes) (r : LibRecord)
+pub once-behind : (own : LibName) (path : List ℕ) (records : List CompiledLibrary) (imports : List (List ℕ × Label)) (version : List ℕ) (place : Span) (exports : List (List ℕ × Tree)) (forms : List Tree) (codes : Codes) (r : CompiledLibrary)
     → Each (IsApart own) records → (own ≡ library.Core → ⊥) → IsOnce imports → library_record (ready own path records imports codes) records version place exports forms ≡ Ok r → r.name ≡ own → IsOnceOver r
 once-behind own path records imports version place exports forms codes r h other o e named =
     let start = started own records imports codes in

@@ -3,7 +3,7 @@ use Rattle.std.proofs.Common.{◌≡◌, ℕ, zero, ◌+◌, List, [], ◌∷◌
 use Rattle.std.specs.Prelude.{slice_get}
 use Rattle.sx_base.specs.Gives.{◌>>=◌}
 use Rattle.sx_base.specs.declared.fault.Fault.{Fault}
-use Rattle.sx_core.specs.declared.record.LibRecord.{LibRecord}
+use Rattle.sx_core.specs.declared.record.CompiledLibrary.{CompiledLibrary}
 use Rattle.sx_derived.specs.Derived.{derived_record}
 use Rattle.sx_eval.specs.Codes.{Codes}
 use Rattle.sx_forms.specs.Form.{program_body}
@@ -19,7 +19,7 @@ use Rattle.sx_outside.specs.Contents.{Paths}
 use Rattle.sx_plan.specs.Planned.{plan_of}
 use Rattle.sx_prelude.specs.Prelude.{prelude_table}
 use Rattle.sx_make.specs.Made.{made_files}
-use Rattle.sx_run.specs.Whole.{Outcome, usage, done, fault, source_of, loading_of, outcome_of, map_behind, text_behind_by, text_by, of_job, made_job, summed, of_made, of_words}
+use Rattle.sx_run.specs.Whole.{RunOutcome, usage, done, fault, source_of, loading_of, outcome_of, map_behind, text_behind_by, text_by, of_job, made_job, summed, of_made, of_words}
 use Rattle.sx_run.specs.Words.{words_asked}
 use Rattle.sx_run_laws.proofs.LinkedRuns.{run_recorded, links-told}
 use Rattle.sx_run_laws.proofs.UserLemmas.{program_name}
@@ -53,12 +53,12 @@ as-told (Err f) h = h
 
 module _ (prelude : Result Codes Fault) (read : AreRead prelude) where
   -- the records of the libraries that were loaded, and what comes of them
-  records-told : {X : Type 0} (s : Loading) → IsSound s → AllUsers s.done → (go : List LibRecord → Result X Fault)
-      → ((d : LibRecord) (first : IsFirst d) (sound : IsSound s) (users : AllUsers s.done) (records : List LibRecord) → AreMade prelude read s sound users d first records → Told Any (go records))
+  records-told : {X : Type 0} (s : Loading) → IsSound s → AllUsers s.done → (go : List CompiledLibrary → Result X Fault)
+      → ((d : CompiledLibrary) (first : IsFirst d) (sound : IsSound s) (users : AllUsers s.done) (records : List CompiledLibrary) → AreMade prelude read s sound users d first records → Told Any (go records))
       → Told Any (all_records prelude s.done >>= go)
   records-told s sound users go next = by (derived_record prelude) (first-told prelude read)
     where
-      by : (x : Result LibRecord Fault) → Told IsFirst x → Told Any ((x >>= (λ d. turns (expand_next prelude) (d ∷ []) s.done)) >>= go)
+      by : (x : Result CompiledLibrary Fault) → Told IsFirst x → Told Any ((x >>= (λ d. turns (expand_next prelude) (d ∷ []) s.done)) >>= go)
       by (Err f) h = h
       by (Ok d) h =
           told-then (AreMade prelude read s sound users d h) Any (turns (expand_next prelude) (d ∷ []) s.done) go
@@ -67,8 +67,8 @@ module _ (prelude : Result Codes Fault) (read : AreRead prelude) where
 
   module _ (files : Paths) (roots : List (List ℕ)) (path : List ℕ) where
     -- where loading ends: what comes of the records and the program's is told
-    ends : {X : Type 0} (found : Found) (s : Loading) → load files roots path ≡ Ok (found, s) → (last : List LibRecord → LibRecord → Result X Fault)
-        → ((records : List LibRecord) (program : LibRecord) → Told Any (last records program))
+    ends : {X : Type 0} (found : Found) (s : Loading) → load files roots path ≡ Ok (found, s) → (last : List CompiledLibrary → CompiledLibrary → Result X Fault)
+        → ((records : List CompiledLibrary) (program : CompiledLibrary) → Told Any (last records program))
         → Told Any (all_records prelude s.done >>= (λ records. expand_found prelude records found (program_body found.opened.«data») >>= (λ program. last records program)))
     ends found s h last told =
         let l = loads_all files roots path found s h in
@@ -78,18 +78,18 @@ module _ (prelude : Result Codes Fault) (read : AreRead prelude) where
         closed : NeedsAreClosed s.done found
         closed = (loads_all files roots path found s h).stands.closed
 
-        program : (d : LibRecord) (first : IsFirst d) (sound : IsSound s) (users : AllUsers s.done) (records : List LibRecord) → AreMade prelude read s sound users d first records
+        program : (d : CompiledLibrary) (first : IsFirst d) (sound : IsSound s) (users : AllUsers s.done) (records : List CompiledLibrary) → AreMade prelude read s sound users d first records
             → Told Any (expand_found prelude records found (program_body found.opened.«data») >>= (λ program. last records program))
         program d first sound users records m =
             let is = program_name files roots path found s h in
             told-then (λ r. Unit {0}) Any (expand_found prelude records found (program_body found.opened.«data»)) (λ program. last records program)
-            (subst (λ (rs : List LibRecord). Told (λ r. Unit {0}) (expand_found prelude rs found (program_body found.opened.«data»))) (sym m.parts)
+            (subst (λ (rs : List CompiledLibrary). Told (λ r. Unit {0}) (expand_found prelude rs found (program_body found.opened.«data»))) (sym m.parts)
             (any (IsItsRecord s sound users d first m.others found) (expand_found prelude (d ∷ m.others) found (program_body found.opened.«data»))
             (found-told prelude read s sound users d first m.others m.made found closed (program-new s sound users d first.stands first.behind m.others m.made found closed found.opened.form.name is)
             (no-text-program found.opened.form.name is) (program_body found.opened.«data»))))
             (λ r g. told records r)
           where
-            any : (P : LibRecord → Type 0) (x : Result LibRecord Fault) → Told P x → Told (λ r. Unit {0}) x
+            any : (P : CompiledLibrary → Type 0) (x : Result CompiledLibrary Fault) → Told P x → Told (λ r. Unit {0}) x
             any P (Ok r) k = tt
             any P (Err f) k = k
 
@@ -141,7 +141,7 @@ module _ (files : Paths) (job : Job) where
       outcome-other (loading_of loaded) (text_by job.kind prelude_table loaded) refl (runs-never-stuck job.kind files job.roots job.program)
 
 -- the line of a fault is kept where a text is summed up
-summed-other : (files : Paths) (job : Job) (count : ℕ) (o : Outcome) → TellsOther files job o → TellsOther files job (summed count o)
+summed-other : (files : Paths) (job : Job) (count : ℕ) (o : RunOutcome) → TellsOther files job o → TellsOther files job (summed count o)
 summed-other files job count usage h = tt
 summed-other files job count (done text report) h = tt
 summed-other files job count (fault line) h = h

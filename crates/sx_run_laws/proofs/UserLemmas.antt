@@ -15,7 +15,7 @@ use Rattle.sx_forms.specs.All.{given}
 use Rattle.sx_forms.specs.Export.{Exports, exported}
 use Rattle.sx_forms.specs.Form.{form_of, not_library, or_fault, import_specs, export_specs, library_with, library_of, library_parts, library_in, read_library, program_of, read_program}
 use Rattle.sx_forms.specs.Name.{leading, behind, version_in, named_by, named}
-use Rattle.sx_forms.specs.Set.{place_of}
+use Rattle.sx_forms.specs.Set.{datum_place}
 use Rattle.sx_forms.specs.Version.{version_fits}
 use Rattle.sx_forms.specs.declared.export.Export.{Export}
 use Rattle.sx_forms.specs.declared.form.LibraryForm.{LibraryForm}
@@ -92,7 +92,7 @@ module _ (file : List ℕ) (f : LibraryForm) where
   parts_user fault name None exports imports read e h = absurd (cc)
   parts_user fault name (Some n) None imports read e h = absurd (cc)
   parts_user fault name (Some n) (Some es) None read e h = absurd (cc)
-  parts_user fault name (Some n) (Some es) (Some is) read e h = form_user (place_of file name) es is n (named_user name n read e) h
+  parts_user fault name (Some n) (Some es) (Some is) read e h = form_user (datum_place file name) es is n (named_user name n read e) h
 
   in_user : (fault : Fault) (ds : List PlainDatum) → Each HasNames ds → library_in file fault ds ≡ Ok f → IsUser f.name
   in_user fault [] read h = absurd (cc)
@@ -114,13 +114,13 @@ module _ (file : List ℕ) (f : LibraryForm) where
   read_is_program (d ∷ ds) h = by (form_of (codes "import") d) h
     where
       by_imports : (x : Result (List Import) Fault)
-          → (x >>= (λ is. Ok (record { name = library.Program; name_span = place_of file d; version = []; exports = []; imports = is }))) ≡ Ok f → f.name ≡ library.Program
+          → (x >>= (λ is. Ok (record { name = library.Program; name_span = datum_place file d; version = []; exports = []; imports = is }))) ≡ Ok f → f.name ≡ library.Program
       by_imports (Ok is) h =
-          let same : ◌≡◌ {A = LibraryForm} (record { name = library.Program; name_span = place_of file d; version = []; exports = []; imports = is }) f = cc in
+          let same : ◌≡◌ {A = LibraryForm} (record { name = library.Program; name_span = datum_place file d; version = []; exports = []; imports = is }) f = cc in
           ap (λ (x : LibraryForm). x.name) (sym same)
       by_imports (Err e) h = absurd (cc)
 
-      by : (o : Option (List PlainDatum)) → or_fault (not_library file (d ∷ ds)) o (program_of file (place_of file d)) ≡ Ok f → f.name ≡ library.Program
+      by : (o : Option (List PlainDatum)) → or_fault (not_library file (d ∷ ds)) o (program_of file (datum_place file d)) ≡ Ok f → f.name ≡ library.Program
       by None h = absurd (cc)
       by (Some is) h = by_imports (import_specs file [] is) h
 

@@ -5,7 +5,7 @@ use Rattle.std.specs.List.{flat_map}
 use Rattle.sx_base.specs.declared.library.LibName.{LibName}
 use Rattle.sx_base.specs.declared.name.Label.{Label}
 use Rattle.sx_core.specs.Core.{PlainCore}
-use Rattle.sx_core.specs.declared.record.LibRecord.{LibRecord}
+use Rattle.sx_core.specs.declared.record.CompiledLibrary.{CompiledLibrary}
 use Rattle.sx_core_laws.specs.Follows.{names_of, export_labels, row_labels, bound_labels, line_cores, keywords, IsKnown, Suits, Follows}
 use Rattle.sx_core_laws.specs.Records.{defined}
 use Rattle.sx_core_laws.specs.Words.{Among}
@@ -14,19 +14,19 @@ use Rattle.sx_expand_laws.proofs.Fresh.{each-map, among-parts, among-first, amon
 use Rattle.sx_run_laws.proofs.NameLemmas.{name_among, named_among}
 
 -- each of the first is one of the second
-abbrev pub AreAmong : List LibRecord → List LibRecord → Type 0
-AreAmong few many = (q : LibRecord) → Among few q → Among many q
+abbrev pub AreAmong : List CompiledLibrary → List CompiledLibrary → Type 0
+AreAmong few many = (q : CompiledLibrary) → Among few q → Among many q
 
 -- ---- what records have
 
-module _ {B : Type 0} (of : LibRecord → List B) where
-  pub among_all : (rs : List LibRecord) (r : LibRecord) (x : B) → Among rs r → Among (of r) x → Among (flat_map of rs) x
+module _ {B : Type 0} (of : CompiledLibrary → List B) where
+  pub among_all : (rs : List CompiledLibrary) (r : CompiledLibrary) (x : B) → Among rs r → Among (of r) x → Among (flat_map of rs) x
   among_all [] r x a b = elim a [ ]
-  among_all (q ∷ rs) r x (inl e) b = among-first (of q) (flat_map of rs) x (subst (λ (y : LibRecord). Among (of y) x) e b)
+  among_all (q ∷ rs) r x (inl e) b = among-first (of q) (flat_map of rs) x (subst (λ (y : CompiledLibrary). Among (of y) x) e b)
   among_all (q ∷ rs) r x (inr a) b = among-second (of q) (flat_map of rs) x (among_all rs r x a b)
 
   -- what one of some records has, more records have
-  pub all_wider : (few many : List LibRecord) (x : B) → AreAmong few many → Among (flat_map of few) x → Among (flat_map of many) x
+  pub all_wider : (few many : List CompiledLibrary) (x : B) → AreAmong few many → Among (flat_map of few) x → Among (flat_map of many) x
   all_wider [] many x w a = elim a [ ]
   all_wider (q ∷ few) many x w a = by (among-parts (of q) (flat_map of few) x a) (all_wider few many x (λ y c. w y (inr c)))
     where
@@ -34,12 +34,12 @@ module _ {B : Type 0} (of : LibRecord → List B) where
       by (inl b) rest = among_all many q x (w q (inl refl)) b
       by (inr b) rest = rest b
 
-pub names_wider : (few many : List LibRecord) (n : LibName) → AreAmong few many → Among (names_of few) n → Among (names_of many) n
+pub names_wider : (few many : List CompiledLibrary) (n : LibName) → AreAmong few many → Among (names_of few) n → Among (names_of many) n
 names_wider few many n w a = let x = named_among few n a in subst (Among (names_of many)) x.name (name_among many x.record_of (w x.record_of x.among))
 
 -- ---- a record behind more of them
 
-module _ (r : LibRecord) (few many : List LibRecord) (w : AreAmong few many) where
+module _ (r : CompiledLibrary) (few many : List CompiledLibrary) (w : AreAmong few many) where
   known_wider : (l : Label) → IsKnown r few l → IsKnown r many l
   known_wider l (inl a) = inl (by (among-parts (bound_labels r) (flat_map bound_labels few) l a))
     where

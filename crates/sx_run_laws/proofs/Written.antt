@@ -12,12 +12,12 @@ use Rattle.sx_core.specs.Labels.{same_label}
 use Rattle.sx_core.specs.declared.binding.Binding.{Binding}
 use Rattle.sx_core.specs.declared.binding.Binding.TheVariants as binding
 use Rattle.sx_core.specs.declared.binding.VarInfo.{VarInfo}
-use Rattle.sx_core.specs.declared.record.LibRecord.{LibRecord}
+use Rattle.sx_core.specs.declared.record.CompiledLibrary.{CompiledLibrary}
 use Rattle.sx_core.specs.declared.record.Line.{Line}
 use Rattle.sx_core_laws.specs.Follows.{names_of, bound_labels, index_in, index_of, indices, run_variables, IsThere, IsOwn}
 use Rattle.sx_core_laws.specs.Records.{defined, line_core, line_binders, run_binders, LinesClosed}
 use Rattle.sx_core_laws.specs.Words.{Each, Among, Once}
-use Rattle.sx_core_text.specs.CoreText.{Names, name_of}
+use Rattle.sx_core_text.specs.CoreText.{VariableNames, name_of}
 use Rattle.sx_core_text.specs.Syntax.{Checked, written, lines_checked}
 use Rattle.sx_core_text.specs.Whole.{record_checked, plan_checked, all_names, all_text, core_text}
 use Rattle.sx_eval.specs.Codes.{Codes}
@@ -56,18 +56,18 @@ first-gives : {B : Type 0} (r : Checked) (k : Result B Fault) (b : B) → (r >>=
 first-gives (Ok x) k b e = (refl, e)
 first-gives (Err f) k b e = absurd (cc)
 
-abbrev pub HasText : LibRecord → Type 0
+abbrev pub HasText : CompiledLibrary → Type 0
 HasText r = lines_checked r.run ≡ written
 
-plan-text : (records : List LibRecord) (ps : List ℕ) → plan_checked records ps ≡ written → Each HasText (records_at records ps)
+plan-text : (records : List CompiledLibrary) (ps : List ℕ) → plan_checked records ps ≡ written → Each HasText (records_at records ps)
 plan-text records [] e = tt
 plan-text records (p ∷ ps) e = by (slice_get records p) (first-gives (record_checked (slice_get records p)) (plan_checked records ps) tt e) (λ k. plan-text records ps k)
   where
-    by : (o : Option LibRecord) → (record_checked o ≡ written) × (plan_checked records ps ≡ written) → (plan_checked records ps ≡ written → Each HasText (records_at records ps)) → Each HasText (or_skip o (records_at records ps))
+    by : (o : Option CompiledLibrary) → (record_checked o ≡ written) × (plan_checked records ps ≡ written) → (plan_checked records ps ≡ written → Each HasText (records_at records ps)) → Each HasText (or_skip o (records_at records ps))
     by None k rest = rest k.1
     by (Some r) k rest = (k.0, rest k.1)
 
-pub text-checked : (records : List LibRecord) (program : LibRecord) (text : List ℕ) → core_text records (plan_of records program) program ≡ Ok text → Each HasText (text_of records program)
+pub text-checked : (records : List CompiledLibrary) (program : CompiledLibrary) (text : List ℕ) → core_text records (plan_of records program) program ≡ Ok text → Each HasText (text_of records program)
 text-checked records program text e =
     let plan = plan_of records program in
     let whole : Result (List ℕ) Fault = Ok (all_text (all_names records plan program) records plan program) in
@@ -84,19 +84,19 @@ user-named library.Prelude h = elim h [ ]
 user-named library.Program h = elim h [ ]
 user-named (library.User parts) h = h
 
-pub record IsSound (r : LibRecord) : Type 0 where
+pub record IsSound (r : CompiledLibrary) : Type 0 where
   pub indices : HasIndices r
   pub own : Each (λ (l : Label). IsOwn r l.0) (bound_labels r)
   pub named : (r.run ≡ []) ⊎ IsNamed r.name
 
-pub all-sound : (found : Found) (s : Loading) (records : List LibRecord) (program : LibRecord) → ((i : ℕ) (file : List ℕ) (f : Found) → slice_get s.done i ≡ Some (file, f) → IsUser f.opened.form.name)
+pub all-sound : (found : Found) (s : Loading) (records : List CompiledLibrary) (program : CompiledLibrary) → ((i : ℕ) (file : List ℕ) (f : Found) → slice_get s.done i ≡ Some (file, f) → IsUser f.opened.form.name)
     → (h : AllStand found s records program) → h.derived.run ≡ [] → Each IsSound (records ++ program ∷ [])
 all-sound found s records program users h bare =
     each-append IsSound records (program ∷ [])
     (subst (Each IsSound) (sym h.parts) (record { indices = h.first.indices; own = h.first.serves.own_bindings; named = inl bare }, each_place IsSound h.others here))
     (record { indices = h.last.indices; own = h.last.serves.own_bindings; named = inr (subst IsNamed (sym h.last.named) tt) }, tt)
   where
-    here : (i : ℕ) (r : LibRecord) → slice_get h.others i ≡ Some r → IsSound r
+    here : (i : ℕ) (r : CompiledLibrary) → slice_get h.others i ≡ Some r → IsSound r
     here i r e =
         let x = same_place h.others s.done i r h.as_many e in
         let st = h.each i x.0.0 x.0.1 r x.1 e in
@@ -107,14 +107,14 @@ each-mapped P g [] h = tt
 each-mapped P g (x ∷ xs) h = (h.0, each-mapped P g xs h.1)
 
 -- a variable of a record, with its index
-pub record IsIndexedIn (r : LibRecord) (l : Label) : Type 0 where
+pub record IsIndexedIn (r : CompiledLibrary) (l : Label) : Type 0 where
   pub variable : VarInfo
   pub number : ℕ
   pub bound : Among r.bindings (l, binding.Variable variable)
   pub index : variable.index ≡ Some number
   pub told : index_of r l ≡ Some number
 
-indexed-in : (r : LibRecord) (l : Label) → IsThere (index_of r l) → IsIndexedIn r l
+indexed-in : (r : CompiledLibrary) (l : Label) → IsThere (index_of r l) → IsIndexedIn r l
 indexed-in r l h = by (lookup (same_label l) r.bindings) refl h
   where
     with-index : (v : VarInfo) → lookup (same_label l) r.bindings ≡ Some (binding.Variable v) → (o : Option ℕ) → v.index ≡ o → IsThere o → IsIndexedIn r l
@@ -129,14 +129,14 @@ indexed-in r l h = by (lookup (same_label l) r.bindings) refl h
     by (Some (binding.Core form)) e k = elim k [ ]
     by (Some (binding.Primitive o)) e k = elim k [ ]
 
-module _ (records : List LibRecord) (program : LibRecord) (standing : AreStanding records program) (sound : Each IsSound (records ++ program ∷ [])) (checked : Each HasText (text_of records program)) where
-  abbrev T : List LibRecord
+module _ (records : List CompiledLibrary) (program : CompiledLibrary) (standing : AreStanding records program) (sound : Each IsSound (records ++ program ∷ [])) (checked : Each HasText (text_of records program)) where
+  abbrev T : List CompiledLibrary
   T = text_of records program
 
-  abbrev names : Names
+  abbrev names : VariableNames
   names = all_names records (plan_of records program) program
 
-  pub text-sound : (r : LibRecord) → Among T r → IsSound r
+  pub text-sound : (r : CompiledLibrary) → Among T r → IsSound r
   text-sound r a = each-at IsSound (records ++ program ∷ []) r sound (text-known records program standing r a)
 
   names-once : Once (names_of T)
@@ -144,7 +144,7 @@ module _ (records : List LibRecord) (program : LibRecord) (standing : AreStandin
 
   -- a binder of the text, and its name
   pub record IsBinder (l : Label) : Type 0 where
-    pub holder : LibRecord
+    pub holder : CompiledLibrary
     pub there : Among T holder
     pub variables : Among (run_variables holder) l
     pub indexed : IsIndexedIn holder l
@@ -167,11 +167,11 @@ module _ (records : List LibRecord) (program : LibRecord) (standing : AreStandin
         indexed = i;
         own = own;
         named = subst IsNamed (sym own) (not-bare r s.named found.2);
-        called = ap (λ (ns : Names). lookup (same_label l) ns) (names-of-text records program)
+        called = ap (λ (ns : VariableNames). lookup (same_label l) ns) (names-of-text records program)
             ∙ name-in T [] r l i.variable i.number names-once (each-of (λ q. Each (λ (m : Label). IsOwn q m.0) (bound_labels q)) T (λ q b. (text-sound q b).own)) (each-of (λ q. Once (bound_labels q)) T (λ q b. (text-sound q b).indices.bindings_once)) found.1 i.bound i.index;
       }
     where
-      not-bare : (r : LibRecord) → (r.run ≡ []) ⊎ IsNamed r.name → Among (run_binders r) l → IsNamed r.name
+      not-bare : (r : CompiledLibrary) → (r.run ≡ []) ⊎ IsNamed r.name → Among (run_binders r) l → IsNamed r.name
       not-bare r (inl e) b = absurd (subst (λ (xs : List Line). Among (flat_map line_binders xs) l) e b)
       not-bare r (inr n) b = n
 
@@ -185,8 +185,8 @@ module _ (records : List LibRecord) (program : LibRecord) (standing : AreStandin
         let y = binder m b in
         let told = place_told l.0.library m.0.library x.indexed.variable.symbol y.indexed.variable.symbol x.indexed.number y.indexed.number x.named y.named (sym (name-is l x) ∙ e ∙ name-is m y) in
         let one : x.holder ≡ y.holder = same-record T names-once x.holder y.holder x.there y.there (sym x.own ∙ told.0 ∙ y.own) in
-        let among : Among (run_variables x.holder) m = subst (λ (r : LibRecord). Among (run_variables r) m) (sym one) y.variables in
-        let index : index_of x.holder m ≡ Some y.indexed.number = subst (λ (r : LibRecord). index_of r m ≡ Some y.indexed.number) (sym one) y.indexed.told in
+        let among : Among (run_variables x.holder) m = subst (λ (r : CompiledLibrary). Among (run_variables r) m) (sym one) y.variables in
+        let index : index_of x.holder m ≡ Some y.indexed.number = subst (λ (r : CompiledLibrary). index_of r m ≡ Some y.indexed.number) (sym one) y.indexed.told in
         map-once (index_of x.holder) (run_variables x.holder) l m (text-sound x.holder x.there).indices.indexed_once x.variables among (x.indexed.told ∙ ap Some told.1 ∙ sym index)
 
     pub text-written : IsWrittenOnce names T
@@ -199,12 +199,12 @@ module _ (records : List LibRecord) (program : LibRecord) (standing : AreStandin
     }
 
 -- the record of the derived library comes first, and has no lines
-pub first-bare : (prelude : Result Codes Fault) (found : Found) (s : Loading) (records : List LibRecord) (program : LibRecord) → all_records prelude s.done ≡ Ok records → (h : AllStand found s records program) → h.derived.run ≡ []
+pub first-bare : (prelude : Result Codes Fault) (found : Found) (s : Loading) (records : List CompiledLibrary) (program : CompiledLibrary) → all_records prelude s.done ≡ Ok records → (h : AllStand found s records program) → h.derived.run ≡ []
 first-bare prelude found s records program e h =
     let made = all_made prelude s.done records e in
     let same : made.derived ∷ made.others ≡ h.derived ∷ h.others = sym made.parts ∙ h.parts in
     let is : made.derived ≡ h.derived = cc in
-    subst (λ (r : LibRecord). r.run ≡ []) is (derived-bare made.derived prelude made.made)
+    subst (λ (r : CompiledLibrary). r.run ≡ []) is (derived-bare made.derived prelude made.made)
 
 pub runs-written : RunsAreWrittenOnce
 runs-written prelude files roots path found s records program text run e =

@@ -5,7 +5,7 @@ use Rattle.sx_base.specs.declared.library.LibName.{LibName}
 use Rattle.sx_base.specs.declared.library.LibName.TheVariants as library
 use Rattle.sx_tree.specs.declared.frame_row.FrameRow.{FrameRow}
 use Rattle.sx_frames.specs.Scope.{has_frame, adopted, are_new}
-use Rattle.sx_core.specs.declared.record.LibRecord.{LibRecord}
+use Rattle.sx_core.specs.declared.record.CompiledLibrary.{CompiledLibrary}
 use Rattle.sx_core_laws.specs.Follows.{names_of, bound_labels, IsOwn}
 use Rattle.sx_core_laws.specs.Words.{Each, Among, Once}
 use Rattle.sx_eval.specs.Codes.{Codes}
@@ -23,36 +23,36 @@ use Rattle.sx_run_laws.specs.Bound.{AreBound}
 
 -- A record that comes behind others can be put beside them: it is the first of its library; its rows are of its own frames, and no two
 -- have one frame, symbol and marks; the labels that it binds are its own, and it binds none twice.
-pub record Fits (earlier : List LibRecord) (r : LibRecord) : Type 0 where
+pub record Fits (earlier : List CompiledLibrary) (r : CompiledLibrary) : Type 0 where
   pub name : Among (names_of earlier) r.name → ⊥
   pub own_rows : Each (λ (f : FrameRow). IsOwn r f.frame.0) r.frames
   pub rows : AreBound [] r.frames
   pub own_labels : Each (λ l. IsOwn r l.0) (bound_labels r)
   pub labels : Once (bound_labels r)
 
-abbrev pub AllFit : List LibRecord → List LibRecord → Type 0
+abbrev pub AllFit : List CompiledLibrary → List CompiledLibrary → Type 0
 AllFit earlier [] = Unit {0}
 AllFit earlier (r ∷ rs) = Fits earlier r × AllFit (earlier ++ r ∷ []) rs
 
 -- so it is with the records of every run
 abbrev pub RecordsFit : Type 0
-RecordsFit = (prelude : Result Codes Fault) (files : Paths) (roots : List (List ℕ)) (path : List ℕ) (found : Found) (s : Loading) (records : List LibRecord) (program : LibRecord)
+RecordsFit = (prelude : Result Codes Fault) (files : Paths) (roots : List (List ℕ)) (path : List ℕ) (found : Found) (s : Loading) (records : List CompiledLibrary) (program : CompiledLibrary)
     → IsRun prelude files roots path found s records program → AllFit [] records
 
 -- The expansion of a library behind these records, with these names: none of them has its name; the frame of what record forms introduce, and
 -- its own, are none of theirs; and no two of the names are one.
-pub record Begins (behind : List LibRecord) (name : LibName) (names : Labelled) : Type 0 where
+pub record BeginsApart (behind : List CompiledLibrary) (name : LibName) (names : Labelled) : Type 0 where
   pub new : Among (names_of behind) name → ⊥
   pub introduced : are_new record_frame (adopted [] (rows_of behind)) ≡ true
   pub own_frame : has_frame (first_frame name) (adopted [] (rows_of behind ++ record_frame)) ≡ false
   pub imports : AreBound (adopted [] (rows_of behind ++ record_frame)) (map (import_row (first_frame name)) names)
 
 -- so it is with each library that is loaded, behind those before it that it needs, and with the program
-pub record AllBegin (found : Found) (s : Loading) (records : List LibRecord) : Type 0 where
-  pub each : (before after : List LibRecord) (i : ℕ) (file : List ℕ) (f : Found) (names : Labelled) → records ≡ before ++ after → length before ≡ suc i → IsAt s.done i file f
-      → form_names (needed_records before (true ∷ f.needs)) f.opened.form.imports ≡ Ok names → Begins (needed_records before (true ∷ f.needs)) f.opened.form.name names
-  pub last : (names : Labelled) → form_names (needed_records records (true ∷ found.needs)) found.opened.form.imports ≡ Ok names → Begins (needed_records records (true ∷ found.needs)) library.Program names
+pub record AllBegin (found : Found) (s : Loading) (records : List CompiledLibrary) : Type 0 where
+  pub each : (before after : List CompiledLibrary) (i : ℕ) (file : List ℕ) (f : Found) (names : Labelled) → records ≡ before ++ after → length before ≡ suc i → IsAt s.done i file f
+      → form_names (needed_records before (true ∷ f.needs)) f.opened.form.imports ≡ Ok names → BeginsApart (needed_records before (true ∷ f.needs)) f.opened.form.name names
+  pub last : (names : Labelled) → form_names (needed_records records (true ∷ found.needs)) found.opened.form.imports ≡ Ok names → BeginsApart (needed_records records (true ∷ found.needs)) library.Program names
 
 abbrev pub ExpansionsBegin : Type 0
-ExpansionsBegin = (prelude : Result Codes Fault) (files : Paths) (roots : List (List ℕ)) (path : List ℕ) (found : Found) (s : Loading) (records : List LibRecord) (program : LibRecord)
+ExpansionsBegin = (prelude : Result Codes Fault) (files : Paths) (roots : List (List ℕ)) (path : List ℕ) (found : Found) (s : Loading) (records : List CompiledLibrary) (program : CompiledLibrary)
     → IsRun prelude files roots path found s records program → AllBegin found s records

@@ -1,7 +1,7 @@
 -- What records mention.
 use Rattle.std.specs.Prelude.{List}
 use Rattle.std.specs.List.{flat_map}
-use Rattle.sx_core.specs.declared.record.LibRecord.{LibRecord}
+use Rattle.sx_core.specs.declared.record.CompiledLibrary.{CompiledLibrary}
 use Rattle.sx_core_laws.specs.Follows.{names_of, export_labels, row_labels, keywords}
 use Rattle.sx_core_laws.specs.Records.{defined, LinesClosed}
 use Rattle.sx_core_laws.specs.Scope.{Closed}
@@ -10,7 +10,7 @@ use Rattle.sx_expand_laws.specs.Behind.{IsKnownBefore}
 
 -- Each label that it exports or that its frames give is bound in one of these records, or given with the implementation. Its lines, and the
 -- expressions of its keywords, are closed under what their lines define. Its references are libraries of these records.
-pub record MentionsTheKnown (records : List LibRecord) (r : LibRecord) : Type 0 where
+pub record MentionsTheKnown (records : List CompiledLibrary) (r : CompiledLibrary) : Type 0 where
   pub exports : Each (IsKnownBefore records) (export_labels r)
   pub rows : Each (IsKnownBefore records) (row_labels r)
   pub lines : LinesClosed (flat_map defined records) r

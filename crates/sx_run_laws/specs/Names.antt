@@ -5,20 +5,20 @@ use Rattle.sx_base.specs.declared.name.Label.{Label}
 use Rattle.sx_core.specs.Core.{PlainCore, quoted, variable, primitive, one_armed, two_armed, assignment, sequence, procedure, letrec, call, instance, matching}
 use Rattle.sx_core.specs.Core.{PlainCores, none, more, PlainInits, no_init, init, PlainCases, no_case, case}
 use Rattle.sx_core.specs.References.{formals_labels}
-use Rattle.sx_core.specs.declared.record.LibRecord.{LibRecord}
+use Rattle.sx_core.specs.declared.record.CompiledLibrary.{CompiledLibrary}
 use Rattle.sx_core_laws.specs.Parts.{init_labels}
 use Rattle.sx_core_laws.specs.Records.{defined, line_core, run_binders}
 use Rattle.sx_core_laws.specs.Words.{Each, Among, Once}
-use Rattle.sx_core_text.specs.CoreText.{Names, name_of}
-use Rattle.sx_name_laws.specs.Apart.{IsReadAs}
+use Rattle.sx_core_text.specs.CoreText.{VariableNames, name_of}
+use Rattle.sx_name_laws.specs.Apart.{IsReadAsSymbol}
 
 -- the names of labels
-abbrev pub names_for : Names → List Label → List (List ℕ)
+abbrev pub names_for : VariableNames → List Label → List (List ℕ)
 names_for names ls = map (name_of names) ls
 
 -- Each name that is mentioned or assigned is one of these, or is bound round it. Forms of `syntax` and `syntax-case` have no text.
 abbrev mutual
-  pub NamesClosed : Names → List (List ℕ) → PlainCore → Type 0
+  pub NamesClosed : VariableNames → List (List ℕ) → PlainCore → Type 0
   NamesClosed names ns (quoted d) = Unit {0}
   NamesClosed names ns (variable l) = Among ns (name_of names l)
   NamesClosed names ns (primitive o) = Unit {0}
@@ -32,15 +32,15 @@ abbrev mutual
   NamesClosed names ns (instance t s) = ⊥
   NamesClosed names ns (matching c cs s) = ⊥
 
-  pub AllNamesClosed : Names → List (List ℕ) → PlainCores → Type 0
+  pub AllNamesClosed : VariableNames → List (List ℕ) → PlainCores → Type 0
   AllNamesClosed names ns none = Unit {0}
   AllNamesClosed names ns (more c cs) = NamesClosed names ns c × AllNamesClosed names ns cs
 
-  pub InitNamesClosed : Names → List (List ℕ) → PlainInits → Type 0
+  pub InitNamesClosed : VariableNames → List (List ℕ) → PlainInits → Type 0
   InitNamesClosed names ns no_init = Unit {0}
   InitNamesClosed names ns (init l c is) = NamesClosed names ns c × InitNamesClosed names ns is
 
-  pub CaseNamesClosed : Names → List (List ℕ) → PlainCases → Type 0
+  pub CaseNamesClosed : VariableNames → List (List ℕ) → PlainCases → Type 0
   CaseNamesClosed names ns no_case = Unit {0}
   CaseNamesClosed names ns (case f c cs) = NamesClosed names (names_for names (formals_labels f) ++ ns) c × CaseNamesClosed names ns cs
 
@@ -48,11 +48,11 @@ abbrev mutual
 pub record IsWrittenName (name : List ℕ) : Type 0 where
   pub rest : List ℕ
   pub begins : name ≡ 0x25 ∷ rest
-  pub read : (file : List ℕ) (nesting : ℕ) → IsReadAs file nesting name name
+  pub read : (file : List ℕ) (nesting : ℕ) → IsReadAsSymbol file nesting name name
 
 -- The text of these records, with these names: each variable that it defines or binds has such a name; each line is closed by names under
 -- the names of all that it defines; and no two binders have one name.
-pub record IsWrittenOnce (names : Names) (text : List LibRecord) : Type 0 where
+pub record IsWrittenOnce (names : VariableNames) (text : List CompiledLibrary) : Type 0 where
   pub named : Each IsWrittenName (names_for names (flat_map run_binders text))
   pub closed : Each (λ r. Each (λ x. NamesClosed names (names_for names (flat_map defined text)) (line_core x)) r.run) text
   pub bound_once : Once (names_for names (flat_map run_binders text))

@@ -7,7 +7,7 @@ use Rattle.sx_base.specs.declared.name.Label.{Label}
 use Rattle.sx_base.specs.declared.span.Span.{Span}
 use Rattle.sx_tree.specs.Tree.{Tree}
 use Rattle.sx_core.specs.Core.{PlainCore}
-use Rattle.sx_core.specs.declared.record.LibRecord.{LibRecord}
+use Rattle.sx_core.specs.declared.record.CompiledLibrary.{CompiledLibrary}
 use Rattle.sx_core_laws.specs.Words.{Each}
 use Rattle.sx_expand.specs.Body.{item}
 use Rattle.sx_expand.specs.Expression.{form_at, lambda_case, inside}
@@ -41,7 +41,7 @@ with_entry_test own test go = record {
   item = λ at depth done t. stuck_unless (λ s. test s && same_library at.frame.0.library own) at.place (go.item at depth done t);
 }
 
-module _ (own : LibName) (texts : List CodeNo) (records : List LibRecord) where
+module _ (own : LibName) (texts : List CodeNo) (records : List CompiledLibrary) where
   abbrev pub PassesWhole : (State → Bool) → Type 0
   PassesWhole test = (s : State) → IsWholeState own texts records s → test s ≡ true
 
@@ -52,15 +52,15 @@ module _ (own : LibName) (texts : List CodeNo) (records : List LibRecord) where
 -- Whatever form is expanded in a whole state, or procedure that a definition binds: each form, procedure and form of a body that is begun directly
 -- inside it, begins in a state that passes any test that whole states pass, and a form of a body binds in a frame of the library.
 abbrev pub FormsBeginWhole : Type 0
-FormsBeginWhole = (own : LibName) (texts : List CodeNo) (records : List LibRecord) (place : Span) (level depth : ℕ) (t : Tree) → TestsWhole own texts records (λ go. form_at go place level depth t)
+FormsBeginWhole = (own : LibName) (texts : List CodeNo) (records : List CompiledLibrary) (place : Span) (level depth : ℕ) (t : Tree) → TestsWhole own texts records (λ go. form_at go place level depth t)
 
 abbrev pub ProceduresBeginWhole : Type 0
-ProceduresBeginWhole = (own : LibName) (texts : List CodeNo) (records : List LibRecord) (place : Span) (level depth : ℕ) (t : Tree) (ids : FormalIds) (forms : List Tree)
+ProceduresBeginWhole = (own : LibName) (texts : List CodeNo) (records : List CompiledLibrary) (place : Span) (level depth : ℕ) (t : Tree) (ids : FormalIds) (forms : List Tree)
     → TestsWhole own texts records (λ go. lambda_case go place level depth t ids forms)
 
 -- so it is inside the body of a library or program
 abbrev pub BodiesBeginWhole : Type 0
-BodiesBeginWhole = (own : LibName) (texts : List CodeNo) (records : List LibRecord) (at : TopAt) (exports : List (List ℕ × Tree)) (forms : List Tree)
+BodiesBeginWhole = (own : LibName) (texts : List CodeNo) (records : List CompiledLibrary) (at : TopAt) (exports : List (List ℕ × Tree)) (forms : List Tree)
     → at.frame.0.library ≡ own → TestsWhole own texts records (λ go. top go at exports forms)
 
 -- the labels of the variables of a body that wait for their values
@@ -80,6 +80,6 @@ pub record IsSpared (own : LibName) (s : State) (l : Label) : Type 0 where
 
 -- And so it is inside a form of a body, of which so much was taken before.
 abbrev pub ItemsBeginWhole : Type 0
-ItemsBeginWhole = (own : LibName) (texts : List CodeNo) (records : List LibRecord) (at : BodyAt) (depth : ℕ) (done : Taken) (t : Tree) (test : State → Bool) (room : ℕ) (s : State)
+ItemsBeginWhole = (own : LibName) (texts : List CodeNo) (records : List CompiledLibrary) (at : BodyAt) (depth : ℕ) (done : Taken) (t : Tree) (test : State → Bool) (room : ℕ) (s : State)
     → at.frame.0.library ≡ own → (is_top at.kind ≡ true → at.level ≡ 0) → Each (IsSpared own s) (waiting_labels done.waiting) → PassesWhole own texts records test → IsWholeState own texts records s
     → StaysWhole own texts records (item (with_entry_test own test (inside records room)) at depth done t s)

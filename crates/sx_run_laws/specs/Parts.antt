@@ -2,7 +2,7 @@
 use Rattle.std.specs.Prelude.{◌≡◌, ℕ, true, List, [], ◌∷◌, ◌++◌, Result, Ok}
 use Rattle.sx_base.specs.declared.fault.Fault.{Fault}
 use Rattle.sx_base.specs.declared.library.LibName.TheVariants as library
-use Rattle.sx_core.specs.declared.record.LibRecord.{LibRecord}
+use Rattle.sx_core.specs.declared.record.CompiledLibrary.{CompiledLibrary}
 use Rattle.sx_derived.specs.Names.{names}
 use Rattle.sx_eval.specs.Codes.{Codes}
 use Rattle.sx_import.specs.Names.{Labelled}
@@ -14,33 +14,33 @@ use Rattle.sx_load.specs.declared.found.Found.{Found}
 use Rattle.sx_load.specs.declared.found.Loading.{Loading}
 use Rattle.sx_outside.specs.Contents.{Paths}
 use Rattle.sx_run.specs.Whole.{loading_of}
-use Rattle.sx_run_laws.specs.Fitting.{AllFit, Begins}
+use Rattle.sx_run_laws.specs.Fitting.{AllFit, BeginsApart}
 
 -- A part of a run: loading came so far, to its end or to a fault; of the libraries that it loaded the first were expanded, and have these
 -- records. Nothing is said of those that are left.
-pub record IsPart (prelude : Result Codes Fault) (files : Paths) (roots : List (List ℕ)) (path : List ℕ) (s : Loading) (first left : List (List ℕ × Found)) (records : List LibRecord) : Type 0 where
+pub record IsPartOfRun (prelude : Result Codes Fault) (files : Paths) (roots : List (List ℕ)) (path : List ℕ) (s : Loading) (first left : List (List ℕ × Found)) (records : List CompiledLibrary) : Type 0 where
   pub loaded : loading_of (load files roots path) ≡ s
   pub parts : s.done ≡ first ++ left
   pub recorded : all_records prelude first ≡ Ok records
 
 -- its records fit
 abbrev pub PartsFit : Type 0
-PartsFit = (prelude : Result Codes Fault) (files : Paths) (roots : List (List ℕ)) (path : List ℕ) (s : Loading) (first left : List (List ℕ × Found)) (records : List LibRecord)
-    → IsPart prelude files roots path s first left records → AllFit [] records
+PartsFit = (prelude : Result Codes Fault) (files : Paths) (roots : List (List ℕ)) (path : List ℕ) (s : Loading) (first left : List (List ℕ × Found)) (records : List CompiledLibrary)
+    → IsPartOfRun prelude files roots path s first left records → AllFit [] records
 
 -- the expansion of the library that comes next begins so, whatever comes of it
 abbrev pub PartsBegin : Type 0
 PartsBegin = (prelude : Result Codes Fault) (files : Paths) (roots : List (List ℕ)) (path : List ℕ) (s : Loading) (first : List (List ℕ × Found)) (file : List ℕ) (f : Found)
-    (left : List (List ℕ × Found)) (records : List LibRecord) (names : Labelled)
-    → IsPart prelude files roots path s first ((file, f) ∷ left) records → form_names (needed_records records (true ∷ f.needs)) f.opened.form.imports ≡ Ok names
-    → Begins (needed_records records (true ∷ f.needs)) f.opened.form.name names
+    (left : List (List ℕ × Found)) (records : List CompiledLibrary) (names : Labelled)
+    → IsPartOfRun prelude files roots path s first ((file, f) ∷ left) records → form_names (needed_records records (true ∷ f.needs)) f.opened.form.imports ≡ Ok names
+    → BeginsApart (needed_records records (true ∷ f.needs)) f.opened.form.name names
 
 -- and that of the program, where loading came to its end and each library was expanded
 abbrev pub ProgramsBegin : Type 0
-ProgramsBegin = (prelude : Result Codes Fault) (files : Paths) (roots : List (List ℕ)) (path : List ℕ) (found : Found) (s : Loading) (records : List LibRecord) (names : Labelled)
+ProgramsBegin = (prelude : Result Codes Fault) (files : Paths) (roots : List (List ℕ)) (path : List ℕ) (found : Found) (s : Loading) (records : List CompiledLibrary) (names : Labelled)
     → load files roots path ≡ Ok (found, s) → all_records prelude s.done ≡ Ok records → form_names (needed_records records (true ∷ found.needs)) found.opened.form.imports ≡ Ok names
-    → Begins (needed_records records (true ∷ found.needs)) library.Program names
+    → BeginsApart (needed_records records (true ∷ found.needs)) library.Program names
 
 -- so does that of the derived library, which comes first
 abbrev pub DerivedBegins : Type 0
-DerivedBegins = Begins [] library.Derived names
+DerivedBegins = BeginsApart [] library.Derived names

@@ -1,8 +1,8 @@
 -- The constants of whole runs can be written and read back.
 use Rattle.std.specs.Prelude.{◌≡◌, ℕ, List, [], ◌∷◌, ◌++◌, map, Result, Ok}
 use Rattle.sx_base.specs.declared.fault.Fault.{Fault}
-use Rattle.sx_core.specs.declared.record.LibRecord.{LibRecord}
-use Rattle.sx_core_grammar.specs.ReadBack.{IsReadBack}
+use Rattle.sx_core.specs.declared.record.CompiledLibrary.{CompiledLibrary}
+use Rattle.sx_core_grammar.specs.ReadBack.{IsTextReadBack}
 use Rattle.sx_core_grammar.specs.SameCode.{line_by_names}
 use Rattle.sx_core_grammar.specs.Spellable.{CanBeRead, constants}
 use Rattle.sx_core_laws.specs.Records.{line_core}
@@ -27,22 +27,22 @@ PreludeIsReadable = IsReadablePrelude prelude_table
 
 -- and in all records of a run with these, and in the program's
 abbrev pub RunsAreReadable : Type 0
-RunsAreReadable = (files : Paths) (roots : List (List ℕ)) (path : List ℕ) (found : Found) (s : Loading) (records : List LibRecord) (program : LibRecord)
+RunsAreReadable = (files : Paths) (roots : List (List ℕ)) (path : List ℕ) (found : Found) (s : Loading) (records : List CompiledLibrary) (program : CompiledLibrary)
     → IsRun prelude_table files roots path found s records program → Each ReadableRecord (records ++ program ∷ [])
 
 -- So each constant in the lines of its text is read back, where some number of forms may be nested.
 abbrev pub ConstantsAreRead : Type 0
-ConstantsAreRead = (files : Paths) (roots : List (List ℕ)) (path : List ℕ) (found : Found) (s : Loading) (records : List LibRecord) (program : LibRecord)
+ConstantsAreRead = (files : Paths) (roots : List (List ℕ)) (path : List ℕ) (found : Found) (s : Loading) (records : List CompiledLibrary) (program : CompiledLibrary)
     → IsRun prelude_table files roots path found s records program → Each (λ l. Each CanBeRead (constants (line_core l))) (run_lines records program)
 
 -- And the whole text is.
 abbrev pub TextsAreReadBack : Type 0
-TextsAreReadBack = (files : Paths) (roots : List (List ℕ)) (path : List ℕ) (found : Found) (s : Loading) (records : List LibRecord) (program : LibRecord) (text : List ℕ)
-    → GivesText prelude_table files roots path found s records program text → IsReadBack (run_names records program) (run_lines records program) text
+TextsAreReadBack = (files : Paths) (roots : List (List ℕ)) (path : List ℕ) (found : Found) (s : Loading) (records : List CompiledLibrary) (program : CompiledLibrary) (text : List ℕ)
+    → GivesText prelude_table files roots path found s records program text → IsTextReadBack (run_names records program) (run_lines records program) text
 
 -- Two such runs with one text have the same lines but for their variables, of which the text tells the names.
 abbrev pub TextsTellTheirLines : Type 0
 TextsTellTheirLines = (files files' : Paths) (roots roots' : List (List ℕ)) (path path' : List ℕ) (found found' : Found) (s s' : Loading)
-    (records records' : List LibRecord) (program program' : LibRecord) (text : List ℕ)
+    (records records' : List CompiledLibrary) (program program' : CompiledLibrary) (text : List ℕ)
     → GivesText prelude_table files roots path found s records program text → GivesText prelude_table files' roots' path' found' s' records' program' text
     → map (line_by_names (run_names records program)) (run_lines records program) ≡ map (line_by_names (run_names records' program')) (run_lines records' program')

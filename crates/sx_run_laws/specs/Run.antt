@@ -3,7 +3,7 @@ use Rattle.std.specs.Prelude.{◌≡◌, ℕ, List, [], ◌∷◌, ◌++◌, len
 use Rattle.sx_base.specs.declared.fault.Fault.{Fault}
 use Rattle.sx_base.specs.declared.library.LibName.{LibName}
 use Rattle.sx_base.specs.declared.library.LibName.TheVariants as library
-use Rattle.sx_core.specs.declared.record.LibRecord.{LibRecord}
+use Rattle.sx_core.specs.declared.record.CompiledLibrary.{CompiledLibrary}
 use Rattle.sx_core_laws.specs.Follows.{names_of, all_cores}
 use Rattle.sx_core_laws.specs.Words.{Each, Once}
 use Rattle.sx_eval.specs.Codes.{Codes}
@@ -25,13 +25,13 @@ use Rattle.sx_text_laws.specs.Text.{text_of, IsClosedOnce}
 
 -- a program is loaded with all that it imports, directly or not; each library is expanded, and then the program. What procedures mean that
 -- are texts is given.
-pub record IsRun (prelude : Result Codes Fault) (files : Paths) (roots : List (List ℕ)) (path : List ℕ) (found : Found) (s : Loading) (records : List LibRecord) (program : LibRecord) : Type 0 where
+pub record IsRun (prelude : Result Codes Fault) (files : Paths) (roots : List (List ℕ)) (path : List ℕ) (found : Found) (s : Loading) (records : List CompiledLibrary) (program : CompiledLibrary) : Type 0 where
   pub loaded : load files roots path ≡ Ok (found, s)
   pub recorded : all_records prelude s.done ≡ Ok records
   pub expanded : expand_found prelude records found (program_body found.opened.«data») ≡ Ok program
 
 -- The record of a library, behind those that it needs: what expansion promises of it holds.
-pub record Stands (earlier : List LibRecord) (name : LibName) (r : LibRecord) : Type 0 where
+pub record Stands (earlier : List CompiledLibrary) (name : LibName) (r : CompiledLibrary) : Type 0 where
   pub named : r.name ≡ name
   pub good : IsGood earlier r
   pub keywords : HasGoodKeywords earlier r
@@ -40,25 +40,25 @@ pub record Stands (earlier : List LibRecord) (name : LibName) (r : LibRecord) : 
   pub shallow : Each IsShallow (all_cores r)
 
 -- the records of the derived library, of libraries that were loaded, and of the program
-pub record AllStand (found : Found) (s : Loading) (records : List LibRecord) (program : LibRecord) : Type 0 where
-  pub derived : LibRecord
-  pub others : List LibRecord
+pub record AllStand (found : Found) (s : Loading) (records : List CompiledLibrary) (program : CompiledLibrary) : Type 0 where
+  pub derived : CompiledLibrary
+  pub others : List CompiledLibrary
   -- that of the derived library comes first, behind no other
   pub parts : records ≡ derived ∷ others
   pub first : Stands [] library.Derived derived
   -- each library has its record, in the order of loading
   pub as_many : length others ≡ length s.done
-  pub each : (i : ℕ) (file : List ℕ) (f : Found) (r : LibRecord) → IsAt s.done i file f → slice_get others i ≡ Some r → Stands (derived ∷ records_at others (needed f)) f.opened.form.name r
+  pub each : (i : ℕ) (file : List ℕ) (f : Found) (r : CompiledLibrary) → IsAt s.done i file f → slice_get others i ≡ Some r → Stands (derived ∷ records_at others (needed f)) f.opened.form.name r
   pub last : Stands (derived ∷ records_at others (needed found)) library.Program program
   -- no two of them have one name
   pub once : Once (names_of (records ++ program ∷ []))
 
 -- so it is in every run
 abbrev pub RecordsStand : Type 0
-RecordsStand = (prelude : Result Codes Fault) (files : Paths) (roots : List (List ℕ)) (path : List ℕ) (found : Found) (s : Loading) (records : List LibRecord) (program : LibRecord)
+RecordsStand = (prelude : Result Codes Fault) (files : Paths) (roots : List (List ℕ)) (path : List ℕ) (found : Found) (s : Loading) (records : List CompiledLibrary) (program : CompiledLibrary)
     → IsRun prelude files roots path found s records program → AllStand found s records program
 
 -- and the text of every run is closed, and bound once
 abbrev pub RunsAreClosedOnce : Type 0
-RunsAreClosedOnce = (prelude : Result Codes Fault) (files : Paths) (roots : List (List ℕ)) (path : List ℕ) (found : Found) (s : Loading) (records : List LibRecord) (program : LibRecord)
+RunsAreClosedOnce = (prelude : Result Codes Fault) (files : Paths) (roots : List (List ℕ)) (path : List ℕ) (found : Found) (s : Loading) (records : List CompiledLibrary) (program : CompiledLibrary)
     → IsRun prelude files roots path found s records program → IsClosedOnce (text_of records program)

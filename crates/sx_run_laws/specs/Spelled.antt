@@ -2,16 +2,16 @@
 use Rattle.std.specs.Prelude.{◌≡◌, ℕ, List, map, Result, Ok}
 use Rattle.sx_base.specs.Datum.{PlainDatum}
 use Rattle.sx_base.specs.declared.fault.Fault.{Fault}
-use Rattle.sx_core.specs.declared.record.LibRecord.{LibRecord}
+use Rattle.sx_core.specs.declared.record.CompiledLibrary.{CompiledLibrary}
 use Rattle.sx_core.specs.declared.record.Line.{Line}
 use Rattle.sx_core_grammar.specs.Lines.{SpellLines, all_lines}
 use Rattle.sx_core_grammar.specs.Names.{AreGenerated}
-use Rattle.sx_core_grammar.specs.ReadBack.{IsReadBack}
+use Rattle.sx_core_grammar.specs.ReadBack.{IsTextReadBack}
 use Rattle.sx_core_grammar.specs.SameCode.{line_by_names}
 use Rattle.sx_core_grammar.specs.Spellable.{IsLineSpellable, CanBeRead, constants}
 use Rattle.sx_core_laws.specs.Records.{line_core}
 use Rattle.sx_core_laws.specs.Words.{Each}
-use Rattle.sx_core_text.specs.CoreText.{Names}
+use Rattle.sx_core_text.specs.CoreText.{VariableNames}
 use Rattle.sx_core_text.specs.Whole.{all_names, core_text}
 use Rattle.sx_eval.specs.Codes.{Codes}
 use Rattle.sx_load.specs.declared.found.Found.{Found}
@@ -21,26 +21,26 @@ use Rattle.sx_plan.specs.Planned.{plan_of}
 use Rattle.sx_run_laws.specs.Run.{IsRun}
 
 -- the names that a run writes its variables with, and its lines
-abbrev pub run_names : List LibRecord → LibRecord → Names
+abbrev pub run_names : List CompiledLibrary → CompiledLibrary → VariableNames
 run_names records program = all_names records (plan_of records program) program
 
-abbrev pub run_lines : List LibRecord → LibRecord → List Line
+abbrev pub run_lines : List CompiledLibrary → CompiledLibrary → List Line
 run_lines records program = all_lines records (plan_of records program) program
 
 -- a run, and the text that it gives
-pub record GivesText (prelude : Result Codes Fault) (files : Paths) (roots : List (List ℕ)) (path : List ℕ) (found : Found) (s : Loading) (records : List LibRecord) (program : LibRecord) (text : List ℕ) : Type 0 where
+pub record GivesText (prelude : Result Codes Fault) (files : Paths) (roots : List (List ℕ)) (path : List ℕ) (found : Found) (s : Loading) (records : List CompiledLibrary) (program : CompiledLibrary) (text : List ℕ) : Type 0 where
   pub run : IsRun prelude files roots path found s records program
   pub given : core_text records (plan_of records program) program ≡ Ok text
 
 -- each line has what a spelling asks of it, and so has one
-pub record IsSpelled (names : Names) (lines : List Line) : Type 0 where
+pub record IsSpelled (names : VariableNames) (lines : List Line) : Type 0 where
   pub generated : AreGenerated names
   pub spellable : Each (IsLineSpellable names) lines
   pub spellings : List PlainDatum
   pub spelled : SpellLines names lines spellings
 
 abbrev pub RunsAreSpelled : Type 0
-RunsAreSpelled = (prelude : Result Codes Fault) (files : Paths) (roots : List (List ℕ)) (path : List ℕ) (found : Found) (s : Loading) (records : List LibRecord) (program : LibRecord) (text : List ℕ)
+RunsAreSpelled = (prelude : Result Codes Fault) (files : Paths) (roots : List (List ℕ)) (path : List ℕ) (found : Found) (s : Loading) (records : List CompiledLibrary) (program : CompiledLibrary) (text : List ℕ)
     → GivesText prelude files roots path found s records program text → IsSpelled (run_names records program) (run_lines records program)
 
 -- each constant of the lines can be read, where some number of forms may be nested
@@ -48,14 +48,14 @@ abbrev pub CanAllBeRead : List Line → Type 0
 CanAllBeRead lines = Each (λ l. Each CanBeRead (constants (line_core l))) lines
 
 abbrev pub RunsAreReadBack : Type 0
-RunsAreReadBack = (prelude : Result Codes Fault) (files : Paths) (roots : List (List ℕ)) (path : List ℕ) (found : Found) (s : Loading) (records : List LibRecord) (program : LibRecord) (text : List ℕ)
+RunsAreReadBack = (prelude : Result Codes Fault) (files : Paths) (roots : List (List ℕ)) (path : List ℕ) (found : Found) (s : Loading) (records : List CompiledLibrary) (program : CompiledLibrary) (text : List ℕ)
     → GivesText prelude files roots path found s records program text → CanAllBeRead (run_lines records program)
-    → IsReadBack (run_names records program) (run_lines records program) text
+    → IsTextReadBack (run_names records program) (run_lines records program) text
 
 -- two runs with one text have the same lines but for their variables, of which the text tells the names
 abbrev pub RunsTellTheirLines : Type 0
 RunsTellTheirLines = (prelude prelude' : Result Codes Fault) (files files' : Paths) (roots roots' : List (List ℕ)) (path path' : List ℕ) (found found' : Found) (s s' : Loading)
-    (records records' : List LibRecord) (program program' : LibRecord) (text : List ℕ)
+    (records records' : List CompiledLibrary) (program program' : CompiledLibrary) (text : List ℕ)
     → GivesText prelude files roots path found s records program text → CanAllBeRead (run_lines records program)
     → GivesText prelude' files' roots' path' found' s' records' program' text → CanAllBeRead (run_lines records' program')
     → map (line_by_names (run_names records program)) (run_lines records program) ≡ map (line_by_names (run_names records' program')) (run_lines records' program')

@@ -10,7 +10,7 @@ use Rattle.sx_load.specs.Load.{load}
 use Rattle.sx_outside.specs.Contents.{Paths}
 use Rattle.sx_prelude.specs.Prelude.{prelude_table}
 use Rattle.sx_make.specs.Made.{made_files}
-use Rattle.sx_run.specs.Whole.{Outcome, usage, done, fault, text_by, made_job, whole}
+use Rattle.sx_run.specs.Whole.{RunOutcome, usage, done, fault, text_by, made_job, whole}
 use Rattle.sx_run.specs.Words.{words_asked}
 use Rattle.sx_steady_laws.specs.Libraries.{AreTexts}
 use Rattle.sx_words.specs.declared.job.Job.{Job}
@@ -30,13 +30,13 @@ pub record IsLineOfOther (files : Paths) (job : Job) (line : List ℕ) : Type 0 
   pub source : List ℕ
   pub is : line ≡ fault_line told source
 
-abbrev pub TellsOther : Paths → Job → Outcome → Type 0
+abbrev pub TellsOther : Paths → Job → RunOutcome → Type 0
 TellsOther files job usage = Unit {0}
 TellsOther files job (done text report) = Unit {0}
 TellsOther files job (fault line) = IsLineOfOther files job line
 
 -- The fault, where there is one, is that of the job that the words ask for, or of the program that they ask to be made.
-abbrev pub AskedTellsOther : Paths → Words → Outcome → Type 0
+abbrev pub AskedTellsOther : Paths → Words → RunOutcome → Type 0
 AskedTellsOther files (Expand job) outcome = TellsOther files job outcome
 AskedTellsOther files (Make count) outcome = TellsOther (made_files count) made_job outcome
 AskedTellsOther files Usage outcome = outcome ≡ usage

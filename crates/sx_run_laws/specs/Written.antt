@@ -1,7 +1,7 @@
 -- The text that a run writes.
 use Rattle.std.specs.Prelude.{◌≡◌, ℕ, List, Result, Ok}
 use Rattle.sx_base.specs.declared.fault.Fault.{Fault}
-use Rattle.sx_core.specs.declared.record.LibRecord.{LibRecord}
+use Rattle.sx_core.specs.declared.record.CompiledLibrary.{CompiledLibrary}
 use Rattle.sx_core_text.specs.Whole.{all_names, core_text}
 use Rattle.sx_eval.specs.Codes.{Codes}
 use Rattle.sx_load.specs.declared.found.Found.{Found}
@@ -14,6 +14,6 @@ use Rattle.sx_run_laws.specs.Names.{IsWrittenOnce}
 
 -- where a run gives a text
 abbrev pub RunsAreWrittenOnce : Type 0
-RunsAreWrittenOnce = (prelude : Result Codes Fault) (files : Paths) (roots : List (List ℕ)) (path : List ℕ) (found : Found) (s : Loading) (records : List LibRecord) (program : LibRecord) (text : List ℕ)
+RunsAreWrittenOnce = (prelude : Result Codes Fault) (files : Paths) (roots : List (List ℕ)) (path : List ℕ) (found : Found) (s : Loading) (records : List CompiledLibrary) (program : CompiledLibrary) (text : List ℕ)
     → IsRun prelude files roots path found s records program → core_text records (plan_of records program) program ≡ Ok text
     → IsWrittenOnce (all_names records (plan_of records program) program) (text_of records program)

@@ -17,7 +17,7 @@ use Rattle.sx_core_grammar.specs.Spells.{word, form, two}
 use Rattle.sx_core_grammar.specs.Spellable.{CanBeRead, constants}
 use Rattle.sx_core_laws.specs.Records.{line_core}
 use Rattle.sx_core_laws.specs.Words.{Each}
-use Rattle.sx_core_text.specs.CoreText.{Names}
+use Rattle.sx_core_text.specs.CoreText.{VariableNames}
 use Rattle.sx_expand_laws.proofs.Fresh.{each-at, each-of}
 use Rattle.sx_nesting_laws.proofs.Texts.{read-where-nested, line-spellings-nest}
 use Rattle.sx_nesting_laws.specs.Heights.{in_text, height_with}
@@ -53,11 +53,11 @@ defined : (e : PlainDatum) → CanBeRead (form (codes "set!") e) → CanBeRead (
 defined e (zero, h) = absurd (h)
 defined e (suc n, h) = (suc n, (define_name, h.1))
 
-line_read : SpellingsCanBeRead → (names : Names) → AreGenerated names → {l : Line} {d : PlainDatum} → SpellsLine names l d → Each CanBeRead (constants (line_core l)) → CanBeRead d
+line_read : SpellingsCanBeRead → (names : VariableNames) → AreGenerated names → {l : Line} {d : PlainDatum} → SpellsLine names l d → Each CanBeRead (constants (line_core l)) → CanBeRead d
 line_read law names good (definition {l = l} {x = x} {c = c} {d = d} h p) k = defined (two (word x) d) (law names (assignment l c) (form (codes "set!") (two (word x) d)) good k (s.assignment h p))
 line_read law names good (expression {c = c} {d = d} p) k = law names c d good k p
 
-lines_read : SpellingsCanBeRead → (names : Names) → AreGenerated names → {ls : List Line} {ds : List PlainDatum} → SpellLines names ls ds → CanAllBeRead ls → Each CanBeRead ds
+lines_read : SpellingsCanBeRead → (names : VariableNames) → AreGenerated names → {ls : List Line} {ds : List PlainDatum} → SpellLines names ls ds → CanAllBeRead ls → Each CanBeRead ds
 lines_read law names good no_line h = tt
 lines_read law names good (further p ps) h = (line_read law names good p h.0, lines_read law names good ps h.1)
 
@@ -73,7 +73,7 @@ lines-low (l ∷ ls) h k = (record { nests = h.0; constants = k.0 }, lines-low l
 low-datum : (d : PlainDatum) → CanBeRead d → nested d ≤ deepest_line → IsLow d
 low-datum d can le = record { nests = le; read = λ n more. read-where-nested d n can (omega (arith, le, more)) }
 
-spellings-low : (names : Names) {ls : List Line} {ds : List PlainDatum} → SpellLines names ls ds → Each LineIsLow ls → CanAllBeRead ls → Each CanBeRead ds → Each IsLow ds
+spellings-low : (names : VariableNames) {ls : List Line} {ds : List PlainDatum} → SpellLines names ls ds → Each LineIsLow ls → CanAllBeRead ls → Each CanBeRead ds → Each IsLow ds
 spellings-low names no_line h k can = tt
 spellings-low names (further {l = l} {ls = ls} {d = d} p ps) h k can =
     let le = line-spellings-nest names l d max_height (all-low (constants (line_core l)) k.0 h.0.constants) p in

@@ -4,7 +4,7 @@ use Rattle.std.specs.Prelude.{slice_get}
 use Rattle.sx_base.specs.Datum.{PlainDatum}
 use Rattle.sx_base.specs.Gives.{◌>>=◌}
 use Rattle.sx_base.specs.declared.fault.Fault.{Fault}
-use Rattle.sx_core.specs.declared.record.LibRecord.{LibRecord}
+use Rattle.sx_core.specs.declared.record.CompiledLibrary.{CompiledLibrary}
 use Rattle.sx_core_laws.specs.Records.{line_core}
 use Rattle.sx_core_laws.specs.Words as words
 use Rattle.sx_derived.specs.Derived.{derived_record}
@@ -42,23 +42,23 @@ use Rattle.sx_tree.specs.Measures.{Fits}
 use Rattle.sx_tree.specs.Tree.{Tree}
 use Rattle.sx_value.specs.Cells.{Each}
 
-abbrev Rs : List LibRecord → Type 0
+abbrev Rs : List CompiledLibrary → Type 0
 Rs rs = Each IsShallow rs
 
-at-places : (rs : List LibRecord) (ps : List ℕ) → Rs rs → Rs (records_at rs ps)
+at-places : (rs : List CompiledLibrary) (ps : List ℕ) → Rs rs → Rs (records_at rs ps)
 at-places rs [] h = tt
 at-places rs (p ∷ ps) h = by (slice_get rs p) (each_at IsShallow rs p h) (at-places rs ps h)
   where
-    by : (o : Option LibRecord) → OptionHolds IsShallow o → Rs (records_at rs ps) → Rs (or_skip o (records_at rs ps))
+    by : (o : Option CompiledLibrary) → OptionHolds IsShallow o → Rs (records_at rs ps) → Rs (or_skip o (records_at rs ps))
     by None k j = j
     by (Some r) k j = (k, j)
 
-all-within : (rs : List LibRecord) → Rs rs → Each (RecordHolds Fits) rs
+all-within : (rs : List CompiledLibrary) → Rs rs → Each (RecordHolds Fits) rs
 all-within [] h = tt
 all-within (r ∷ rs) h = (h.0.within, all-within rs h.1)
 
 module _ (prelude : Result Codes Fault) (given : (table : Codes) → prelude ≡ Ok table → CodesHold Fits table) where
-  made-shallow : (records : List LibRecord) (path : List ℕ) (form : LibraryForm) (body : List PlainDatum) (r : LibRecord) → Rs records → expand_library prelude records path form body ≡ Ok r → IsShallow r
+  made-shallow : (records : List CompiledLibrary) (path : List ℕ) (form : LibraryForm) (body : List PlainDatum) (r : CompiledLibrary) → Rs records → expand_library prelude records path form body ≡ Ok r → IsShallow r
   unfolding expand_library
   made-shallow records path form body r before h = by-names (form_names records form.imports) h
     where
@@ -81,26 +81,26 @@ module _ (prelude : Result Codes Fault) (given : (table : Codes) → prelude ≡
       by-names (Ok names) h = by-forms names (trees_at form.name_span [] body) (trees-fit form.name_span [] body tt) h
       by-names (Err f) h = absurd (cc)
 
-  found-shallow : (records : List LibRecord) (f : Found) (body : List PlainDatum) (r : LibRecord) → Rs records → expand_found prelude records f body ≡ Ok r → IsShallow r
+  found-shallow : (records : List CompiledLibrary) (f : Found) (body : List PlainDatum) (r : CompiledLibrary) → Rs records → expand_found prelude records f body ≡ Ok r → IsShallow r
   found-shallow records f body r before h = made-shallow (needed_records records (true ∷ f.needs)) f.opened.path f.opened.form body r (at-places records (places_from 0 (true ∷ f.needs)) before) h
 
-  turns-shallow : (done : List LibRecord) (rows : List (List ℕ × Found)) (records : List LibRecord) → Rs done → turns (expand_next prelude) done rows ≡ Ok records → Rs records
+  turns-shallow : (done : List CompiledLibrary) (rows : List (List ℕ × Found)) (records : List CompiledLibrary) → Rs done → turns (expand_next prelude) done rows ≡ Ok records → Rs records
   turns-shallow done [] records h e = let same : done ≡ records = cc in subst Rs same h
   turns-shallow done (row ∷ rows) records h e = by (λ more j i. turns-shallow more rows records j i) (expand_found prelude done row.1 (library_body row.1.opened.«data»)) refl e
     where
-      by : ((more : List LibRecord) → Rs more → turns (expand_next prelude) more rows ≡ Ok records → Rs records) → (x : Result LibRecord Fault) → expand_found prelude done row.1 (library_body row.1.opened.«data») ≡ x
+      by : ((more : List CompiledLibrary) → Rs more → turns (expand_next prelude) more rows ≡ Ok records → Rs records) → (x : Result CompiledLibrary Fault) → expand_found prelude done row.1 (library_body row.1.opened.«data») ≡ x
           → ((x >>= (λ r. Ok (done ++ r ∷ []))) >>= (λ more. turns (expand_next prelude) more rows)) ≡ Ok records → Rs records
       by rest (Ok r) i e = rest (done ++ r ∷ []) (each_and IsShallow done r h (found-shallow done row.1 (library_body row.1.opened.«data») r h i)) e
       by rest (Err f) i e = absurd (cc)
 
-  records-shallow : (rows : List (List ℕ × Found)) (records : List LibRecord) → all_records prelude rows ≡ Ok records → Rs records
+  records-shallow : (rows : List (List ℕ × Found)) (records : List CompiledLibrary) → all_records prelude rows ≡ Ok records → Rs records
   records-shallow rows records e = by (derived_record prelude) refl e
     where
-      by : (x : Result LibRecord Fault) → derived_record prelude ≡ x → (x >>= (λ d. turns (expand_next prelude) (d ∷ []) rows)) ≡ Ok records → Rs records
+      by : (x : Result CompiledLibrary Fault) → derived_record prelude ≡ x → (x >>= (λ d. turns (expand_next prelude) (d ∷ []) rows)) ≡ Ok records → Rs records
       by (Ok d) i e = turns-shallow (d ∷ []) rows records (derived-shallow d prelude given i, tt) e
       by (Err f) i e = absurd (cc)
 
-module _ (files : Paths) (roots : List (List ℕ)) (path : List ℕ) (found : Found) (s : Loading) (records : List LibRecord) (program : LibRecord) (run : IsRun prelude_table files roots path found s records program) where
+module _ (files : Paths) (roots : List (List ℕ)) (path : List ℕ) (found : Found) (s : Loading) (records : List CompiledLibrary) (program : CompiledLibrary) (run : IsRun prelude_table files roots path found s records program) where
   all-shallow : Rs (records ++ program ∷ [])
   all-shallow =
       let before = records-shallow prelude_table prelude-fits s.done records run.recorded in
@@ -110,7 +110,7 @@ in-words : {A : Type 0} (P Q : A → Type 0) → ((x : A) → P x → Q x) → (
 in-words P Q f [] h = tt
 in-words P Q f (x ∷ xs) h = (f x h.0, in-words P Q f xs h.1)
 
-pub runs-shallow : (files : Paths) (roots : List (List ℕ)) (path : List ℕ) (found : Found) (s : Loading) (records : List LibRecord) (program : LibRecord)
+pub runs-shallow : (files : Paths) (roots : List (List ℕ)) (path : List ℕ) (found : Found) (s : Loading) (records : List CompiledLibrary) (program : CompiledLibrary)
     → IsRun prelude_table files roots path found s records program → words.Each IsShallow (records ++ program ∷ [])
 runs-shallow files roots path found s records program run = in-words IsShallow IsShallow (λ r h. h) (records ++ program ∷ []) (all-shallow files roots path found s records program run)
 

@@ -12,7 +12,7 @@ use Rattle.sx_builtin.specs.Exports.{derived}
 use Rattle.sx_builtin.specs.Prelude.{prelude_text}
 use Rattle.sx_builtin.specs.declared.derived.TheConstants.{DERIVED_SOURCE}
 use Rattle.sx_core.specs.Core.{PlainCode}
-use Rattle.sx_core.specs.declared.record.LibRecord.{LibRecord}
+use Rattle.sx_core.specs.declared.record.CompiledLibrary.{CompiledLibrary}
 use Rattle.sx_core_laws.specs.Records.{line_core}
 use Rattle.sx_core_laws.specs.Words as words
 use Rattle.sx_derived.specs.Derived.{forms_of, record_of, derived_record}
@@ -25,7 +25,7 @@ use Rattle.sx_fresh_laws.proofs.Eachs.{each_and}
 use Rattle.sx_fresh_laws.proofs.Trees.{OkHolds}
 use Rattle.sx_library.specs.Library.{placed, tree_at, trees_at}
 use Rattle.sx_limit_expansion_laws.proofs.Recorded.{started-holds, records-stay}
-use Rattle.sx_limit_expansion_laws.proofs.Settled.{inside-keeps}
+use Rattle.sx_limit_expansion_laws.proofs.PlannedForm.{inside-keeps}
 use Rattle.sx_limit_expansion_laws.proofs.Shapes.{then-holds}
 use Rattle.sx_limit_expansion_laws.proofs.Standing.{C, Gave, gave-after, gave-each}
 use Rattle.sx_limit_expansion_laws.specs.Records.{RecordHolds}
@@ -37,7 +37,7 @@ use Rattle.sx_limit_laws.specs.Holds.{CodeHolds, CodesHold}
 use Rattle.sx_nesting_laws.proofs.Records.{lines-nest-all}
 use Rattle.sx_nesting_laws.specs.Heights.{in_text, height_with}
 use Rattle.sx_nesting_laws.specs.Nesting.{IsAtMostText, deepest}
-use Rattle.sx_prelude.specs.Prelude.{procedures, names, path_of, place_of, text_of, at_place, first_tree, tree_in, procedure_of, expanded, text_code, without_state, prelude_codes, filled}
+use Rattle.sx_prelude.specs.Prelude.{procedures, names, path_of, text_place, text_of, at_place, first_tree, tree_in, procedure_of, expanded, text_code, without_state, prelude_codes, filled}
 use Rattle.sx_reader.specs.Read.{data_of, file_nesting}
 use Rattle.sx_run_nesting_laws.specs.Limits.{PreludeStaysWithin}
 use Rattle.sx_standing.specs.Start.{first_frame}
@@ -77,7 +77,7 @@ trees-fit place done (d ∷ ds) h =
 -- What stands in a record that expansion gives.
 
 -- its trees are within the limits, and its lines nest no deeper than such lines do
-pub record IsShallow (r : LibRecord) : Type 0 where
+pub record IsShallow (r : CompiledLibrary) : Type 0 where
   pub within : RecordHolds Fits r
   pub nests : words.Each (λ l. height_with in_text (line_core l) ≤ deepest) r.run
 
@@ -100,13 +100,13 @@ any-data (Err f) = tt
 tree-in-fits : (n : ℕ) → OkHolds Fits (tree_in n)
 tree-in-fits n =
     let file = data_of (path_of n) (text_of (prelude_text n)) file_nesting in
-    then-holds Fits fits-lawful AnyData Fits file (first_tree (place_of n)) (any-data file) (λ ds k. first-fits (place_of n) ds)
+    then-holds Fits fits-lawful AnyData Fits file (first_tree (text_place n)) (any-data file) (λ ds k. first-fits (text_place n) ds)
 
 expanded-fits : (n : ℕ) (r : Result Tree Fault) (s : State) → HoldsIn Fits s → OkHolds Fits r → Gave Fits fits-lawful (CodeHolds Fits) (expanded n r s)
 expanded-fits n (Err f) s h k = tt
 expanded-fits n (Ok t) s h k =
-    gave-after Fits fits-lawful (C Fits fits-lawful) (CodeHolds Fits) (expression [] (place_of n) 0 (stamp (first_frame library.Prelude) t) s) (λ c. give (procedure_of n c))
-    ((inside-keeps Fits fits-lawful [] full_room tt).form (place_of n) 0 0 (stamp (first_frame library.Prelude) t) s h (fits-lawful.changed (change.Stamp (first_frame library.Prelude) ∷ []) t k)) (λ c u i y. (i, (y, tt)))
+    gave-after Fits fits-lawful (C Fits fits-lawful) (CodeHolds Fits) (expression [] (text_place n) 0 (stamp (first_frame library.Prelude) t) s) (λ c. give (procedure_of n c))
+    ((inside-keeps Fits fits-lawful [] full_room tt).form (text_place n) 0 0 (stamp (first_frame library.Prelude) t) s h (fits-lawful.changed (change.Stamp (first_frame library.Prelude) ∷ []) t k)) (λ c u i y. (i, (y, tt)))
 
 code-fits : (n : ℕ) (s : State) → HoldsIn Fits s → Gave Fits fits-lawful (CodeHolds Fits) (text_code n s)
 unfolding text_code
@@ -154,7 +154,7 @@ forms-fit text =
     let file = data_of derived_names.path text file_nesting in
     then-holds Fits fits-lawful AnyData (Each Fits) file (of_derived.trees []) (any-data file) (λ ds k. derived-trees-fit [] ds tt)
 
-module _ (d : LibRecord) (prelude : Result Codes Fault) (given : (table : Codes) → prelude ≡ Ok table → CodesHold Fits table) where
+module _ (d : CompiledLibrary) (prelude : Result Codes Fault) (given : (table : Codes) → prelude ≡ Ok table → CodesHold Fits table) where
   from-forms : (table : Codes) (forms : List Tree) → CodesHold Fits table → Each Fits forms → record_of table forms ≡ Ok d → IsShallow d
   unfolding record_of
   from-forms table forms k fit h = record {

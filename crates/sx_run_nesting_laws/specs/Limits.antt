@@ -1,6 +1,6 @@
 -- All trees of a run stay within their limits.
 use Rattle.std.specs.Prelude.{◌≡◌, ℕ, List, [], ◌∷◌, ◌++◌, Ok}
-use Rattle.sx_core.specs.declared.record.LibRecord.{LibRecord}
+use Rattle.sx_core.specs.declared.record.CompiledLibrary.{CompiledLibrary}
 use Rattle.sx_core_laws.specs.Words.{Each}
 use Rattle.sx_eval.specs.Codes.{Codes}
 use Rattle.sx_limit_expansion_laws.specs.Records.{RecordHolds}
@@ -18,5 +18,5 @@ PreludeStaysWithin = (codes : Codes) → prelude_table ≡ Ok codes → CodesHol
 
 -- and those in all records of a run with these, and in the program's
 abbrev pub RunsStayWithin : Type 0
-RunsStayWithin = (files : Paths) (roots : List (List ℕ)) (path : List ℕ) (found : Found) (s : Loading) (records : List LibRecord) (program : LibRecord)
+RunsStayWithin = (files : Paths) (roots : List (List ℕ)) (path : List ℕ) (found : Found) (s : Loading) (records : List CompiledLibrary) (program : CompiledLibrary)
     → IsRun prelude_table files roots path found s records program → Each (RecordHolds Fits) (records ++ program ∷ [])

@@ -7,14 +7,14 @@ ghost use Rattle.sx_scope.specs.Same.{same_binder};
 use std::alloc::Global;
 use sx_base::memory::Memory;
 use sx_base::symbol::Symbol;
-use sx_syntax::syn::{Opened, Syn};
+use sx_syntax::syn::{OpenedTree, Syn};
 
 /// The symbol of a leaf, and the empty one of what is no leaf.
 pub(crate) fn symbol_of(alloc: Global, id: &Syn) -> Result<Symbol, Memory>
     ensures { IfOk result (λ s. s ≡ symbol_of id.now) }
 {
     match id.open(alloc)? {
-        Opened::Symbol(symbol) => Ok(symbol),
+        OpenedTree::Symbol(symbol) => Ok(symbol),
         _ => Symbol::new(alloc, ""),
     }
 }

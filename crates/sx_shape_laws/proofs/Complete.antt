@@ -10,7 +10,7 @@ use Rattle.sx_shapes.specs.declared.shape.LambdaCase.{LambdaCase}
 use Rattle.sx_shapes.specs.declared.shape.PatternCase.{PatternCase}
 use Rattle.sx_shapes.specs.declared.shape.Shape.{Shape}
 use Rattle.sx_shapes.specs.declared.shape.Shape.TheVariants as shapes
-use Rattle.sx_shape_laws.specs.Grammar.{IsId, IsList, AreWritten, IsFormals, AreFormals, IsBinding, AreBindings, IsLambdaCase, IsPatternCase, IsForm, HasShape}
+use Rattle.sx_shape_laws.specs.Grammar.{IsId, IsList, AreWritten, IsFormalsForm, AreFormals, IsBinding, AreBindings, IsLambdaCase, IsPatternCase, IsForm, HasShape}
 use Rattle.sx_shape_laws.specs.Grammar as g
 use Rattle.sx_shape_laws.specs.Laws.{WrittenHaveShapes, OneShape}
 
@@ -40,17 +40,17 @@ all-are P f one done (y ∷ ys) (t ∷ ts) h =
 
 -- The parts of forms.
 
-formals-ids : {xs : List Tree} {o : Option Tree} {t : Tree} → IsFormals xs o t → all_ids (elements t) ≡ true
+formals-ids : {xs : List Tree} {o : Option Tree} {t : Tree} → IsFormalsForm xs o t → all_ids (elements t) ≡ true
 formals-ids g.no_more = refl
 formals-ids (g.all_others g.id) = refl
 formals-ids (g.one {rest = rest} g.id h) = formals-ids h
 
-formals-elements : {xs : List Tree} {o : Option Tree} {t : Tree} → IsFormals xs o t → elements t ≡ xs
+formals-elements : {xs : List Tree} {o : Option Tree} {t : Tree} → IsFormalsForm xs o t → elements t ≡ xs
 formals-elements g.no_more = refl
 formals-elements (g.all_others g.id) = refl
 formals-elements (g.one {x = x} i h) = ap (λ ys. x ∷ ys) (formals-elements h)
 
-formals-tail : {xs : List Tree} {o : Option Tree} {t : Tree} → IsFormals xs o t → (ids : List Tree) → formals_before ids (tail_of t) ≡ Some (record { required = ids; rest = o })
+formals-tail : {xs : List Tree} {o : Option Tree} {t : Tree} → IsFormalsForm xs o t → (ids : List Tree) → formals_before ids (tail_of t) ≡ Some (record { required = ids; rest = o })
 unfolding formals_before
 formals-tail g.no_more ids = refl
 formals-tail (g.all_others g.id) ids = refl

@@ -30,7 +30,7 @@ use Rattle.sx_records.specs.declared.clause.Uid.TheVariants as uid
 use Rattle.sx_records.specs.declared.names.RecordNames.{RecordNames}
 use Rattle.sx_shape_laws.specs.Grammar.{IsId, IsList}
 use Rattle.sx_shape_laws.specs.Grammar as g
-use Rattle.sx_shape_laws.specs.Records.{keyword_label, IsWord, AreNames, IsField, IsClause, IsIn}
+use Rattle.sx_shape_laws.specs.Records.{keyword_label, IsKeywordIdentifier, AreNames, IsField, IsClause, IsIn}
 use Rattle.sx_shape_laws.specs.Records as r
 use Rattle.sx_shape_laws.proofs.Complete.{is-id, list-is, all-are}
 use Rattle.sx_shape_laws.proofs.Sound.{met, from, some-is, an-id, proper, all-written}
@@ -75,7 +75,7 @@ numbered-is form.Opaque = refl
 numbered-is form.Nongenerative = refl
 numbered-is form.ParentRtd = refl
 
-pub word-is : (fs : Scope) (which : CoreForm) (t : Tree) → IsWord fs which t → keyword_of fs t ≡ Some which
+pub word-is : (fs : Scope) (which : CoreForm) (t : Tree) → IsKeywordIdentifier fs which t → keyword_of fs t ≡ Some which
 word-is fs which t w = ap (λ b. if b then labelled (stands fs t) else None) (is-id t w.is_id) ∙ ap labelled w.label ∙ numbered-is which
 
 number-is : (forms : List CoreForm) (n : ℕ) (which : CoreForm) → first_numbered forms n ≡ Some which → number which ≡ n
@@ -86,13 +86,13 @@ number-is (x ∷ xs) n which h = by (nat_eq (number x) n) refl h (number-is xs n
     by true e k rest = subst (λ f. number f ≡ n) (some-is x which k) ((unsigned_Decides (number x) n).0 e)
     by false e k rest = rest k
 
-a-word : (fs : Scope) (which : CoreForm) (t : Tree) → keyword_of fs t ≡ Some which → IsWord fs which t
-a-word fs which t h = met (is_leaf t) (labelled (stands fs t)) which (IsWord fs which t) h (λ i k. by (stands fs t) refl k (an-id t i))
+a-word : (fs : Scope) (which : CoreForm) (t : Tree) → keyword_of fs t ≡ Some which → IsKeywordIdentifier fs which t
+a-word fs which t h = met (is_leaf t) (labelled (stands fs t)) which (IsKeywordIdentifier fs which t) h (λ i k. by (stands fs t) refl k (an-id t i))
   where
-    by : (o : Option Label) → stands fs t ≡ o → labelled o ≡ Some which → IsId t → IsWord fs which t
+    by : (o : Option Label) → stands fs t ≡ o → labelled o ≡ Some which → IsId t → IsKeywordIdentifier fs which t
     by None e k i = absurd (cc)
-    by (Some l) e k i = met (same_library l.0.library library.Core) (numbered l.0.number) which (IsWord fs which t) k
-        (λ a k'. met (nat_lt l.0.number name_count) (at_number l.0.number) which (IsWord fs which t) k'
+    by (Some l) e k i = met (same_library l.0.library library.Core) (numbered l.0.number) which (IsKeywordIdentifier fs which t) k
+        (λ a k'. met (nat_lt l.0.number name_count) (at_number l.0.number) which (IsKeywordIdentifier fs which t) k'
         (λ b k''. record {
           is_id = i;
           label = e ∙ ap Some (λ j. record { 0 = record { library = (same_library_decides l.0.library library.Core).0 a j; number = sym (number-is CORE_FORMS l.0.number which k'') j } });
@@ -102,7 +102,7 @@ a-word fs which t h = met (is_leaf t) (labelled (stands fs t)) which (IsWord fs 
 pub data Reads (fs : Scope) (name : Tree) : Clauses → List Tree → Clauses → Type 0 where
   no_more : {cs : Clauses} → Reads fs name cs [] cs
   one_more : {which : CoreForm} {x : RecordClause} {head t : Tree} {operands ts : List Tree} {cs ds es : Clauses}
-      → IsList (head ∷ operands) t → IsWord fs which head → IsClause fs name which x operands → with_clause cs x ≡ Some ds → Reads fs name ds ts es → Reads fs name cs (t ∷ ts) es
+      → IsList (head ∷ operands) t → IsKeywordIdentifier fs which head → IsClause fs name which x operands → with_clause cs x ≡ Some ds → Reads fs name ds ts es → Reads fs name cs (t ∷ ts) es
 
 no-leaf : {x : Tree} {xs : List Tree} {t : Tree} → IsList (x ∷ xs) t → is_leaf t ≡ false
 no-leaf (g.next h) = refl
@@ -117,7 +117,7 @@ names-are _ spec (r.given {name = name} {make = make} {test = test} g.id g.id g.
 
 module _ (fs : Scope) (name : Tree) where
   -- a field in brackets
-  field-by : (t head : Tree) (operands : List Tree) (which : CoreForm) (f : Field) → IsList (head ∷ operands) t → IsWord fs which head → field_by name operands which ≡ Some f → field_of fs name t ≡ Some f
+  field-by : (t head : Tree) (operands : List Tree) (which : CoreForm) (f : Field) → IsList (head ∷ operands) t → IsKeywordIdentifier fs which head → field_by name operands which ≡ Some f → field_of fs name t ≡ Some f
   unfolding field_of
   field-by t head operands which f l w e =
       ap (λ b. if b then Some (fixed_field name t) else if_some (proper_elements t) (field_in fs name)) (no-leaf l) ∙ ap (λ o. if_some o (field_in fs name)) (list-is (head ∷ operands) t l)
@@ -161,7 +161,7 @@ module _ (fs : Scope) (name : Tree) where
   clause-is _ _ _ r.generated = refl
   clause-is _ _ _ (r.nongenerative g.id) = refl
 
-  next-is : (place : Span) (cs ds : Clauses) (t head : Tree) (operands : List Tree) (which : CoreForm) (c : RecordClause) → IsList (head ∷ operands) t → IsWord fs which head → IsClause fs name which c operands → with_clause cs c ≡ Some ds
+  next-is : (place : Span) (cs ds : Clauses) (t head : Tree) (operands : List Tree) (which : CoreForm) (c : RecordClause) → IsList (head ∷ operands) t → IsKeywordIdentifier fs which head → IsClause fs name which c operands → with_clause cs c ≡ Some ds
       → next_clause fs name place cs t ≡ Ok ds
   unfolding next_clause clause_of
   next-is place cs ds t head operands which c l w k e = ap (or_bad t place)
@@ -200,7 +200,7 @@ module _ (fs : Scope) (name : Tree) where
     told : (x : Field) → Some x ≡ Some f → IsField fs name x t → IsField fs name f t
     told x e h = subst (λ (y : Field). IsField fs name y t) (some-is x f e) h
 
-    an-immutable : (xs : List Tree) → IsWord fs form.Immutable head → IsList (head ∷ xs) t → immutable_field name xs ≡ Some f → IsField fs name f t
+    an-immutable : (xs : List Tree) → IsKeywordIdentifier fs form.Immutable head → IsList (head ∷ xs) t → immutable_field name xs ≡ Some f → IsField fs name f t
     unfolding immutable_field
     an-immutable [] w l h = absurd (cc)
     an-immutable (x ∷ []) w l h = met (is_leaf x) (Some (fixed_field name x)) f (IsField fs name f t) h (λ a e. told (fixed_field name x) e (r.immutable w (an-id x a) l))
@@ -208,7 +208,7 @@ module _ (fs : Scope) (name : Tree) where
         (λ a k. met (is_leaf y) (Some (field_with x y None)) f (IsField fs name f t) k (λ b e. told (field_with x y None) e (r.immutable_by w (an-id x a) (an-id y b) l)))
     an-immutable (x ∷ (y ∷ (z ∷ zs))) w l h = absurd (cc)
 
-    a-mutable : (xs : List Tree) → IsWord fs form.Mutable head → IsList (head ∷ xs) t → mutable_field name xs ≡ Some f → IsField fs name f t
+    a-mutable : (xs : List Tree) → IsKeywordIdentifier fs form.Mutable head → IsList (head ∷ xs) t → mutable_field name xs ≡ Some f → IsField fs name f t
     unfolding mutable_field
     a-mutable [] w l h = absurd (cc)
     a-mutable (x ∷ []) w l h = met (is_leaf x) (Some (field_with x (made_accessor name x) (Some (made_mutator name x)))) f (IsField fs name f t) h
@@ -219,7 +219,7 @@ module _ (fs : Scope) (name : Tree) where
         (λ b k'. met (is_leaf z) (Some (field_with x y (Some z))) f (IsField fs name f t) k' (λ c e. told (field_with x y (Some z)) e (r.mutable_by w (an-id x a) (an-id y b) (an-id z c) l))))
     a-mutable (x ∷ (y ∷ (z ∷ (u ∷ us)))) w l h = absurd (cc)
 
-    by-word : (which : CoreForm) (xs : List Tree) → IsWord fs which head → IsList (head ∷ xs) t → field_by name xs which ≡ Some f → IsField fs name f t
+    by-word : (which : CoreForm) (xs : List Tree) → IsKeywordIdentifier fs which head → IsList (head ∷ xs) t → field_by name xs which ≡ Some f → IsField fs name f t
     by-word form.Immutable xs w l h = an-immutable xs w l h
     by-word form.Mutable xs w l h = a-mutable xs w l h
     by-word _ xs w l h = absurd (cc)
@@ -309,7 +309,7 @@ module _ (fs : Scope) (name : Tree) where
     pub head : Tree
     pub operands : List Tree
     pub list : IsList (head ∷ operands) t
-    pub word : IsWord fs which head
+    pub word : IsKeywordIdentifier fs which head
     pub written : IsClause fs name which c operands
 
   is-read : (c : RecordClause) (t : Tree) → clause_of fs name t ≡ Some c → IsRead c t

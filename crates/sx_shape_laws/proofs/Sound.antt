@@ -17,7 +17,7 @@ use Rattle.sx_shapes.specs.declared.shape.LambdaCase.{LambdaCase}
 use Rattle.sx_shapes.specs.declared.shape.PatternCase.{PatternCase}
 use Rattle.sx_shapes.specs.declared.shape.Shape.{Shape}
 use Rattle.sx_shapes.specs.declared.shape.Shape.TheVariants as shapes
-use Rattle.sx_shape_laws.specs.Grammar.{IsId, IsList, AreWritten, IsFormals, AreFormals, IsBinding, AreBindings, IsLambdaCase, IsPatternCase, IsForm, HasShape}
+use Rattle.sx_shape_laws.specs.Grammar.{IsId, IsList, AreWritten, IsFormalsForm, AreFormals, IsBinding, AreBindings, IsLambdaCase, IsPatternCase, IsForm, HasShape}
 use Rattle.sx_shape_laws.specs.Grammar as g
 use Rattle.sx_shape_laws.specs.Laws.{ShapesAreWritten, OthersAreBad}
 
@@ -77,31 +77,31 @@ module _ {Y : Type 0} (P : Y → Tree → Type 0) (f : Tree → Option Y) (one :
 
 -- The parts of forms.
 
-no-more : (s : Option Span) (a : Atom) (ids : List Tree) (f : FormalIds) → formals_before ids (atom s a) ≡ Some f → IsFormals [] f.rest (atom s a) × (ids ≡ f.required)
+no-more : (s : Option Span) (a : Atom) (ids : List Tree) (f : FormalIds) → formals_before ids (atom s a) ≡ Some f → IsFormalsForm [] f.rest (atom s a) × (ids ≡ f.required)
 unfolding formals_before
 no-more s atoms.Nil ids f h =
     let e : record { required = ids; rest = None } ≡ f = some-is _ _ h in
-    (subst (λ (o : Option Tree). IsFormals [] o (atom s atoms.Nil)) (ap (λ (k : FormalIds). k.rest) e) g.no_more, ap (λ (k : FormalIds). k.required) e)
+    (subst (λ (o : Option Tree). IsFormalsForm [] o (atom s atoms.Nil)) (ap (λ (k : FormalIds). k.rest) e) g.no_more, ap (λ (k : FormalIds). k.required) e)
 no-more s _ ids f h = absurd (cc)
 
-others : (s : Option Span) (x : List ℕ) (c : LeafContext) (ids : List Tree) (f : FormalIds) → formals_before ids (leaf s x c) ≡ Some f → IsFormals [] f.rest (leaf s x c) × (ids ≡ f.required)
+others : (s : Option Span) (x : List ℕ) (c : LeafContext) (ids : List Tree) (f : FormalIds) → formals_before ids (leaf s x c) ≡ Some f → IsFormalsForm [] f.rest (leaf s x c) × (ids ≡ f.required)
 unfolding formals_before
 others s x c ids f h =
     let e : record { required = ids; rest = Some (leaf s x c) } ≡ f = some-is _ _ h in
-    (subst (λ (o : Option Tree). IsFormals [] o (leaf s x c)) (ap (λ (k : FormalIds). k.rest) e) (g.all_others g.id), ap (λ (k : FormalIds). k.required) e)
+    (subst (λ (o : Option Tree). IsFormalsForm [] o (leaf s x c)) (ap (λ (k : FormalIds). k.rest) e) (g.all_others g.id), ap (λ (k : FormalIds). k.required) e)
 
 no-formals : (s : Option Span) (d : Tree) (ids : List Tree) (f : FormalIds) → formals_before ids (vector s d) ≡ Some f → ⊥
 unfolding formals_before
 no-formals s d ids f h = absurd (cc)
 
 -- the identifiers from here, and what stands behind them
-formals-from : (t : Tree) (ids : List Tree) (f : FormalIds) → all_ids (elements t) ≡ true → formals_before ids (tail_of t) ≡ Some f → IsFormals (elements t) f.rest t × (ids ≡ f.required)
+formals-from : (t : Tree) (ids : List Tree) (f : FormalIds) → all_ids (elements t) ≡ true → formals_before ids (tail_of t) ≡ Some f → IsFormalsForm (elements t) f.rest t × (ids ≡ f.required)
 formals-from (atom s a) ids f b h = no-more s a ids f h
 formals-from (leaf s x c) ids f b h = others s x c ids f h
 formals-from (pair s a d) ids f b h = by (is_leaf a) refl b (λ k. formals-from d ids f k h)
   where
-    by : (c : Bool) → is_leaf a ≡ c → (if c then all_ids (elements d) else false) ≡ true → (all_ids (elements d) ≡ true → IsFormals (elements d) f.rest d × (ids ≡ f.required))
-        → IsFormals (a ∷ elements d) f.rest (pair s a d) × (ids ≡ f.required)
+    by : (c : Bool) → is_leaf a ≡ c → (if c then all_ids (elements d) else false) ≡ true → (all_ids (elements d) ≡ true → IsFormalsForm (elements d) f.rest d × (ids ≡ f.required))
+        → IsFormalsForm (a ∷ elements d) f.rest (pair s a d) × (ids ≡ f.required)
     by true e k rest = let r = rest k in (g.one (an-id a e) r.0, r.1)
     by false e k rest = absurd (cc)
 formals-from (vector s d) ids f b h = absurd (no-formals s d ids f h)
@@ -109,7 +109,7 @@ formals-from (vector s d) ids f b h = absurd (no-formals s d ids f h)
 are-formals : (t : Tree) (f : FormalIds) → formals t ≡ Some f → AreFormals f t
 unfolding formals
 are-formals t f h = met (all_ids (elements t)) (formals_before (elements t) (tail_of t)) f (AreFormals f t) h
-    (λ b e. let r = formals-from t (elements t) f b e in subst (λ (xs : List Tree). IsFormals xs f.rest t) r.1 r.0)
+    (λ b e. let r = formals-from t (elements t) f b e in subst (λ (xs : List Tree). IsFormalsForm xs f.rest t) r.1 r.0)
 
 a-binding : (t : Tree) (b : BindingSpec) → binding t ≡ Some b → IsBinding b t
 unfolding binding

@@ -30,13 +30,13 @@ AreWritten P (y ∷ ys) [] = ⊥
 AreWritten P (y ∷ ys) (t ∷ ts) = P y t × AreWritten P ys ts
 
 -- `(id ...)`, `(id ... . id)` or `id`
-pub data IsFormals : List Tree → Option Tree → Tree → Type 0 where
-  no_more : {span : Option Span} → IsFormals [] None (atom span Nil)
-  all_others : {x : Tree} → IsId x → IsFormals [] (Some x) x
-  one : {span : Option Span} {x rest : Tree} {xs : List Tree} {others : Option Tree} → IsId x → IsFormals xs others rest → IsFormals (x ∷ xs) others (pair span x rest)
+pub data IsFormalsForm : List Tree → Option Tree → Tree → Type 0 where
+  no_more : {span : Option Span} → IsFormalsForm [] None (atom span Nil)
+  all_others : {x : Tree} → IsId x → IsFormalsForm [] (Some x) x
+  one : {span : Option Span} {x rest : Tree} {xs : List Tree} {others : Option Tree} → IsId x → IsFormalsForm xs others rest → IsFormalsForm (x ∷ xs) others (pair span x rest)
 
 abbrev pub AreFormals : FormalIds → Tree → Type 0
-AreFormals ids t = IsFormals ids.required ids.rest t
+AreFormals ids t = IsFormalsForm ids.required ids.rest t
 
 -- `(id init)`
 abbrev pub IsBinding : BindingSpec → Tree → Type 0

@@ -27,7 +27,7 @@ abbrev pub keyword_label : CoreForm → Label
 keyword_label which = record { 0 = record { library = library.Core; number = number which } }
 
 -- an identifier that stands for a keyword
-pub record IsWord (fs : Scope) (which : CoreForm) (t : Tree) : Type 0 where
+pub record IsKeywordIdentifier (fs : Scope) (which : CoreForm) (t : Tree) : Type 0 where
   pub is_id : IsId t
   pub label : stands fs t ≡ Some (keyword_label which)
 
@@ -60,14 +60,14 @@ pub data IsField (fs : Scope) (name : Tree) : Field → Tree → Type 0 where
   -- `id`
   alone : {x : Tree} → IsId x → IsField fs name (record { id = x; accessor = accessor_name name x; mutator = None }) x
   -- `(immutable id)`
-  immutable : {head x t : Tree} → IsWord fs form.Immutable head → IsId x → IsList (head ∷ x ∷ []) t → IsField fs name (record { id = x; accessor = accessor_name name x; mutator = None }) t
+  immutable : {head x t : Tree} → IsKeywordIdentifier fs form.Immutable head → IsId x → IsList (head ∷ x ∷ []) t → IsField fs name (record { id = x; accessor = accessor_name name x; mutator = None }) t
   -- `(immutable id accessor)`
-  immutable_by : {head x get t : Tree} → IsWord fs form.Immutable head → IsId x → IsId get → IsList (head ∷ x ∷ get ∷ []) t → IsField fs name (record { id = x; accessor = get; mutator = None }) t
+  immutable_by : {head x get t : Tree} → IsKeywordIdentifier fs form.Immutable head → IsId x → IsId get → IsList (head ∷ x ∷ get ∷ []) t → IsField fs name (record { id = x; accessor = get; mutator = None }) t
   -- `(mutable id)`
-  mutable : {head x t : Tree} → IsWord fs form.Mutable head → IsId x → IsList (head ∷ x ∷ []) t
+  mutable : {head x t : Tree} → IsKeywordIdentifier fs form.Mutable head → IsId x → IsList (head ∷ x ∷ []) t
       → IsField fs name (record { id = x; accessor = accessor_name name x; mutator = Some (mutator_name name x) }) t
   -- `(mutable id accessor mutator)`
-  mutable_by : {head x get put t : Tree} → IsWord fs form.Mutable head → IsId x → IsId get → IsId put → IsList (head ∷ x ∷ get ∷ put ∷ []) t → IsField fs name (record { id = x; accessor = get; mutator = Some put }) t
+  mutable_by : {head x get put t : Tree} → IsKeywordIdentifier fs form.Mutable head → IsId x → IsId get → IsId put → IsList (head ∷ x ∷ get ∷ put ∷ []) t → IsField fs name (record { id = x; accessor = get; mutator = Some put }) t
 
 -- a clause, by what stands behind its word
 pub data IsClause (fs : Scope) (name : Tree) : CoreForm → RecordClause → List Tree → Type 0 where
@@ -90,7 +90,7 @@ pub data IsClause (fs : Scope) (name : Tree) : CoreForm → RecordClause → Lis
 
 -- the keyword is the head of one of these forms
 pub data Has (fs : Scope) (which : CoreForm) : List Tree → Type 0 where
-  headed_here : {head t : Tree} {operands ts : List Tree} → IsList (head ∷ operands) t → IsWord fs which head → Has fs which (t ∷ ts)
+  headed_here : {head t : Tree} {operands ts : List Tree} → IsList (head ∷ operands) t → IsKeywordIdentifier fs which head → Has fs which (t ∷ ts)
   headed_behind : {t : Tree} {ts : List Tree} → Has fs which ts → Has fs which (t ∷ ts)
 
 abbrev pub Lacks : Scope → CoreForm → List Tree → Type 0
@@ -106,11 +106,11 @@ LacksKind fs which ts = Lacks fs which ts
 pub data AreClauses (fs : Scope) (name : Tree) : List Tree → Type 0 where
   no_more : AreClauses fs name []
   one_more : {which : CoreForm} {c : RecordClause} {head t : Tree} {operands ts : List Tree}
-      → IsList (head ∷ operands) t → IsWord fs which head → IsClause fs name which c operands → LacksKind fs which ts → AreClauses fs name ts → AreClauses fs name (t ∷ ts)
+      → IsList (head ∷ operands) t → IsKeywordIdentifier fs which head → IsClause fs name which c operands → LacksKind fs which ts → AreClauses fs name ts → AreClauses fs name (t ∷ ts)
 
 -- one of the clauses is this
 pub data Says (fs : Scope) (name : Tree) (c : RecordClause) : List Tree → Type 0 where
-  said_here : {which : CoreForm} {head t : Tree} {operands ts : List Tree} → IsList (head ∷ operands) t → IsWord fs which head → IsClause fs name which c operands → Says fs name c (t ∷ ts)
+  said_here : {which : CoreForm} {head t : Tree} {operands ts : List Tree} → IsList (head ∷ operands) t → IsKeywordIdentifier fs which head → IsClause fs name which c operands → Says fs name c (t ∷ ts)
   said_behind : {t : Tree} {ts : List Tree} → Says fs name c ts → Says fs name c (t ∷ ts)
 
 -- one of these

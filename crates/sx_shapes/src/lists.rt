@@ -7,7 +7,7 @@ use std::alloc::Global;
 use sx_base::atom::Atom;
 use sx_base::items::Items;
 use sx_base::memory::Memory;
-use sx_syntax::syn::{Opened, Syn};
+use sx_syntax::syn::{OpenedTree, Syn};
 
 /// The first element of a list, and the rest.
 #[derive(Drop)]
@@ -18,7 +18,7 @@ pub struct Split {
 
 /// The elements of a list, and what stands behind the last.
 #[derive(Drop)]
-pub struct Parts {
+pub struct ListElements {
     pub elements: Items<Syn>,
     pub tail: Syn,
 }
@@ -29,10 +29,10 @@ pub fn is_id(alloc: Global, form: &Syn) -> Result<bool, Memory>
     ensures { IfOk result (λ b. b ≡ is_leaf form.now) }
 {
     match form.open(alloc)? {
-        Opened::Symbol(_) => Ok(true),
-        Opened::Atom(_) => Ok(false),
-        Opened::Pair(_, _) => Ok(false),
-        Opened::Vector(_) => Ok(false),
+        OpenedTree::Symbol(_) => Ok(true),
+        OpenedTree::Atom(_) => Ok(false),
+        OpenedTree::Pair(_, _) => Ok(false),
+        OpenedTree::Vector(_) => Ok(false),
     }
 }
 
@@ -42,10 +42,10 @@ pub fn is_nil(alloc: Global, form: &Syn) -> Result<bool, Memory>
     ensures { IfOk result (λ b. b ≡ is_nil form.now) }
 {
     match form.open(alloc)? {
-        Opened::Atom(atom) => Ok(is_nil_atom(&atom)),
-        Opened::Symbol(_) => Ok(false),
-        Opened::Pair(_, _) => Ok(false),
-        Opened::Vector(_) => Ok(false),
+        OpenedTree::Atom(atom) => Ok(is_nil_atom(&atom)),
+        OpenedTree::Symbol(_) => Ok(false),
+        OpenedTree::Pair(_, _) => Ok(false),
+        OpenedTree::Vector(_) => Ok(false),
     }
 }
 
@@ -61,16 +61,16 @@ pub fn split_first(alloc: Global, form: &Syn) -> Result<Option<Split>, Memory>
     ensures { IfOk result (λ s. s ≡ split_first form.now) }
 {
     match form.open(alloc)? {
-        Opened::Pair(first, rest) => Ok(Some(Split { first, rest })),
-        Opened::Atom(_) => Ok(None),
-        Opened::Symbol(_) => Ok(None),
-        Opened::Vector(_) => Ok(None),
+        OpenedTree::Pair(first, rest) => Ok(Some(Split { first, rest })),
+        OpenedTree::Atom(_) => Ok(None),
+        OpenedTree::Symbol(_) => Ok(None),
+        OpenedTree::Vector(_) => Ok(None),
     }
 }
 
 /// The elements and the tail. A form that is no list, or the empty list, is its own tail.
 #[tactic(auto, using(crate::proofs::Walks::elements_on, crate::proofs::Walks::tail_on, crate::proofs::Walks::elements_end, crate::proofs::Walks::tail_end))]
-pub fn parts_of(alloc: Global, form: &Syn) -> Result<Parts, Memory>
+pub fn parts_of(alloc: Global, form: &Syn) -> Result<ListElements, Memory>
     ensures { IfOk result (λ p. (p.elements ≡ elements form.now) × (p.tail ≡ tail_of form.now)) }
 {
     let mut elements = Items::new(alloc);
@@ -79,7 +79,7 @@ pub fn parts_of(alloc: Global, form: &Syn) -> Result<Parts, Memory>
         elements.push(next.first)?;
         rest = next.rest;
     }
-    Ok(Parts {
+    Ok(ListElements {
         elements,
         tail: rest,
     })

@@ -5,13 +5,13 @@ ghost use Rattle.sx_spelling.specs.Source.{piece, characters};
 
 /// A character and how many bytes it takes. None stands for bytes that begin no character.
 #[derive(Clone, Copy)]
-pub struct Piece {
+pub struct SourcePiece {
     pub char: Option<char>,
     pub size: usize,
 }
 
 /// The first character, or none where no bytes are left.
-pub fn front(bytes: &[u8]) -> Option<Piece>
+pub fn front(bytes: &[u8]) -> Option<SourcePiece>
     ensures first { MatchOption result
         (characters bytes.now ≡ [])
         (λ p. characters bytes.now ≡ piece p.char p.size ∷ characters (drop p.size bytes.now)) }
@@ -21,7 +21,7 @@ pub fn front(bytes: &[u8]) -> Option<Piece>
         return None;
     }
     let (char, size) = bstr::decode_utf8(bytes);
-    Some(Piece { char, size })
+    Some(SourcePiece { char, size })
 }
 
 /// The byte at an index, or 0 past the end.

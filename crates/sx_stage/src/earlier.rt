@@ -3,12 +3,12 @@
 ghost use Rattle.std.specs.Prelude.{◌≡◌};
 ghost use Rattle.sx_stage.specs.Libraries.{is_marked};
 
-use sx_core::record::LibRecord;
+use sx_core::record::CompiledLibrary;
 
 /// The records of a run that are marked, in the order of loading. Those beyond the marks are not.
 #[derive(Drop)]
 pub struct Earlier<'a> {
-    pub records: &'a [LibRecord],
+    pub records: &'a [CompiledLibrary],
     pub needs: &'a [bool],
 }
 

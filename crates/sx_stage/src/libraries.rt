@@ -12,17 +12,17 @@ use sx_base::library::LibName;
 use sx_base::memory::Memory;
 use sx_base::name::Label;
 use sx_core::code::Core;
-use sx_core::record::LibRecord;
+use sx_core::record::CompiledLibrary;
 use sx_core::references::references;
 use sx_core::share::share_library;
 
-/// Libraries, each once, in the order of coming.
+/// LibraryList, each once, in the order of coming.
 #[derive(Drop)]
-pub struct Libraries {
+pub struct LibraryList {
     set: IndexSet<LibName>,
 }
 
-impl Model for Libraries {
+impl Model for LibraryList {
     ghost use Rattle.std.specs.Prelude.{List};
     ghost use Rattle.sx_base.specs.declared.library.LibName.{LibName};
 
@@ -31,12 +31,12 @@ impl Model for Libraries {
     ghost view = { λ l. l.set.keys };
 }
 
-impl Libraries {
+impl LibraryList {
     /// No libraries. It takes no memory.
-    pub fn new(alloc: Global) -> Libraries
+    pub fn new(alloc: Global) -> LibraryList
         ensures { result ≡ [] }
     {
-        Libraries {
+        LibraryList {
             set: IndexSet::new(alloc),
         }
     }
@@ -49,7 +49,7 @@ impl Libraries {
     }
 
     /// Whether all of these are there. It takes no memory.
-    pub(crate) fn has_all(&self, others: &Libraries) -> bool
+    pub(crate) fn has_all(&self, others: &LibraryList) -> bool
         ensures { result ≡ has_all self.now others.now }
     {
         for library in others.set.as_slice() {
@@ -93,7 +93,7 @@ impl Libraries {
         Ok(())
     }
 
-    fn add_refs(&mut self, alloc: Global, one: &LibRecord) -> Result<(), Memory>
+    fn add_refs(&mut self, alloc: Global, one: &CompiledLibrary) -> Result<(), Memory>
         ensures { OnOk result (self.new ≡ with_refs one.now self.old) }
     {
         if !self.has(&one.name) {
@@ -102,7 +102,7 @@ impl Libraries {
         self.add_each(alloc, one.refs.as_slice())
     }
 
-    fn add_refs_if(&mut self, alloc: Global, needed: bool, one: &LibRecord) -> Result<(), Memory>
+    fn add_refs_if(&mut self, alloc: Global, needed: bool, one: &CompiledLibrary) -> Result<(), Memory>
         ensures { OnOk result (self.new ≡ with_refs_if needed one.now self.old) }
     {
         if !needed {
@@ -137,11 +137,11 @@ impl Libraries {
 }
 
 /// The libraries whose variables an expression mentions.
-pub(crate) fn libraries_of(alloc: Global, code: &Core) -> Result<Libraries, Memory>
+pub(crate) fn libraries_of(alloc: Global, code: &Core) -> Result<LibraryList, Memory>
     ensures { IfOk result (λ ks. ks ≡ libraries_of code.now) }
 {
     let labels = references(alloc, code)?;
-    let mut all = Libraries::new(alloc);
+    let mut all = LibraryList::new(alloc);
     all.add_each_of(alloc, labels.as_slice())?;
     Ok(all)
 }

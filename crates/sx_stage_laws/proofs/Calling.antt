@@ -11,7 +11,7 @@ use Rattle.sx_base.specs.declared.span.Span.{Span}
 use Rattle.sx_tree.specs.Changes.{enter, leave}
 use Rattle.sx_tree.specs.Tree.{Tree}
 use Rattle.sx_core.specs.Core.{PlainCore}
-use Rattle.sx_core.specs.declared.record.LibRecord.{LibRecord}
+use Rattle.sx_core.specs.declared.record.CompiledLibrary.{CompiledLibrary}
 use Rattle.sx_value.specs.FromDatum.{Keeps}
 use Rattle.sx_value.specs.ToSyntax.{Reading, to_syntax}
 use Rattle.sx_value.specs.declared.value.Value.{Value}
@@ -26,7 +26,7 @@ use Rattle.sx_stage.specs.Stage.{PlainStage, fresh_mark, keyword_at}
 use Rattle.sx_stage.specs.Transformers.{value_in, value_or, keyword_value}
 use Rattle.sx_stage.specs.Uses.{procedure_in, call_procedure, tree_at, read_answer, transform, cut, transform_and_cut, transform_marked, used}
 use Rattle.sx_stage.specs.declared.keyword.Keyword.TheVariants as keyword
-use Rattle.sx_stage_laws.specs.Grows.{Grows, By, GrowsBy}
+use Rattle.sx_stage_laws.specs.Grows.{StageGrowth, By, GrowsBy}
 use Rattle.sx_stage_laws.specs.Uses.{OnlyCounts, CalledOn}
 use Rattle.sx_stage_laws.proofs.Growing.{by_after, grows_then, value_grows}
 
@@ -92,7 +92,7 @@ counted_marked : (place : Span) (v : Value) (form : Tree) (frame : Option FrameN
 unfolding transform_marked
 counted_marked place v form frame m s = counted_left s (leave m frame) (transform_and_cut place v (enter m form) s) (counted_transform place v (enter m form) s)
 
-grows_counted : (s t : PlainStage) → Counted s t → Grows s t
+grows_counted : (s t : PlainStage) → Counted s t → StageGrowth s t
 grows_counted s t h = record {
   cells = subst (λ c. Keeps s.cells c) (sym (ap (λ (x : PlainStage). x.cells) h.only)) (keeps_refl s.cells);
   frames = ap (λ (x : PlainStage). x.frames) h.only;
@@ -118,12 +118,12 @@ grows_fresh s = record {
   spent = omega arith;
 }
 
-pub use_grows : (place : Span) (rs : List LibRecord) (form : Tree) (l : Label) (e : Option PlainCore) (frame : Option FrameNo) (s : PlainStage)
+pub use_grows : (place : Span) (rs : List CompiledLibrary) (form : Tree) (l : Label) (e : Option PlainCore) (frame : Option FrameNo) (s : PlainStage)
     → GrowsBy s (used place rs form l e frame s)
 unfolding used
 use_grows place rs form l e frame s =
-    by_after Grows grows_then s (keyword_value place rs l e s) (λ v t. after (fresh_mark t) (transform_marked place v form frame)) (value_grows place rs l e s)
-    (λ v t. by_after Grows grows_then t (fresh_mark t) (transform_marked place v form frame) (grows_fresh t) (λ m u. by_counted u _ (counted_marked place v form frame m u)))
+    by_after StageGrowth grows_then s (keyword_value place rs l e s) (λ v t. after (fresh_mark t) (transform_marked place v form frame)) (value_grows place rs l e s)
+    (λ v t. by_after StageGrowth grows_then t (fresh_mark t) (transform_marked place v form frame) (grows_fresh t) (λ m u. by_counted u _ (counted_marked place v form frame m u)))
 
 -- the transformer was called on a stage
 counts : (place : Span) (v : Value) (form : Tree) (frame : Option FrameNo) (s new : PlainStage) (t : Tree)
@@ -134,7 +134,7 @@ counts place v form frame s new t h =
     let c : By Counted u (Ok (t, new)) = subst (λ r. By Counted u r) h (counted_marked place v form frame m u) in
     c.only
 
-module _ (place : Span) (rs : List LibRecord) (form : Tree) (l : Label) (e : Option PlainCore) (frame : Option FrameNo) (s new : PlainStage) (t : Tree) where
+module _ (place : Span) (rs : List CompiledLibrary) (form : Tree) (l : Label) (e : Option PlainCore) (frame : Option FrameNo) (s new : PlainStage) (t : Tree) where
   called_on : (r : Result (Value × PlainStage) Fault) → keyword_value place rs l e s ≡ r → after r (λ v u. after (fresh_mark u) (transform_marked place v form frame)) ≡ Ok (t, new)
       → CalledOn place rs l e s new
   called_on (Ok p) asked h = record { value = p.0; before = p.1; asked = asked; counts = counts place p.0 form frame p.1 new t h }

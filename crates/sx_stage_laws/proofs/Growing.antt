@@ -12,19 +12,19 @@ use Rattle.sx_base.specs.declared.name.Label.{Label}
 use Rattle.sx_base.specs.declared.span.Span.{Span}
 use Rattle.sx_core.specs.Core.{PlainCore}
 use Rattle.sx_core.specs.Labels.{same_label}
-use Rattle.sx_core.specs.declared.record.LibRecord.{LibRecord}
+use Rattle.sx_core.specs.declared.record.CompiledLibrary.{CompiledLibrary}
 use Rattle.sx_value.specs.declared.value.Value.{Value}
 use Rattle.sx_value.proofs.Stored.{keeps_refl, keeps_then}
-use Rattle.sx_eval.specs.State.{State, Outcome, done, faulted, unfit}
-use Rattle.sx_eval_laws.specs.Kept.{Later, EndsLater}
+use Rattle.sx_eval.specs.State.{WorldState, Outcome, done, faulted, unfit}
+use Rattle.sx_eval_laws.specs.Kept.{LaterWorld, EndsLater}
 use Rattle.sx_eval_laws.proofs.Keeping.{keeps-defined, keeps-alone}
 use Rattle.sx_stage.specs.Libraries.{has_library, with_library, has_all, libraries_of, wanted}
 use Rattle.sx_stage.specs.Running.{state_on, left_by, ended_at, with_codes_of, outcome_of, evaluate, outcome_of_lines, library_ended, evaluate_library, evaluate_wanted, evaluate_all, need}
 use Rattle.sx_stage.specs.Stage.{PlainStage, keyword_at, with_keyword}
-use Rattle.sx_stage.specs.Transformers.{is_transformer, transformer_only, transformer, begin_keyword, finish_keyword, value_in, import_keyword, value_or, keyword_value, is_variable, is_variable_transformer}
+use Rattle.sx_stage.specs.Transformers.{is_transformer, transformer_only, transformer, begin_keyword, evaluate_transformer, value_in, import_keyword, value_or, keyword_value, is_variable, is_variable_transformer}
 use Rattle.sx_stage.specs.declared.keyword.Keyword.{Keyword}
 use Rattle.sx_stage.specs.declared.keyword.Keyword.TheVariants as keyword
-use Rattle.sx_stage_laws.specs.Grows.{Grows, By, GrowsBy, IsNotKept}
+use Rattle.sx_stage_laws.specs.Grows.{StageGrowth, By, GrowsBy, IsNotKept}
 
 -- What holds from one stage to the next.
 
@@ -42,10 +42,10 @@ pub by_if : {A : Type 0} (R : PlainStage → PlainStage → Type 0) (s : PlainSt
 by_if R s true x y h k = h
 by_if R s false x y h k = k
 
-pub grows_refl : (s : PlainStage) → Grows s s
+pub grows_refl : (s : PlainStage) → StageGrowth s s
 grows_refl s = record { cells = keeps_refl s.cells; frames = refl; library = refl; names = omega arith; evaluated = λ k h. h; kept = λ l e v h. h; spent = omega arith }
 
-pub grows_then : (r s t : PlainStage) → Grows r s → Grows s t → Grows r t
+pub grows_then : (r s t : PlainStage) → StageGrowth r s → StageGrowth s t → StageGrowth r t
 grows_then r s t h k = record {
   cells = keeps_then r.cells s.cells t.cells h.cells k.cells;
   frames = k.frames ∙ h.frames;
@@ -58,7 +58,7 @@ grows_then r s t h k = record {
 
 -- It grows, and nothing is put down of keywords.
 pub record Stays (s t : PlainStage) : Type 0 where
-  pub grows : Grows s t
+  pub grows : StageGrowth s t
   pub keywords : t.keywords ≡ s.keywords
 
 pub stays_refl : (s : PlainStage) → Stays s s
@@ -69,7 +69,7 @@ stays_then r s t h k = record { grows = grows_then r s t h.grows k.grows; keywor
 
 -- Evaluations.
 
-stays_left : (s : PlainStage) (t : State) (n : ℕ) → Later (state_on s) t → Stays s (left_by s t n)
+stays_left : (s : PlainStage) (t : WorldState) (n : ℕ) → LaterWorld (state_on s) t → Stays s (left_by s t n)
 stays_left s t n h = record {
   grows = record { cells = h.cells; frames = refl; library = h.library; names = h.names; evaluated = λ k e. e; kept = λ l e v x. x; spent = omega arith };
   keywords = refl;
@@ -104,7 +104,7 @@ has_with ks m k h = go (has_library ks m)
     go true = h
     go false = has_more ks (m ∷ []) k h
 
-stays_library_ended : (place : Span) (r : LibRecord) (s : PlainStage) (o : Outcome) → EndsLater (state_on s) o → By Stays s (library_ended place r s o)
+stays_library_ended : (place : Span) (r : CompiledLibrary) (s : PlainStage) (o : Outcome) → EndsLater (state_on s) o → By Stays s (library_ended place r s o)
 stays_library_ended place r s (done v t n) h = record {
   grows = record {
     cells = h.cells;
@@ -120,21 +120,21 @@ stays_library_ended place r s (done v t n) h = record {
 stays_library_ended place r s (faulted f t n) h = tt
 stays_library_ended place r s unfit h = tt
 
-stays_library : (place : Span) (r : LibRecord) (s : PlainStage) → By Stays s (evaluate_library place r s)
+stays_library : (place : Span) (r : CompiledLibrary) (s : PlainStage) → By Stays s (evaluate_library place r s)
 unfolding evaluate_library
 stays_library place r s = stays_library_ended place r s (outcome_of_lines r.run s) (keeps-defined _ r.run (state_on s) _)
 
-stays_wanted : (place : Span) (ks : List LibName) (r : LibRecord) (s : PlainStage) → By Stays s (evaluate_wanted place ks r s)
+stays_wanted : (place : Span) (ks : List LibName) (r : CompiledLibrary) (s : PlainStage) → By Stays s (evaluate_wanted place ks r s)
 unfolding evaluate_wanted
 stays_wanted place ks r s =
     by_if Stays s (has_library ks r.name) _ _ (by_if Stays s (has_library s.evaluated r.name) _ _ (stays_refl s) (stays_library place r s)) (stays_refl s)
 
-stays_all : (place : Span) (ks : List LibName) (rs : List LibRecord) (s : PlainStage) → By Stays s (evaluate_all place ks rs s)
+stays_all : (place : Span) (ks : List LibName) (rs : List CompiledLibrary) (s : PlainStage) → By Stays s (evaluate_all place ks rs s)
 unfolding evaluate_all
 stays_all place ks [] s = stays_refl s
 stays_all place ks (r ∷ rs) s = by_after Stays stays_then s (evaluate_wanted place ks r s) (λ _. evaluate_all place ks rs) (stays_wanted place ks r s) (λ _ t. stays_all place ks rs t)
 
-stays_need : (place : Span) (rs : List LibRecord) (c : PlainCore) (s : PlainStage) → By Stays s (need place rs c s)
+stays_need : (place : Span) (rs : List CompiledLibrary) (c : PlainCore) (s : PlainStage) → By Stays s (need place rs c s)
 unfolding need
 stays_need place rs c s = by_if Stays s (has_all s.evaluated (libraries_of c)) _ _ (stays_refl s) (stays_all place (wanted rs (libraries_of c)) rs s)
 
@@ -143,7 +143,7 @@ stays_need place rs c s = by_if Stays s (has_all s.evaluated (libraries_of c)) _
 stays_only : (place : Span) (v : Value) (s : PlainStage) → By Stays s (transformer_only place v s)
 stays_only place v s = by_if Stays s (is_transformer v) _ _ (stays_refl s) tt
 
-pub stays_transformer : (place : Span) (rs : List LibRecord) (c : PlainCore) (s : PlainStage) → By Stays s (transformer place rs c s)
+pub stays_transformer : (place : Span) (rs : List CompiledLibrary) (c : PlainCore) (s : PlainStage) → By Stays s (transformer place rs c s)
 unfolding transformer
 stays_transformer place rs c s =
     by_after Stays stays_then s (need place rs c s) (λ _ t. after (evaluate place c t) (λ p. transformer_only place p.0)) (stays_need place rs c s)
@@ -169,7 +169,7 @@ kept_stays (x ∷ xs) l m k e v n h = go (same_label l x.0) (kept_stays xs l m k
     go true rest not_kept = here (same_label m x.0) not_kept h
     go false rest not_kept = behind (same_label m x.0) (rest not_kept) h
 
-grows_put : (l : Label) (k : Keyword) (s : PlainStage) → IsNotKept (keyword_at s.keywords l) → Grows s (with_keyword l k s)
+grows_put : (l : Label) (k : Keyword) (s : PlainStage) → IsNotKept (keyword_at s.keywords l) → StageGrowth s (with_keyword l k s)
 grows_put l k s n = record {
   cells = keeps_refl s.cells;
   frames = refl;
@@ -190,16 +190,16 @@ pub begin_grows : (l : Label) (place : Span) (s : PlainStage) → IsNotKept (key
 unfolding begin_keyword
 begin_grows l place s n = grows_put l (keyword.Waiting place) s n
 
-pub finish_grows : (place : Span) (rs : List LibRecord) (l : Label) (c : PlainCore) (s : PlainStage) → IsNotKept (keyword_at s.keywords l) → GrowsBy s (finish_keyword place rs l c s)
-unfolding finish_keyword
+pub finish_grows : (place : Span) (rs : List CompiledLibrary) (l : Label) (c : PlainCore) (s : PlainStage) → IsNotKept (keyword_at s.keywords l) → GrowsBy s (evaluate_transformer place rs l c s)
+unfolding evaluate_transformer
 finish_grows place rs l c s n = grows_kept l (λ v. keyword.Kept (Some c) v) (λ v. tt) s (transformer place rs c s) (stays_transformer place rs c s) n
 
-import_grows : (place : Span) (rs : List LibRecord) (l : Label) (e : Option PlainCore) (s : PlainStage) → IsNotKept (keyword_at s.keywords l) → GrowsBy s (import_keyword place rs l e s)
+import_grows : (place : Span) (rs : List CompiledLibrary) (l : Label) (e : Option PlainCore) (s : PlainStage) → IsNotKept (keyword_at s.keywords l) → GrowsBy s (import_keyword place rs l e s)
 unfolding import_keyword
 import_grows place rs l None s n = tt
 import_grows place rs l (Some c) s n = grows_kept l (λ v. keyword.Kept None v) (λ v. v) s (transformer place rs c s) (stays_transformer place rs c s) n
 
-pub value_grows : (place : Span) (rs : List LibRecord) (l : Label) (e : Option PlainCore) (s : PlainStage) → GrowsBy s (keyword_value place rs l e s)
+pub value_grows : (place : Span) (rs : List CompiledLibrary) (l : Label) (e : Option PlainCore) (s : PlainStage) → GrowsBy s (keyword_value place rs l e s)
 unfolding keyword_value
 value_grows place rs l e s = go (keyword_at s.keywords l) (λ n. import_grows place rs l e s n)
   where
@@ -208,7 +208,7 @@ value_grows place rs l e s = go (keyword_at s.keywords l) (λ n. import_grows pl
     go (Some (keyword.Waiting at)) imports = tt
     go (Some (keyword.Kept x v)) imports = grows_refl s
 
-pub variable_grows : (place : Span) (rs : List LibRecord) (l : Label) (e : Option PlainCore) (s : PlainStage) → GrowsBy s (is_variable_transformer place rs l e s)
+pub variable_grows : (place : Span) (rs : List CompiledLibrary) (l : Label) (e : Option PlainCore) (s : PlainStage) → GrowsBy s (is_variable_transformer place rs l e s)
 unfolding is_variable_transformer
 variable_grows place rs l e s =
-    by_after Grows grows_then s (keyword_value place rs l e s) (λ v. give (is_variable v)) (value_grows place rs l e s) (λ v t. grows_refl t)
+    by_after StageGrowth grows_then s (keyword_value place rs l e s) (λ v. give (is_variable v)) (value_grows place rs l e s) (λ v t. grows_refl t)

@@ -8,13 +8,13 @@ use Rattle.sx_base.specs.declared.fault.Fault.{Fault}
 use Rattle.sx_base.specs.declared.library.LibName.{LibName}
 use Rattle.sx_base.specs.declared.span.Span.{Span}
 use Rattle.sx_core.specs.Core.{PlainCore}
-use Rattle.sx_core.specs.declared.record.LibRecord.{LibRecord}
+use Rattle.sx_core.specs.declared.record.CompiledLibrary.{CompiledLibrary}
 use Rattle.sx_core_laws.specs.Words.{Among}
 use Rattle.sx_eval.specs.State.{Outcome, done, faulted, unfit}
 use Rattle.sx_stage.specs.Libraries.{has_library, with_library, with_libraries, has_all, libraries_of, with_refs, wanted}
 use Rattle.sx_stage.specs.Running.{outcome_of_lines, left_by_library, library_ended, evaluate_library, evaluate_wanted, evaluate_all, need}
 use Rattle.sx_stage.specs.Stage.{PlainStage}
-use Rattle.sx_stage_laws.specs.Reached.{Reached, mentioned, further, RefersBack, names_of, HaveOwnNames, lacking, evaluated_for, IsClosed}
+use Rattle.sx_stage_laws.specs.Reached.{ReachedFrom, mentioned, further, RefersBack, names_of, HaveOwnNames, lacking, evaluated_for, IsClosed}
 use Rattle.sx_stage_laws.proofs.Growing.{has_more, has_with}
 
 -- Lists of libraries.
@@ -94,33 +94,33 @@ all_cases ks (m ∷ ms) k h = elim (all_cases (with_library ks m) ms k h) [
 
 -- The sweep.
 
-refs_there : (r : LibRecord) (ks : List LibName) → has_library ks r.name ≡ true → with_refs r ks ≡ with_libraries ks r.refs
+refs_there : (r : CompiledLibrary) (ks : List LibName) → has_library ks r.name ≡ true → with_refs r ks ≡ with_libraries ks r.refs
 refs_there r ks h = ap (λ b. if b then with_libraries ks r.refs else ks) h
 
-refs_absent : (r : LibRecord) (ks : List LibName) → has_library ks r.name ≡ false → with_refs r ks ≡ ks
+refs_absent : (r : CompiledLibrary) (ks : List LibName) → has_library ks r.name ≡ false → with_refs r ks ≡ ks
 refs_absent r ks h = ap (λ b. if b then with_libraries ks r.refs else ks) h
 
 either : (b : Bool) → (b ≡ true) ⊎ (b ≡ false)
 either true = inl refl
 either false = inr refl
 
-keeps_refs : (r : LibRecord) (ks : List LibName) (k : LibName) → has_library ks k ≡ true → has_library (with_refs r ks) k ≡ true
+keeps_refs : (r : CompiledLibrary) (ks : List LibName) (k : LibName) → has_library ks k ≡ true → has_library (with_refs r ks) k ≡ true
 keeps_refs r ks k h = elim (either (has_library ks r.name)) [
   | inl p ↦ ap (λ x. has_library x k) (refs_there r ks p) ∙ has_with_all ks r.refs k h
   | inr p ↦ ap (λ x. has_library x k) (refs_absent r ks p) ∙ h
 ]
 
-keeps_wanted : (rs : List LibRecord) (ks : List LibName) (k : LibName) → has_library ks k ≡ true → has_library (wanted rs ks) k ≡ true
+keeps_wanted : (rs : List CompiledLibrary) (ks : List LibName) (k : LibName) → has_library ks k ≡ true → has_library (wanted rs ks) k ≡ true
 unfolding wanted
 keeps_wanted [] ks k h = h
 keeps_wanted (r ∷ rs) ks k h = keeps_refs r (wanted rs ks) k (keeps_wanted rs ks k h)
 
 -- a chain stays one where there is a record more
-longer : (r : LibRecord) (rs : List LibRecord) (ks : List LibName) (k : LibName) → Reached rs ks k → Reached (r ∷ rs) ks k
+longer : (r : CompiledLibrary) (rs : List CompiledLibrary) (ks : List LibName) (k : LibName) → ReachedFrom rs ks k → ReachedFrom (r ∷ rs) ks k
 longer r rs ks _ (mentioned k h) = mentioned k h
 longer r rs ks _ (further q k a p h) = further q k (inr a) (longer r rs ks q.name p) h
 
-pub wanted_reached : (rs : List LibRecord) (ks : List LibName) (k : LibName) → has_library (wanted rs ks) k ≡ true → Reached rs ks k
+pub wanted_reached : (rs : List CompiledLibrary) (ks : List LibName) (k : LibName) → has_library (wanted rs ks) k ≡ true → ReachedFrom rs ks k
 unfolding wanted
 wanted_reached [] ks k h = mentioned k h
 wanted_reached (r ∷ rs) ks k h = elim (either (has_library (wanted rs ks) r.name)) [
@@ -132,7 +132,7 @@ wanted_reached (r ∷ rs) ks k h = elim (either (has_library (wanted rs ks) r.na
 ]
 
 -- the references of a wanted record are wanted, if records refer back
-refs_wanted : (rs : List LibRecord) (ks : List LibName) (r : LibRecord) (k : LibName) → RefersBack rs → Among rs r → has_library (wanted rs ks) r.name ≡ true
+refs_wanted : (rs : List CompiledLibrary) (ks : List LibName) (r : CompiledLibrary) (k : LibName) → RefersBack rs → Among rs r → has_library (wanted rs ks) r.name ≡ true
     → has_library r.refs k ≡ true → has_library (wanted rs ks) k ≡ true
 unfolding wanted
 refs_wanted [] ks r k back a w h = absurd a
@@ -150,7 +150,7 @@ refs_wanted (q ∷ qs) ks r k back (inr a) w h = elim (either (has_library (want
   | inr p ↦ keeps_refs q (wanted qs ks) k (refs_wanted qs ks r k back.1 a (sym (ap (λ x. has_library x r.name) (refs_absent q (wanted qs ks) p)) ∙ w) h)
 ]
 
-pub reached_wanted : (rs : List LibRecord) (ks : List LibName) (k : LibName) → RefersBack rs → Reached rs ks k → has_library (wanted rs ks) k ≡ true
+pub reached_wanted : (rs : List CompiledLibrary) (ks : List LibName) (k : LibName) → RefersBack rs → ReachedFrom rs ks k → has_library (wanted rs ks) k ≡ true
 reached_wanted rs ks _ back (mentioned k h) = keeps_wanted rs ks k h
 reached_wanted rs ks _ back (further r k a p h) = refs_wanted rs ks r k back a (reached_wanted rs ks r.name back p) h
 
@@ -168,12 +168,12 @@ left_is s t h = sym (ap (λ r. stage_of s r) h)
     stage_of u (Err f) = u
 
 module _ (place : Span) (ks : List LibName) where
-  library_adds : (r : LibRecord) (s t : PlainStage) (o : Outcome) → has_library s.evaluated r.name ≡ false → library_ended place r s o ≡ Ok (tt, t) → t.evaluated ≡ s.evaluated ++ r.name ∷ []
+  library_adds : (r : CompiledLibrary) (s t : PlainStage) (o : Outcome) → has_library s.evaluated r.name ≡ false → library_ended place r s o ≡ Ok (tt, t) → t.evaluated ≡ s.evaluated ++ r.name ∷ []
   library_adds r s t (done v u n) h e = ap (λ (x : PlainStage). x.evaluated) (left_is (left_by_library r s u n) t e) ∙ ap (λ b. if b then s.evaluated else s.evaluated ++ r.name ∷ []) h
   library_adds r s t (faulted f u n) h e = absurd (cc)
   library_adds r s t unfit h e = absurd (cc)
 
-  wanted_adds : (r : LibRecord) (s t : PlainStage) → evaluate_wanted place ks r s ≡ Ok (tt, t)
+  wanted_adds : (r : CompiledLibrary) (s t : PlainStage) → evaluate_wanted place ks r s ≡ Ok (tt, t)
       → t.evaluated ≡ s.evaluated ++ one_if (has_library ks r.name) (has_library s.evaluated r.name) r.name
   unfolding evaluate_wanted evaluate_library
   wanted_adds r s t = go (has_library ks r.name) (has_library s.evaluated r.name) refl
@@ -207,7 +207,7 @@ module _ (place : Span) (ks : List LibName) where
       same_has dones m x apart =
           list_any-append (same_library x) dones (m ∷ []) ∙ ap (λ b. has_library dones x || (b || false)) (turned m x apart) ∙ or_false (has_library dones x)
 
-  all_adds : (rs : List LibRecord) (s t : PlainStage) → HaveOwnNames rs → evaluate_all place ks rs s ≡ Ok (tt, t) → t.evaluated ≡ s.evaluated ++ lacking s.evaluated ks (names_of rs)
+  all_adds : (rs : List CompiledLibrary) (s t : PlainStage) → HaveOwnNames rs → evaluate_all place ks rs s ≡ Ok (tt, t) → t.evaluated ≡ s.evaluated ++ lacking s.evaluated ks (names_of rs)
   unfolding evaluate_all
   all_adds [] s t own e = ap (λ (x : PlainStage). x.evaluated) (left_is s t e) ∙ sym (append_nil s.evaluated)
   all_adds (r ∷ rs) s t own e = go (evaluate_wanted place ks r s) refl (λ u. all_adds rs u t own.1) e
@@ -234,7 +234,7 @@ module _ (place : Span) (ks : List LibName) where
           ∙ joined w d s.evaluated (lacking s.evaluated ks (names_of rs))
       go (Err f) h ih e = absurd (cc)
 
-pub evaluated_in_order : (place : Span) (rs : List LibRecord) (c : PlainCore) (s t : PlainStage) → HaveOwnNames rs → need place rs c s ≡ Ok (tt, t)
+pub evaluated_in_order : (place : Span) (rs : List CompiledLibrary) (c : PlainCore) (s t : PlainStage) → HaveOwnNames rs → need place rs c s ≡ Ok (tt, t)
     → t.evaluated ≡ evaluated_for s.evaluated rs (libraries_of c)
 unfolding need
 evaluated_in_order place rs c s t own = go (has_all s.evaluated (libraries_of c))
@@ -292,17 +292,17 @@ all_has ds (m ∷ ms) k a h = elim (either (has_library ds m)) [
   | inr p ↦ let never : false ≡ true = sym (ap (λ b. if b then has_all ds ms else false) p) ∙ a in absurd (cc)
 ]
 
-name_there : (rs : List LibRecord) (r : LibRecord) → Among rs r → has_library (names_of rs) r.name ≡ true
+name_there : (rs : List CompiledLibrary) (r : CompiledLibrary) → Among rs r → has_library (names_of rs) r.name ≡ true
 name_there [] r a = absurd a
-name_there (q ∷ qs) r (inl e) = ap (λ (x : LibRecord). same_library r.name x.name || has_library (names_of qs) r.name) (sym e) ∙ ap (λ b. b || has_library (names_of qs) r.name) (same_itself r.name)
+name_there (q ∷ qs) r (inl e) = ap (λ (x : CompiledLibrary). same_library r.name x.name || has_library (names_of qs) r.name) (sym e) ∙ ap (λ b. b || has_library (names_of qs) r.name) (same_itself r.name)
 name_there (q ∷ qs) r (inr a) = or_true (same_library r.name q.name) (has_library (names_of qs) r.name) (name_there qs r a)
 
-reached_all : (ds : List LibName) (rs : List LibRecord) (ks : List LibName) (k : LibName) → IsClosed rs ds → has_all ds ks ≡ true → Reached rs ks k → has_library (names_of rs) k ≡ true
+reached_all : (ds : List LibName) (rs : List CompiledLibrary) (ks : List LibName) (k : LibName) → IsClosed rs ds → has_all ds ks ≡ true → ReachedFrom rs ks k → has_library (names_of rs) k ≡ true
     → has_library ds k ≡ true
 reached_all ds rs ks _ closed a (mentioned k h) n = all_has ds ks k a h
 reached_all ds rs ks _ closed a (further r k there p h) n = closed r there (reached_all ds rs ks r.name closed a p (name_there rs r there)) k h n
 
-module _ (ds : List LibName) (rs : List LibRecord) (ks : List LibName) (back : RefersBack rs) (closed : IsClosed rs ds) where
+module _ (ds : List LibName) (rs : List CompiledLibrary) (ks : List LibName) (back : RefersBack rs) (closed : IsClosed rs ds) where
   abbrev more : List LibName
   more = lacking ds (wanted rs ks) (names_of rs)
 
@@ -312,7 +312,7 @@ module _ (ds : List LibName) (rs : List LibRecord) (ks : List LibName) (back : R
     | inr p ↦ has_behind ds more k (lacking_there ds (wanted rs ks) (names_of rs) k n w p)
   ]
 
-  reached_then : (k : LibName) → Reached rs ks k → has_library (names_of rs) k ≡ true → has_library (evaluated_for ds rs ks) k ≡ true
+  reached_then : (k : LibName) → ReachedFrom rs ks k → has_library (names_of rs) k ≡ true → has_library (evaluated_for ds rs ks) k ≡ true
   reached_then k p n = elim (either (has_all ds ks)) [
     | inl a ↦ ap (λ b. has_library (if b then ds else ds ++ more) k) a ∙ reached_all ds rs ks k closed a p n
     | inr a ↦ ap (λ b. has_library (if b then ds else ds ++ more) k) a ∙ wanted_then k (reached_wanted rs ks k back p) n
@@ -331,12 +331,12 @@ module _ (ds : List LibName) (rs : List LibRecord) (ks : List LibName) (back : R
       go true = closed
       go false = closed_more
 
-pub stays_closed : (place : Span) (rs : List LibRecord) (c : PlainCore) (s t : PlainStage) → HaveOwnNames rs → RefersBack rs → IsClosed rs s.evaluated
+pub stays_closed : (place : Span) (rs : List CompiledLibrary) (c : PlainCore) (s t : PlainStage) → HaveOwnNames rs → RefersBack rs → IsClosed rs s.evaluated
     → need place rs c s ≡ Ok (tt, t) → IsClosed rs t.evaluated
 stays_closed place rs c s t own back closed h =
     subst (IsClosed rs) (sym (evaluated_in_order place rs c s t own h)) (closed_then s.evaluated rs (libraries_of c) back closed)
 
-pub reached_evaluated : (place : Span) (rs : List LibRecord) (c : PlainCore) (s t : PlainStage) (k : LibName) → HaveOwnNames rs → RefersBack rs → IsClosed rs s.evaluated
-    → need place rs c s ≡ Ok (tt, t) → Reached rs (libraries_of c) k → has_library (names_of rs) k ≡ true → has_library t.evaluated k ≡ true
+pub reached_evaluated : (place : Span) (rs : List CompiledLibrary) (c : PlainCore) (s t : PlainStage) (k : LibName) → HaveOwnNames rs → RefersBack rs → IsClosed rs s.evaluated
+    → need place rs c s ≡ Ok (tt, t) → ReachedFrom rs (libraries_of c) k → has_library (names_of rs) k ≡ true → has_library t.evaluated k ≡ true
 reached_evaluated place rs c s t k own back closed h p n =
     ap (λ x. has_library x k) (evaluated_in_order place rs c s t own h) ∙ reached_then s.evaluated rs (libraries_of c) back closed k p n

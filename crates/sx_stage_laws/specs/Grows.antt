@@ -7,19 +7,19 @@ use Rattle.sx_base.specs.declared.name.Label.{Label}
 use Rattle.sx_base.specs.declared.span.Span.{Span}
 use Rattle.sx_tree.specs.Tree.{Tree}
 use Rattle.sx_core.specs.Core.{PlainCore}
-use Rattle.sx_core.specs.declared.record.LibRecord.{LibRecord}
+use Rattle.sx_core.specs.declared.record.CompiledLibrary.{CompiledLibrary}
 use Rattle.sx_value.specs.FromDatum.{Keeps}
 use Rattle.sx_value.specs.declared.value.Value.{Value}
 use Rattle.sx_stage.specs.Libraries.{has_library}
 use Rattle.sx_stage.specs.Stage.{PlainStage, keyword_at}
-use Rattle.sx_stage.specs.Transformers.{begin_keyword, finish_keyword, keyword_value, is_variable_transformer}
+use Rattle.sx_stage.specs.Transformers.{begin_keyword, evaluate_transformer, keyword_value, is_variable_transformer}
 use Rattle.sx_stage.specs.Uses.{used}
 use Rattle.sx_stage.specs.declared.keyword.Keyword.{Keyword}
 use Rattle.sx_stage.specs.declared.keyword.Keyword.TheVariants as keyword
 
 -- A stage that comes after another: the cells that were there are there still, each in its place; the frames are the same; no name that
 -- was taken is free again; what was evaluated was evaluated, and what was kept is kept.
-pub record Grows (s t : PlainStage) : Type 0 where
+pub record StageGrowth (s t : PlainStage) : Type 0 where
   pub cells : Keeps s.cells t.cells
   pub frames : t.frames ≡ s.frames
   pub library : t.names.library ≡ s.names.library
@@ -34,7 +34,7 @@ By R s (Ok p) = R s p.1
 By R s (Err f) = Unit {0}
 
 abbrev pub GrowsBy : {A : Type 0} → PlainStage → Result (A × PlainStage) Fault → Type 0
-GrowsBy s r = By Grows s r
+GrowsBy s r = By StageGrowth s r
 
 -- a keyword whose transformer isn't kept
 abbrev pub IsNotKept : Option Keyword → Type 0
@@ -47,14 +47,14 @@ abbrev pub BeginGrows : Type 0
 BeginGrows = (l : Label) (place : Span) (s : PlainStage) → IsNotKept (keyword_at s.keywords l) → GrowsBy s (begin_keyword l place s)
 
 abbrev pub FinishGrows : Type 0
-FinishGrows = (place : Span) (rs : List LibRecord) (l : Label) (c : PlainCore) (s : PlainStage) → IsNotKept (keyword_at s.keywords l) → GrowsBy s (finish_keyword place rs l c s)
+FinishGrows = (place : Span) (rs : List CompiledLibrary) (l : Label) (c : PlainCore) (s : PlainStage) → IsNotKept (keyword_at s.keywords l) → GrowsBy s (evaluate_transformer place rs l c s)
 
 abbrev pub ValueGrows : Type 0
-ValueGrows = (place : Span) (rs : List LibRecord) (l : Label) (e : Option PlainCore) (s : PlainStage) → GrowsBy s (keyword_value place rs l e s)
+ValueGrows = (place : Span) (rs : List CompiledLibrary) (l : Label) (e : Option PlainCore) (s : PlainStage) → GrowsBy s (keyword_value place rs l e s)
 
 abbrev pub VariableGrows : Type 0
-VariableGrows = (place : Span) (rs : List LibRecord) (l : Label) (e : Option PlainCore) (s : PlainStage) → GrowsBy s (is_variable_transformer place rs l e s)
+VariableGrows = (place : Span) (rs : List CompiledLibrary) (l : Label) (e : Option PlainCore) (s : PlainStage) → GrowsBy s (is_variable_transformer place rs l e s)
 
 abbrev pub UseGrows : Type 0
-UseGrows = (place : Span) (rs : List LibRecord) (form : Tree) (l : Label) (e : Option PlainCore) (frame : Option FrameNo) (s : PlainStage)
+UseGrows = (place : Span) (rs : List CompiledLibrary) (form : Tree) (l : Label) (e : Option PlainCore) (frame : Option FrameNo) (s : PlainStage)
     → GrowsBy s (used place rs form l e frame s)

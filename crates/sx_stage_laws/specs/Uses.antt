@@ -5,7 +5,7 @@ use Rattle.sx_base.specs.declared.name.Label.{Label}
 use Rattle.sx_base.specs.declared.span.Span.{Span}
 use Rattle.sx_tree.specs.Tree.{Tree}
 use Rattle.sx_core.specs.Core.{PlainCore}
-use Rattle.sx_core.specs.declared.record.LibRecord.{LibRecord}
+use Rattle.sx_core.specs.declared.record.CompiledLibrary.{CompiledLibrary}
 use Rattle.sx_value.specs.declared.value.Value.{Value}
 use Rattle.sx_stage.specs.Stage.{PlainStage, keyword_at}
 use Rattle.sx_stage.specs.Transformers.{keyword_value}
@@ -17,7 +17,7 @@ abbrev pub OnlyCounts : PlainStage → PlainStage → Type 0
 OnlyCounts s t = t ≡ record s { names = t.names; spent = t.spent }
 
 -- the stage on which the transformer is called, and after that nothing but the counts changes
-pub record CalledOn (place : Span) (rs : List LibRecord) (l : Label) (e : Option PlainCore) (s new : PlainStage) : Type 0 where
+pub record CalledOn (place : Span) (rs : List CompiledLibrary) (l : Label) (e : Option PlainCore) (s new : PlainStage) : Type 0 where
   pub value : Value
   pub before : PlainStage
   pub asked : keyword_value place rs l e s ≡ Ok (value, before)
@@ -25,10 +25,10 @@ pub record CalledOn (place : Span) (rs : List LibRecord) (l : Label) (e : Option
 
 -- The cells of a call are dropped: after a use they are those with which the transformer was called.
 abbrev pub UsesDropCells : Type 0
-UsesDropCells = (place : Span) (rs : List LibRecord) (form : Tree) (l : Label) (e : Option PlainCore) (frame : Option FrameNo) (s new : PlainStage) (t : Tree)
+UsesDropCells = (place : Span) (rs : List CompiledLibrary) (form : Tree) (l : Label) (e : Option PlainCore) (frame : Option FrameNo) (s new : PlainStage) (t : Tree)
     → used place rs form l e frame s ≡ Ok (t, new) → CalledOn place rs l e s new
 
 -- Where the transformer was kept, a use changes nothing but the counts.
 abbrev pub KeptUsesOnlyCount : Type 0
-KeptUsesOnlyCount = (place : Span) (rs : List LibRecord) (form : Tree) (l : Label) (e x : Option PlainCore) (v : Value) (frame : Option FrameNo) (s new : PlainStage) (t : Tree)
+KeptUsesOnlyCount = (place : Span) (rs : List CompiledLibrary) (form : Tree) (l : Label) (e x : Option PlainCore) (v : Value) (frame : Option FrameNo) (s new : PlainStage) (t : Tree)
     → keyword_at s.keywords l ≡ Some (keyword.Kept x v) → used place rs form l e frame s ≡ Ok (t, new) → OnlyCounts s new

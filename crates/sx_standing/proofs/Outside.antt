@@ -6,7 +6,7 @@ use Rattle.sx_tree.specs.Tree.{Tree, atom, leaf, pair, vector, chain, nil}
 use Rattle.sx_tree.specs.Measures.{size}
 use Rattle.sx_tree.proofs.MeasureLaws.{size-some}
 use Rattle.sx_syntax.specs.Opens.{Opens}
-use Rattle.sx_syntax.specs.declared.syn.Opened.TheVariants as opened
+use Rattle.sx_syntax.specs.declared.syn.OpenedTree.TheVariants as opened
 use Rattle.sx_scope.specs.Stands.{stands}
 use Rattle.sx_shapes.specs.Lists.{elements, tail_of}
 use Rattle.sx_standing.specs.State.{State}

@@ -7,25 +7,25 @@ use Rattle.sx_base.specs.declared.name.Label.{Label}
 use Rattle.sx_tree.specs.declared.frame_row.FrameRow.{FrameRow}
 use Rattle.sx_frames.specs.Scope.{adopted}
 use Rattle.sx_core.specs.declared.binding.Binding.{Binding}
-use Rattle.sx_core.specs.declared.record.LibRecord.{LibRecord}
+use Rattle.sx_core.specs.declared.record.CompiledLibrary.{CompiledLibrary}
 use Rattle.sx_eval.specs.Codes.{Codes}
 use Rattle.sx_records.specs.Frame.{record_frame}
 use Rattle.sx_standing.specs.State.{State}
 
-abbrev pub or_skip : Option LibRecord → List LibRecord → List LibRecord
+abbrev pub or_skip : Option CompiledLibrary → List CompiledLibrary → List CompiledLibrary
 or_skip None rs = rs
 or_skip (Some r) rs = r ∷ rs
 
 -- the records at these places
-abbrev pub records_at : List LibRecord → List ℕ → List LibRecord
+abbrev pub records_at : List CompiledLibrary → List ℕ → List CompiledLibrary
 records_at rs [] = []
 records_at rs (i ∷ is) = or_skip (slice_get rs i) (records_at rs is)
 
-abbrev pub bindings_of : List LibRecord → List (Label × Binding)
+abbrev pub bindings_of : List CompiledLibrary → List (Label × Binding)
 bindings_of [] = []
 bindings_of (r ∷ rs) = r.bindings ++ bindings_of rs
 
-abbrev pub rows_of : List LibRecord → List FrameRow
+abbrev pub rows_of : List CompiledLibrary → List FrameRow
 rows_of [] = []
 rows_of (r ∷ rs) = r.frames ++ rows_of rs
 
@@ -45,7 +45,7 @@ import_row frame n = record { frame = frame; symbol = n.0; marks = []; label = n
 
 -- what the records before it bind, the frame of what record forms introduce, and the names that it imports; at most 1,000,000 keywords are used. The codes are those of the
 -- procedures that are texts.
-unfoldable pub started : LibName → List LibRecord → List (List ℕ × Label) → Codes → State
+unfoldable pub started : LibName → List CompiledLibrary → List (List ℕ × Label) → Codes → State
 started library records imports codes = record {
   library = library;
   names = second_name library;

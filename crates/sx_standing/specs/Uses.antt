@@ -11,7 +11,7 @@ use Rattle.sx_core.specs.Bindings.{bound_to}
 use Rattle.sx_core.specs.Core.{PlainCore}
 use Rattle.sx_core.specs.declared.binding.Binding.{Binding}
 use Rattle.sx_core.specs.declared.binding.Binding.TheVariants as binding
-use Rattle.sx_core.specs.declared.record.LibRecord.{LibRecord}
+use Rattle.sx_core.specs.declared.record.CompiledLibrary.{CompiledLibrary}
 use Rattle.sx_shapes.specs.At.{place_of}
 use Rattle.sx_shapes.specs.Lists.{is_leaf}
 use Rattle.sx_shapes.specs.declared.shape.BindingSpec.{BindingSpec}
@@ -27,11 +27,11 @@ macro_expression (Some (binding.Macro level e)) = e
 macro_expression _ = None
 
 -- what comes of a use, at a place, with the frame of a body where it stands in one
-unfoldable pub use_keyword : List LibRecord → Span → Tree → Label → Option FrameNo → Does Tree
+unfoldable pub use_keyword : List CompiledLibrary → Span → Tree → Label → Option FrameNo → Does Tree
 use_keyword rs place t l frame s = on_stage (used place rs t l (macro_expression (bound_to s.bindings l)) frame) s
 
 -- whether assignments to a keyword are uses of it
-unfoldable pub asks_variable : List LibRecord → Span → Label → Does Bool
+unfoldable pub asks_variable : List CompiledLibrary → Span → Label → Does Bool
 asks_variable rs place l s = on_stage (stage.is_variable_transformer place rs l (macro_expression (bound_to s.bindings l))) s
 
 -- Definitions.
@@ -54,5 +54,5 @@ abbrev pub bind_keywords : FrameNo → Span → ℕ → List BindingSpec → Doe
 bind_keywords frame place level = each (bind_keyword frame place level) []
 
 -- the expression of a keyword, which stands at a place, is evaluated; what it gives is kept
-unfoldable pub finish_keyword : List LibRecord → Span → Label → PlainCore → Does (Unit {0})
-finish_keyword rs place l c = on_stage (stage.finish_keyword place rs l c)
+unfoldable pub evaluate_transformer : List CompiledLibrary → Span → Label → PlainCore → Does (Unit {0})
+evaluate_transformer rs place l c = on_stage (stage.evaluate_transformer place rs l c)

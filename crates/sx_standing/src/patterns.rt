@@ -18,10 +18,10 @@ use sx_base::memory::Memory;
 use sx_base::name::Label;
 use sx_base::span::Span;
 use sx_core::binding::Binding;
-use sx_core::template::{Item, Template, TemplateNode};
+use sx_core::template::{TemplateItem, Template, TemplateNode};
 use sx_pattern::compile::{Compiled, PatternVariable};
 use sx_shapes::lists::parts_of;
-use sx_syntax::syn::{Opened, Syn};
+use sx_syntax::syn::{OpenedTree, Syn};
 use sx_template::compile::{TemplateContext, compile_template};
 
 /// Whether all pattern variables of a template are in scope.
@@ -44,7 +44,7 @@ fn has_variables(scope: &InScope, template: &Template) -> bool
 }
 
 #[cycle(has)]
-fn has_item_variables(scope: &InScope, list: &[Item]) -> bool
+fn has_item_variables(scope: &InScope, list: &[TemplateItem]) -> bool
     ensures { result ≡ has_item_variables scope.now (items list.now) }
 {
     for item in list {
@@ -127,10 +127,10 @@ impl<L: Ledger> Expansion<L> {
         ensures unchanged { self.new ≡ self.old }
     {
         match form.open(self.alloc)? {
-            Opened::Atom(_) => Ok(None),
-            Opened::Symbol(_) => self.leaf_outside(form),
-            Opened::Pair(_, _) => self.list_outside(form),
-            Opened::Vector(forms) => self.all_outside(&forms),
+            OpenedTree::Atom(_) => Ok(None),
+            OpenedTree::Symbol(_) => self.leaf_outside(form),
+            OpenedTree::Pair(_, _) => self.list_outside(form),
+            OpenedTree::Vector(forms) => self.all_outside(&forms),
         }
     }
 

@@ -11,7 +11,7 @@ use std::marker::Model;
 use std::rc::Rc;
 use sx_base::items::Items;
 use sx_base::memory::Memory;
-use sx_core::record::LibRecord;
+use sx_core::record::CompiledLibrary;
 use sx_frames::given::GivenFrames;
 use sx_frames::shared::SharedFrames;
 use sx_known::given::GivenBindings;
@@ -29,7 +29,7 @@ pub struct Tables {
 /// The records of a run, in the order of coming.
 #[derive(Drop)]
 pub struct ReadyRecords {
-    records: Vec<LibRecord>,
+    records: Vec<CompiledLibrary>,
     /// None are left once memory was refused: then all else is refused as well.
     tables: Option<Tables>,
 }
@@ -37,11 +37,11 @@ pub struct ReadyRecords {
 impl Model for ReadyRecords {
     ghost use Rattle.std.specs.Prelude.{List, IfSome};
     ghost use Rattle.std.specs.Coded.{coded_list};
-    ghost use Rattle.sx_core.specs.declared.record.LibRecord.{LibRecord};
-    ghost use Rattle.sx_core.specs.contracts.record.LibRecord as of_record;
+    ghost use Rattle.sx_core.specs.declared.record.CompiledLibrary.{CompiledLibrary};
+    ghost use Rattle.sx_core.specs.contracts.record.CompiledLibrary as of_record;
     ghost use Rattle.sx_standing.specs.Ready.{AreReady};
 
-    ghost Value = { List LibRecord };
+    ghost Value = { List CompiledLibrary };
 
     ghost coded = { coded_list of_record.the_row.coded };
 
@@ -51,7 +51,7 @@ impl Model for ReadyRecords {
 }
 
 /// The frames of a record.
-fn frames_of(alloc: Global, one: &LibRecord) -> Result<GivenFrames, Memory>
+fn frames_of(alloc: Global, one: &CompiledLibrary) -> Result<GivenFrames, Memory>
     ensures { IfOk result (λ g. g ≡ frames_part one.now) }
 {
     let library = share_library(alloc, &one.name)?;
@@ -60,7 +60,7 @@ fn frames_of(alloc: Global, one: &LibRecord) -> Result<GivenFrames, Memory>
 }
 
 /// What a record binds.
-fn bindings_in(alloc: Global, one: &LibRecord) -> Result<GivenBindings, Memory>
+fn bindings_in(alloc: Global, one: &CompiledLibrary) -> Result<GivenBindings, Memory>
     ensures { IfOk result (λ g. g ≡ bindings_part one.now) }
 {
     let library = share_library(alloc, &one.name)?;
@@ -69,7 +69,7 @@ fn bindings_in(alloc: Global, one: &LibRecord) -> Result<GivenBindings, Memory>
 }
 
 /// The frames of all the records, in a table of their own.
-fn frames_anew(alloc: Global, records: &[LibRecord]) -> Result<SharedFrames, Memory>
+fn frames_anew(alloc: Global, records: &[CompiledLibrary]) -> Result<SharedFrames, Memory>
     ensures { IfOk result (λ s. s ≡ map frames_part records.now) }
 {
     let mut table = SharedFrames::new(alloc);
@@ -81,7 +81,7 @@ fn frames_anew(alloc: Global, records: &[LibRecord]) -> Result<SharedFrames, Mem
 }
 
 /// What all the records bind, in a table of its own.
-fn bindings_anew(alloc: Global, records: &[LibRecord]) -> Result<SharedBindings, Memory>
+fn bindings_anew(alloc: Global, records: &[CompiledLibrary]) -> Result<SharedBindings, Memory>
     ensures { IfOk result (λ s. s ≡ map bindings_part records.now) }
 {
     let mut table = SharedBindings::new(alloc);
@@ -96,7 +96,7 @@ fn bindings_anew(alloc: Global, records: &[LibRecord]) -> Result<SharedBindings,
 fn own_frames(
     alloc: Global,
     shared: Rc<SharedFrames>,
-    records: &[LibRecord],
+    records: &[CompiledLibrary],
 ) -> Result<SharedFrames, Memory>
     requires { shared.value ≡ map frames_part records.now }
     ensures { IfOk result (λ s. s ≡ shared.value) }
@@ -111,7 +111,7 @@ fn own_frames(
 fn own_bindings(
     alloc: Global,
     shared: Rc<SharedBindings>,
-    records: &[LibRecord],
+    records: &[CompiledLibrary],
 ) -> Result<SharedBindings, Memory>
     requires { shared.value ≡ map bindings_part records.now }
     ensures { IfOk result (λ s. s ≡ shared.value) }
@@ -126,8 +126,8 @@ fn own_bindings(
 fn with_record(
     alloc: Global,
     tables: Tables,
-    records: &[LibRecord],
-    one: &LibRecord,
+    records: &[CompiledLibrary],
+    one: &CompiledLibrary,
 ) -> Result<Tables, Memory>
     requires { AreReady records.now tables.frames.value tables.bindings.value }
     ensures frames { IfOk result (λ t. t.frames.value ≡ tables.frames.value ++ frames_part one.now ∷ []) }
@@ -162,7 +162,7 @@ impl ReadyRecords {
     /// memory are a second record of one library, one with rows of frames that aren't its library's or with
     /// labels that aren't, one that binds a label twice, and one that has two rows with one frame, symbol and
     /// marks. After a refusal the records are as before, and all else is refused.
-    pub fn push(&mut self, alloc: Global, last: LibRecord) -> Result<(), Memory>
+    pub fn push(&mut self, alloc: Global, last: CompiledLibrary) -> Result<(), Memory>
         ensures ok { OnOk result (self.new ≡ self.old ++ last ∷ []) }
         ensures err { OnErr result (self.new ≡ self.old) }
     {
@@ -175,13 +175,13 @@ impl ReadyRecords {
         Ok(())
     }
 
-    pub fn as_slice(&self) -> &[LibRecord]
+    pub fn as_slice(&self) -> &[CompiledLibrary]
         ensures { result.now ≡ self.now }
     {
         &self.records
     }
 
-    pub fn into_records(self) -> Vec<LibRecord>
+    pub fn into_records(self) -> Vec<CompiledLibrary>
         ensures { result.items ≡ self }
     {
         self.records

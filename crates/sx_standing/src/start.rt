@@ -17,7 +17,7 @@ use sx_base::items::Items;
 use sx_base::library::LibName;
 use sx_base::map::NameMap;
 use sx_base::memory::Memory;
-use sx_base::name::{CodeNo, FrameNo, Label, Name, Names};
+use sx_base::name::{CodeNo, FrameNo, Label, Name, FreeNames};
 use sx_base::symbol::Symbol;
 use sx_core::code::Code;
 use sx_core::labels::Labels;
@@ -129,11 +129,11 @@ fn frame_of(library: &Rc<LibName>) -> Result<FrameNo, Memory>
 }
 
 /// The library's names but the first, which is that of its frame.
-fn names_of(library: &Rc<LibName>) -> Result<Names, Memory>
+fn names_of(library: &Rc<LibName>) -> Result<FreeNames, Memory>
     ensures { IfOk result (λ n. n ≡ second_name library.now.value) }
 {
     let library = library.clone()?;
-    let mut names = Names::new(library);
+    let mut names = FreeNames::new(library);
     let _frame = names.next()?;
     Ok(names)
 }
@@ -153,7 +153,7 @@ pub struct Environment<'a> {
 #[derive(Drop)]
 struct Beginning {
     library: Rc<LibName>,
-    names: Names,
+    names: FreeNames,
     frames: Frames,
     bindings: KnownBindings,
 }

@@ -6,7 +6,7 @@ ghost use Rattle.sx_core.specs.Bindings.{bound_to};
 ghost use Rattle.sx_stage.specs.Libraries.{earlier_in};
 ghost use Rattle.sx_stage.specs.Transformers as stage;
 ghost use Rattle.sx_standing.specs.State.{on_stage};
-ghost use Rattle.sx_standing.specs.Uses.{macro_expression, use_keyword, asks_variable, put_keyword, bind_keyword_as, bind_keyword, bind_keywords, finish_keyword};
+ghost use Rattle.sx_standing.specs.Uses.{macro_expression, use_keyword, asks_variable, put_keyword, bind_keyword_as, bind_keyword, bind_keywords, evaluate_transformer};
 
 use crate::binders::{BinderContext, BoundSpec};
 use crate::expansion::Expansion;
@@ -203,15 +203,15 @@ impl<L: Ledger> Expansion<L> {
     }
 
     /// Evaluates the expression of a keyword, and keeps what it gives.
-    #[tactic(auto, unfolding(crate::specs::Uses::finish_keyword), using(crate::proofs::Staged::staged_gives))]
-    pub fn finish_keyword<N: Ledger>(
+    #[tactic(auto, unfolding(crate::specs::Uses::evaluate_transformer), using(crate::proofs::Staged::staged_gives))]
+    pub fn evaluate_transformer<N: Ledger>(
         &mut self,
         keyword: &KeywordAt,
         code: Core,
         means: &Means,
         counts: &mut Counts<N, L>,
     ) -> Result<(), Stop>
-        ensures { GivesAfter (λ _. tt) result self.new (finish_keyword (earlier_in means.now.earlier) keyword.now.place.now keyword.now.label.now code self.old) }
+        ensures { GivesAfter (λ _. tt) result self.new (evaluate_transformer (earlier_in means.now.earlier) keyword.now.place.now keyword.now.label.now code self.old) }
     {
         let earlier = Earlier {
             records: means.earlier.records,
@@ -223,6 +223,6 @@ impl<L: Ledger> Expansion<L> {
             place: keyword.place,
         };
         self.stage
-            .finish_keyword(&context, keyword.label, code, counts.book)
+            .evaluate_transformer(&context, keyword.label, code, counts.book)
     }
 }

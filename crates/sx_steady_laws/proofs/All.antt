@@ -7,7 +7,7 @@ use Rattle.sx_base.specs.declared.name.CodeNo.{CodeNo}
 use Rattle.sx_base.specs.declared.name.Label.{Label}
 use Rattle.sx_base.specs.declared.span.Span.{Span}
 use Rattle.sx_tree.specs.Tree.{Tree}
-use Rattle.sx_core.specs.declared.record.LibRecord.{LibRecord}
+use Rattle.sx_core.specs.declared.record.CompiledLibrary.{CompiledLibrary}
 use Rattle.sx_core_laws.specs.Records.{defined}
 use Rattle.sx_shapes.specs.At.{place_of}
 use Rattle.sx_standing.specs.State.{State}
@@ -18,9 +18,9 @@ use Rattle.sx_heads.specs.declared.plan.Plan.{Plan}
 use Rattle.sx_heads.specs.declared.plan.Plan.TheVariants as plans
 use Rattle.sx_expand.specs.Expression.{perform, perform_settled, form_at, inside}
 use Rattle.sx_expand.specs.Inside.{Inside}
-use Rattle.sx_expand.specs.Settle.{next_form, too_many, set_step, step_of, step, settled_by, settle_to, settle}
-use Rattle.sx_expand.specs.declared.settle.Step.{Step}
-use Rattle.sx_expand.specs.declared.settle.Step.TheVariants as steps
+use Rattle.sx_expand.specs.ExpandUses.{next_form, too_many, set_step, step_of, step, planned_by, expand_uses_to, expand_uses}
+use Rattle.sx_expand.specs.declared.expand_uses.PlanOrUse.{PlanOrUse}
+use Rattle.sx_expand.specs.declared.expand_uses.PlanOrUse.TheVariants as steps
 use Rattle.sx_expand.proofs.Linked.{linked-keeps}
 use Rattle.sx_expand_laws.proofs.Plans.{plan-later}
 use Rattle.sx_expand_laws.proofs.SparesAll.{inside-spares}
@@ -34,7 +34,7 @@ use Rattle.sx_steady_laws.proofs.Quasi.{quasi-runs}
 use Rattle.sx_steady_laws.proofs.Sure.{Sure, sure-if}
 use Rattle.sx_steady_laws.proofs.Safe.{Safe, B, Goes, goes-self, goes-links, goes-light, go}
 
-module _ (own : LibName) (texts : List CodeNo) (rs : List LibRecord) (x : Around own texts rs) where
+module _ (own : LibName) (texts : List CodeNo) (rs : List CompiledLibrary) (x : Around own texts rs) where
   abbrev S : State → Type 0
   S = Safe own texts rs
 
@@ -74,22 +74,22 @@ module _ (own : LibName) (texts : List CodeNo) (rs : List LibRecord) (x : Around
     unfolding step
     step-goes place t s b h = go own texts rs s (plan_of place level t s) (step_of rs place t) (plan-goes place t s b h) (λ p u g. steps-go place t p u g.onward.0 g.safe)
 
-    settle-goes : (left : ℕ) (place : Span) (t : Tree) (s : State) → Bs s → S s → Sure (R s) (settle_to rs left place level t s)
-    unfolding settle_to
-    settle-goes zero place t s b h = go own texts rs s (step rs place level t s) (settled_by (λ l. too_many t place) place t) (step-goes place t s b h) by
+    expand_uses-goes : (left : ℕ) (place : Span) (t : Tree) (s : State) → Bs s → S s → Sure (R s) (expand_uses_to rs left place level t s)
+    unfolding expand_uses_to
+    expand_uses-goes zero place t s b h = go own texts rs s (step rs place level t s) (planned_by (λ l. too_many t place) place t) (step-goes place t s b h) by
       where
-        by : (z : Step) (u : State) → Goes own texts rs s u → Sure (R u) (settled_by (λ l. too_many t place) place t z u)
+        by : (z : PlanOrUse) (u : State) → Goes own texts rs s u → Sure (R u) (planned_by (λ l. too_many t place) place t z u)
         by (steps.Plan p) u g = linked-keeps (Goes own texts rs u) t u (λ ls. goes-links own texts rs u ls g.onward.0 g.safe) p
         by (steps.Use l) u g = tt
-    settle-goes (suc left) place t s b h =
-        go own texts rs s (step rs place level t s) (settled_by (λ l s'. after (next_form rs left place t l None s') (settle_to rs left (place_of t place) level)) place t) (step-goes place t s b h)
-        (λ z u g. by z u g (λ y v c j. settle-goes left (place_of t place) y v c j))
+    expand_uses-goes (suc left) place t s b h =
+        go own texts rs s (step rs place level t s) (planned_by (λ l s'. after (next_form rs left place t l None s') (expand_uses_to rs left (place_of t place) level)) place t) (step-goes place t s b h)
+        (λ z u g. by z u g (λ y v c j. expand_uses-goes left (place_of t place) y v c j))
       where
-        by : (z : Step) (u : State) → Goes own texts rs s u → ((y : Tree) (v : State) → Bs v → S v → Sure (R v) (settle_to rs left (place_of t place) level y v))
-            → Sure (R u) (settled_by (λ l s'. after (next_form rs left place t l None s') (settle_to rs left (place_of t place) level)) place t z u)
+        by : (z : PlanOrUse) (u : State) → Goes own texts rs s u → ((y : Tree) (v : State) → Bs v → S v → Sure (R v) (expand_uses_to rs left (place_of t place) level y v))
+            → Sure (R u) (planned_by (λ l s'. after (next_form rs left place t l None s') (expand_uses_to rs left (place_of t place) level)) place t z u)
         by (steps.Plan p) u g next = linked-keeps (Goes own texts rs u) t u (λ ls. goes-links own texts rs u ls g.onward.0 g.safe) p
         by (steps.Use l) u g next =
-            go own texts rs u (next_form rs left place t l None u) (settle_to rs left (place_of t place) level) (next-go own texts rs x left place t l None u g.onward.0 g.safe) (λ y v j. next y v j.onward.0 j.safe)
+            go own texts rs u (next_form rs left place t l None u) (expand_uses_to rs left (place_of t place) level) (next-go own texts rs x left place t l None u g.onward.0 g.safe) (λ y v j. next y v j.onward.0 j.safe)
 
   -- A form.
 
@@ -113,9 +113,9 @@ module _ (own : LibName) (texts : List CodeNo) (rs : List LibRecord) (x : Around
     pub form-goes : (place : Span) (level depth : ℕ) (t : Tree) (s : State) → Bs s → S s → Sure (R s) (form_at inner place level depth t s)
     unfolding form_at
     form-goes place level depth t s b h =
-        sure-if (R s) (nat_lt most_round depth) _ (after (settle inner.earlier place level t s) (perform_settled inner level depth)) (λ e. tt)
-        (λ e. go own texts rs s (settle inner.earlier place level t s) (perform_settled inner level depth)
-        (subst (λ (qs : List LibRecord). Sure (R s) (settle qs place level t s)) (sym holds.earlier) (settle-goes level s.uses_left place t s b h))
+        sure-if (R s) (nat_lt most_round depth) _ (after (expand_uses inner.earlier place level t s) (perform_settled inner level depth)) (λ e. tt)
+        (λ e. go own texts rs s (expand_uses inner.earlier place level t s) (perform_settled inner level depth)
+        (subst (λ (qs : List CompiledLibrary). Sure (R s) (expand_uses qs place level t s)) (sym holds.earlier) (expand_uses-goes level s.uses_left place t s b h))
         (λ d u g. performs d.place level depth d.form d.plan u g.onward.0 g.safe))
 
   pub inside-holds : (room : ℕ) → Holds own texts rs (inside rs room)

@@ -17,7 +17,7 @@ use Rattle.sx_scope.specs.Stands.{symbol_of, row_for}
 use Rattle.sx_core.specs.Labels.{with_label}
 use Rattle.sx_core.specs.Template.{PlainTemplate}
 use Rattle.sx_core.specs.declared.binding.Binding.TheVariants as binding
-use Rattle.sx_core.specs.declared.record.LibRecord.{LibRecord}
+use Rattle.sx_core.specs.declared.record.CompiledLibrary.{CompiledLibrary}
 use Rattle.sx_core.specs.declared.link.LinkKind.TheVariants as kinds
 use Rattle.sx_pattern.specs.Compile as patterns
 use Rattle.sx_pattern.specs.declared.compile.Compiled.{Compiled}
@@ -41,7 +41,7 @@ use Rattle.sx_steady_laws.proofs.Says.{Says}
 use Rattle.sx_steady_laws.proofs.Sure.{Sure, sure-after, sure-less, sure-with, sure-if, sure-gather}
 use Rattle.sx_steady_laws.proofs.Safe.{Safe, safe-frames, safe-names, safe-counted, safe-bound, Light, light-self, light-links, light-then}
 
-module _ (own : LibName) (texts : List CodeNo) (rs : List LibRecord) where
+module _ (own : LibName) (texts : List CodeNo) (rs : List CompiledLibrary) where
   abbrev S : State → Type 0
   S = Safe own texts rs
 

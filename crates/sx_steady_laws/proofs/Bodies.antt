@@ -15,7 +15,7 @@ use Rattle.sx_core.specs.References.{formals_labels}
 use Rattle.sx_core.specs.declared.code.Clause.{Clause}
 use Rattle.sx_core.specs.declared.code.Init.{Init}
 use Rattle.sx_core.specs.declared.code.Lambda.{Lambda}
-use Rattle.sx_core.specs.declared.record.LibRecord.{LibRecord}
+use Rattle.sx_core.specs.declared.record.CompiledLibrary.{CompiledLibrary}
 use Rattle.sx_core.specs.declared.record.Line.TheVariants as line
 use Rattle.sx_shapes.specs.declared.shape.BindingSpec.{BindingSpec}
 use Rattle.sx_shapes.specs.declared.shape.FormalIds.{FormalIds}
@@ -50,7 +50,7 @@ use Rattle.sx_steady_laws.proofs.Keywords.{Placed, Holds, keywords-go}
 use Rattle.sx_steady_laws.proofs.Sure.{Sure, sure-after, sure-less, sure-with, sure-if, sure-within, sure-gather}
 use Rattle.sx_steady_laws.proofs.Safe.{Safe, Light, light-then, B, Goes, goes-self, goes-then, goes-light, goes-but, goes-counted, goes-cut, go}
 
-module _ (own : LibName) (texts : List CodeNo) (rs : List LibRecord) (x : Around own texts rs) (inner : Inside) (holds : Holds own texts rs inner) where
+module _ (own : LibName) (texts : List CodeNo) (rs : List CompiledLibrary) (x : Around own texts rs) (inner : Inside) (holds : Holds own texts rs inner) where
   abbrev S : State → Type 0
   S = Safe own texts rs
 

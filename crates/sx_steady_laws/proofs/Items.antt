@@ -7,7 +7,7 @@ use Rattle.sx_base.specs.declared.library.LibName.{LibName}
 use Rattle.sx_base.specs.declared.name.CodeNo.{CodeNo}
 use Rattle.sx_base.specs.declared.name.Label.{Label}
 use Rattle.sx_tree.specs.Tree.{Tree}
-use Rattle.sx_core.specs.declared.record.LibRecord.{LibRecord}
+use Rattle.sx_core.specs.declared.record.CompiledLibrary.{CompiledLibrary}
 use Rattle.sx_shapes.specs.At.{place_of}
 use Rattle.sx_shapes.specs.declared.shape.BindingSpec.{BindingSpec}
 use Rattle.sx_standing.specs.State.{State, fault_word}
@@ -22,12 +22,12 @@ use Rattle.sx_heads.specs.declared.taken.Taken.{Taken}
 use Rattle.sx_expand.specs.Body as expand_body
 use Rattle.sx_expand.specs.Body.{splice, perform_item, item}
 use Rattle.sx_expand.specs.Inside.{Inside}
-use Rattle.sx_expand.specs.Keywords.{keyword, with_keywords, define_syntax}
-use Rattle.sx_expand.specs.Settle as settle
-use Rattle.sx_expand.specs.Settle.{next_form, too_many, at_use, set_item_step, item_step_of, item_step, settle_item_to, settle_item}
-use Rattle.sx_expand.specs.declared.settle.ItemStep.{ItemStep}
-use Rattle.sx_expand.specs.declared.settle.ItemStep.TheVariants as item_steps
-use Rattle.sx_expand.specs.declared.settle.SettledItem.{SettledItem}
+use Rattle.sx_expand.specs.Keywords.{expand_transformer, with_keywords, define_syntax}
+use Rattle.sx_expand.specs.ExpandUses as expand_uses
+use Rattle.sx_expand.specs.ExpandUses.{next_form, too_many, at_use, set_item_step, item_step_of, item_step, expand_item_uses_to, expand_item_uses}
+use Rattle.sx_expand.specs.declared.expand_uses.ItemOrUse.{ItemOrUse}
+use Rattle.sx_expand.specs.declared.expand_uses.ItemOrUse.TheVariants as item_steps
+use Rattle.sx_expand.specs.declared.expand_uses.PlannedItem.{PlannedItem}
 use Rattle.sx_expand_laws.proofs.Acts.{gave-both}
 use Rattle.sx_expand_laws.proofs.BindingKeywords.{BindsKeywords}
 use Rattle.sx_expand_laws.proofs.Items.{defines-keyword, IsPlaced}
@@ -45,7 +45,7 @@ use Rattle.sx_steady_laws.proofs.Sure.{Sure, sure-after, sure-less, sure-with, s
 use Rattle.sx_steady_laws.specs.States.{KeptAt}
 use Rattle.sx_steady_laws.proofs.Safe.{Safe, Fresh, fresh-same, Light, B, given, Goes, goes-self, goes-then, G}
 
-module _ (own : LibName) (texts : List CodeNo) (rs : List LibRecord) (x : Around own texts rs) where
+module _ (own : LibName) (texts : List CodeNo) (rs : List CompiledLibrary) (x : Around own texts rs) where
   abbrev S : State → Type 0
   S = Safe own texts rs
 
@@ -79,13 +79,13 @@ module _ (own : LibName) (texts : List CodeNo) (rs : List LibRecord) (x : Around
     defines-go : (at : BodyAt) (depth : ℕ) (d : Taken) (t : Tree) (b : BindingSpec) (s : State) → Low at → Bs s → S s → Sure (G own texts rs s) (define_syntax inner at depth d t b s)
     unfolding define_syntax
     defines-go at depth d t b s low h k =
-        sure-after (λ y u. Pending own texts rs x s (y ∷ []) u × (BindsKeywords own at.frame s (y ∷ []) u × Tells s.keywords u.keywords)) (G own texts rs s) (define_keyword at d t b s) (keyword inner at.place at.level depth)
+        sure-after (λ y u. Pending own texts rs x s (y ∷ []) u × (BindsKeywords own at.frame s (y ∷ []) u × Tells s.keywords u.keywords)) (G own texts rs s) (define_keyword at d t b s) (expand_transformer inner at.place at.level depth)
         (sure-with (λ y u. Pending own texts rs x s (y ∷ []) u) (λ y u. BindsKeywords own at.frame s (y ∷ []) u × Tells s.keywords u.keywords) (define_keyword at d t b s) (defines at d t b s h k)
         (gave-both (λ y u. BindsKeywords own at.frame s (y ∷ []) u) (λ y u. Tells s.keywords u.keywords) (define_keyword at d t b s) (defines-keyword own s at s h.sound.next low.0 d t b) (defined-told own (given own texts rs) at low.0 d t b s)))
         (λ y u j.
         let o = onward-but own (given own texts rs) at.frame (is_top at.kind) [] [] s u j.1.0.later (j.1.0.adds (is_top at.kind)) j.1.1 h in
         let first = j.0.labels.0 in
-        sure-less (λ a v. Onward own (given own texts rs) u v × (S v × FreshBut own texts rs x y.label u v)) (G own texts rs s) (keyword inner at.place at.level depth y u)
+        sure-less (λ a v. Onward own (given own texts rs) u v × (S v × FreshBut own texts rs x y.label u v)) (G own texts rs s) (expand_transformer inner at.place at.level depth y u)
         (keyword-go own texts rs x inner holds at.place at.level depth y u o.0 j.0.safe (first.0, (first.1.1, j.0.free.0)))
         (λ a v i. one-pended own texts rs x inner holds s u v y j.0 o i.0 i.1.0 i.1.1))
 
@@ -106,7 +106,7 @@ module _ (own : LibName) (texts : List CodeNo) (rs : List LibRecord) (x : Around
   -- Forms of a body are settled.
 
   module _ (depth : ℕ) where
-    abbrev Step : State → Taken × ItemStep → State → Type 0
+    abbrev Step : State → Taken × ItemOrUse → State → Type 0
     Step s p u = Goes own texts rs s u × W u p.0
 
     -- what a step leaves, apart from what is known of its names
@@ -151,35 +151,35 @@ module _ (own : LibName) (texts : List CodeNo) (rs : List LibRecord) (x : Around
         (λ p u j. (record { onward = j.1.0; safe = j.0.0; fresh = j.0.1 }, j.1.1))
 
     -- where the form stands is the same body
-    abbrev Settled : BodyAt → State → Taken × SettledItem → State → Type 0
-    Settled at s p u = Goes own texts rs s u × (W u p.0 × IsPlaced at p.1.at)
+    abbrev PlannedForm : BodyAt → State → Taken × PlannedItem → State → Type 0
+    PlannedForm at s p u = Goes own texts rs s u × (W u p.0 × IsPlaced at p.1.at)
 
-    settle-goes : (left : ℕ) (at : BodyAt) (d : Taken) (t : Tree) (s : State) → Low at → Bs s → S s → W s d → Sure (Settled at s) (settle_item_to rs left at depth d t s)
-    unfolding settle_item_to
-    settle-goes zero at d t s low b h k = sure-after (Step s) (Settled at s) (item_step rs at depth d t s) (settle.item_by (λ done l. too_many t at.place) at t) (step-goes at d t s low b h k) by
+    expand_uses-goes : (left : ℕ) (at : BodyAt) (d : Taken) (t : Tree) (s : State) → Low at → Bs s → S s → W s d → Sure (PlannedForm at s) (expand_item_uses_to rs left at depth d t s)
+    unfolding expand_item_uses_to
+    expand_uses-goes zero at d t s low b h k = sure-after (Step s) (PlannedForm at s) (item_step rs at depth d t s) (expand_uses.item_by (λ done l. too_many t at.place) at t) (step-goes at d t s low b h k) by
       where
-        by : (p : Taken × ItemStep) (u : State) → Step s p u → Sure (Settled at s) (settle.item_by (λ done l. too_many t at.place) at t p u)
+        by : (p : Taken × ItemOrUse) (u : State) → Step s p u → Sure (PlannedForm at s) (expand_uses.item_by (λ done l. too_many t at.place) at t p u)
         by (e, item_steps.Item i) u g = (g.0, (g.1, (at.place, refl)))
         by (e, item_steps.Use l) u g = tt
-    settle-goes (suc left) at d t s low b h k =
-        sure-after (Step s) (Settled at s) (item_step rs at depth d t s) (settle.item_by (λ taken l s'. after (next_form rs left at.place t l (Some at.frame) s') (settle_item_to rs left (at_use at t) depth taken)) at t) (step-goes at d t s low b h k)
-        (λ p u g. by p u g (λ e z v c j w. settle-goes left (at_use at t) e z v low c j w))
+    expand_uses-goes (suc left) at d t s low b h k =
+        sure-after (Step s) (PlannedForm at s) (item_step rs at depth d t s) (expand_uses.item_by (λ taken l s'. after (next_form rs left at.place t l (Some at.frame) s') (expand_item_uses_to rs left (at_use at t) depth taken)) at t) (step-goes at d t s low b h k)
+        (λ p u g. by p u g (λ e z v c j w. expand_uses-goes left (at_use at t) e z v low c j w))
       where
-        by : (p : Taken × ItemStep) (u : State) → Step s p u → ((e : Taken) (z : Tree) (v : State) → Bs v → S v → W v e → Sure (Settled (at_use at t) v) (settle_item_to rs left (at_use at t) depth e z v))
-            → Sure (Settled at s) (settle.item_by (λ taken l s'. after (next_form rs left at.place t l (Some at.frame) s') (settle_item_to rs left (at_use at t) depth taken)) at t p u)
+        by : (p : Taken × ItemOrUse) (u : State) → Step s p u → ((e : Taken) (z : Tree) (v : State) → Bs v → S v → W v e → Sure (PlannedForm (at_use at t) v) (expand_item_uses_to rs left (at_use at t) depth e z v))
+            → Sure (PlannedForm at s) (expand_uses.item_by (λ taken l s'. after (next_form rs left at.place t l (Some at.frame) s') (expand_item_uses_to rs left (at_use at t) depth taken)) at t p u)
         by (e, item_steps.Item i) u g next = (g.0, (g.1, (at.place, refl)))
         by (e, item_steps.Use l) u g next =
-            sure-after (G own texts rs u) (Settled at s) (next_form rs left at.place t l (Some at.frame) u) (settle_item_to rs left (at_use at t) depth e) (next-go own texts rs x left at.place t l (Some at.frame) u g.0.onward.0 g.0.safe)
-            (λ z v j. sure-less (Settled (at_use at t) v) (Settled at s) (settle_item_to rs left (at_use at t) depth e z v) (next e z v j.onward.0 j.safe (unspent-all own u v (taken_labels e) j.onward.1 g.1))
+            sure-after (G own texts rs u) (PlannedForm at s) (next_form rs left at.place t l (Some at.frame) u) (expand_item_uses_to rs left (at_use at t) depth e) (next-go own texts rs x left at.place t l (Some at.frame) u g.0.onward.0 g.0.safe)
+            (λ z v j. sure-less (PlannedForm (at_use at t) v) (PlannedForm at s) (expand_item_uses_to rs left (at_use at t) depth e z v) (next e z v j.onward.0 j.safe (unspent-all own u v (taken_labels e) j.onward.1 g.1))
             (λ p w i. (goes-then own texts rs s v w (goes-then own texts rs s u v g.0 j) i.0, (i.1.0, (i.1.1.0, i.1.1.1)))))
 
   module _ (inner : Inside) (holds : Holds own texts rs inner) where
     pub item-goes : (at : BodyAt) (depth : ℕ) (d : Taken) (t : Tree) (s : State) → Low at → Bs s → S s → W s d → Sure (λ e u. Goes own texts rs s u × W u e) (item inner at depth d t s)
     unfolding item
     item-goes at depth d t s low b h k =
-        sure-if (λ e u. Goes own texts rs s u × W u e) (nat_lt most_round depth) _ (after (settle_item inner.earlier at depth d t s) (expand_body.perform_settled inner depth)) (λ e. tt)
-        (λ e. sure-after (Settled depth at s) (λ e u. Goes own texts rs s u × W u e) (settle_item inner.earlier at depth d t s) (expand_body.perform_settled inner depth)
-        (subst (λ (qs : List LibRecord). Sure (Settled depth at s) (settle_item qs at depth d t s)) (sym holds.earlier) (settle-goes depth s.uses_left at d t s low b h k))
+        sure-if (λ e u. Goes own texts rs s u × W u e) (nat_lt most_round depth) _ (after (expand_item_uses inner.earlier at depth d t s) (expand_body.perform_settled inner depth)) (λ e. tt)
+        (λ e. sure-after (PlannedForm depth at s) (λ e u. Goes own texts rs s u × W u e) (expand_item_uses inner.earlier at depth d t s) (expand_body.perform_settled inner depth)
+        (subst (λ (qs : List CompiledLibrary). Sure (PlannedForm depth at s) (expand_item_uses qs at depth d t s)) (sym holds.earlier) (expand_uses-goes depth s.uses_left at d t s low b h k))
         (λ p u g. subst (λ (other : BodyAt). Sure (λ e v. Goes own texts rs s v × W v e) (perform_item inner other depth p.0 p.1.form p.1.item u)) (sym g.1.1.1)
         (sure-less (λ e v. Goes own texts rs u v × W v e) (λ e v. Goes own texts rs s v × W v e) (perform_item inner (record at { place = g.1.1.0 }) depth p.0 p.1.form p.1.item u)
         (performs inner holds (record at { place = g.1.1.0 }) low depth p.0 p.1.form p.1.item u g.0.onward.0 g.0.safe g.1.0) (λ e v j. (goes-then own texts rs s u v g.0 j.0, j.1)))))

@@ -12,7 +12,7 @@ use Rattle.sx_tree.specs.Changes.{stamp}
 use Rattle.sx_tree.specs.Tree.{Tree}
 use Rattle.sx_core.specs.Core.{PlainCore}
 use Rattle.sx_core.specs.References.{binders}
-use Rattle.sx_core.specs.declared.record.LibRecord.{LibRecord}
+use Rattle.sx_core.specs.declared.record.CompiledLibrary.{CompiledLibrary}
 use Rattle.sx_core_laws.specs.Words.{Each, Among, Once}
 use Rattle.sx_core_laws.specs.Follows.{names_of}
 use Rattle.sx_core_laws.specs.Parts.{code_numbers}
@@ -28,13 +28,13 @@ use Rattle.sx_stage.specs.declared.keyword.Keyword.TheVariants as keyword_kind
 use Rattle.sx_stage_laws.specs.Grows.{IsNotKept}
 use Rattle.sx_standing.specs.InScope.{apart, restoring}
 use Rattle.sx_standing.specs.State.{State, fresh_frame}
-use Rattle.sx_standing.specs.Uses.{bind_keywords, finish_keyword}
+use Rattle.sx_standing.specs.Uses.{bind_keywords, evaluate_transformer}
 use Rattle.sx_standing.specs.declared.binders.BoundSpec.{BoundSpec}
 use Rattle.sx_heads.specs.Items.{is_top}
 use Rattle.sx_heads.specs.declared.taken.BodyAt.{BodyAt}
 use Rattle.sx_heads.specs.declared.taken.Taken.{Taken}
 use Rattle.sx_expand.specs.Inside.{Inside}
-use Rattle.sx_expand.specs.Keywords.{keyword, seen_in, keyword_in, all_keywords, keywords, with_keywords}
+use Rattle.sx_expand.specs.Keywords.{expand_transformer, seen_in, expand_transformer_in, expand_transformers, keywords, with_keywords}
 use Rattle.sx_expand_laws.specs.States.{IsOwn}
 use Rattle.sx_expand_laws.proofs.Acts.{gave-both}
 use Rattle.sx_expand_laws.proofs.Binding.{spec_label}
@@ -45,7 +45,7 @@ use Rattle.sx_expand_laws.proofs.SpentBinding.{keywords-told, onward-self, onwar
 use Rattle.sx_expand_laws.proofs.SpentOnStage.{Tells}
 use Rattle.sx_expand_laws.proofs.Spares.{taken_labels, Spares, Expressed, has-made, nothing-begins, expresses, spares-keyword}
 use Rattle.sx_expand_laws.proofs.WellMade.{good-well-made}
-use Rattle.sx_stuck_laws.specs.Behind.{IsExpression}
+use Rattle.sx_stuck_laws.specs.Behind.{IsKeywordExpression}
 use Rattle.sx_stuck_laws.specs.Steady.{OwnHasCode}
 use Rattle.sx_stuck_laws.specs.Uses.{Around}
 use Rattle.sx_stuck_laws.proofs.Behind.{defined_in, stands, name_of, defined_here}
@@ -59,7 +59,7 @@ abbrev pub Placed : LibName → BodyAt → Type 0
 Placed own at = (is_top at.kind ≡ true → at.level ≡ 0) × (at.frame.0.library ≡ own)
 
 -- What is done inside forms is safe, and spares the names of keywords.
-pub record Holds (own : LibName) (texts : List CodeNo) (rs : List LibRecord) (inner : Inside) : Type 0 where
+pub record Holds (own : LibName) (texts : List CodeNo) (rs : List CompiledLibrary) (inner : Inside) : Type 0 where
   pub spares : Spares own (flat_map defined rs) inner
   pub earlier : inner.earlier ≡ rs
   pub form : (place : Span) (level depth : ℕ) (t : Tree) (s : State) → B own texts rs s → Safe own texts rs s → Sure (G own texts rs s) (inner.form place level depth t s)
@@ -67,7 +67,7 @@ pub record Holds (own : LibName) (texts : List CodeNo) (rs : List LibRecord) (in
   pub item : (at : BodyAt) (depth : ℕ) (d : Taken) (t : Tree) (s : State) → Placed own at → B own texts rs s → Safe own texts rs s → AreUnspent own s (taken_labels d)
       → Sure (λ e u. Goes own texts rs s u × AreUnspent own u (taken_labels e)) (inner.item at depth d t s)
 
-module _ (own : LibName) (texts : List CodeNo) (rs : List LibRecord) (x : Around own texts rs) (inner : Inside) (holds : Holds own texts rs inner) where
+module _ (own : LibName) (texts : List CodeNo) (rs : List CompiledLibrary) (x : Around own texts rs) (inner : Inside) (holds : Holds own texts rs inner) where
   abbrev S : State → Type 0
   S = Safe own texts rs
 
@@ -87,7 +87,7 @@ module _ (own : LibName) (texts : List CodeNo) (rs : List LibRecord) (x : Around
       let st = stands [] rs d.definer x.behind d.among in
       x.new (subst (Among (names_of rs)) (sym (defined_here st.earlier d.definer st.behind l d.defines) ∙ o) (name_of rs d.definer d.among))
 
-  good-expression : (s w : State) (c : PlainCore) → E s c w → IsExpression rs c
+  good-expression : (s w : State) (c : PlainCore) → E s c w → IsKeywordExpression rs c
   good-expression s w c e = record {
     closed = e.1.1.closed;
     well_made = good-well-made own w.bindings [] (given own texts rs) s.names.number w.names.number c tt e.1.1;
@@ -131,23 +131,23 @@ module _ (own : LibName) (texts : List CodeNo) (rs : List LibRecord) (x : Around
       by (inr (inr is)) = inr (inr is)
 
   pub keyword-go : (place : Span) (level depth : ℕ) (b : BoundSpec) (s : State) → Bs s → S s → WaitsIn s b.label
-      → Sure (λ a v. O s v × (S v × FreshBut own texts rs x b.label s v)) (keyword inner place level depth b s)
-  unfolding keyword
+      → Sure (λ a v. O s v × (S v × FreshBut own texts rs x b.label s v)) (expand_transformer inner place level depth b s)
+  unfolding expand_transformer
   keyword-go place level depth b s h k waits =
-      let r = after (apart (inner.form place (level + 1) depth b.init) s) (finish_keyword inner.earlier (place_of b.init place) b.label) in
+      let r = after (apart (inner.form place (level + 1) depth b.init) s) (evaluate_transformer inner.earlier (place_of b.init place) b.label) in
       sure-less (λ (a : Unit {0}) v. (S v × FreshBut own texts rs x b.label s v) × (O s v × Unit {0})) (λ a v. O s v × (S v × FreshBut own texts rs x b.label s v)) r
       (sure-with (λ (a : Unit {0}) v. S v × FreshBut own texts rs x b.label s v) (λ a v. O s v × Unit {0}) r
-      (sure-after (λ c w. (S w × Fresh own texts rs s w) × E s c w) (λ (a : Unit {0}) v. S v × FreshBut own texts rs x b.label s v) (apart (inner.form place (level + 1) depth b.init) s) (finish_keyword inner.earlier (place_of b.init place) b.label)
+      (sure-after (λ c w. (S w × Fresh own texts rs s w) × E s c w) (λ (a : Unit {0}) v. S v × FreshBut own texts rs x b.label s v) (apart (inner.form place (level + 1) depth b.init) s) (evaluate_transformer inner.earlier (place_of b.init place) b.label)
       (apart-go place level depth b.init s h k)
-      (λ c w e. subst (λ (qs : List LibRecord). Sure (λ (a : Unit {0}) v. S v × FreshBut own texts rs x b.label s v) (finish_keyword qs (place_of b.init place) b.label c w)) (sym holds.earlier) (finished c w e)))
+      (λ c w e. subst (λ (qs : List CompiledLibrary). Sure (λ (a : Unit {0}) v. S v × FreshBut own texts rs x b.label s v) (evaluate_transformer qs (place_of b.init place) b.label c w)) (sym holds.earlier) (finished c w e)))
       (spares-keyword own (given own texts rs) inner holds.spares place level depth b s h))
       (λ a v j. (j.1.0, j.0))
     where
-      finished : (c : PlainCore) (w : State) → (S w × Fresh own texts rs s w) × E s c w → Sure (λ (a : Unit {0}) v. S v × FreshBut own texts rs x b.label s v) (finish_keyword rs (place_of b.init place) b.label c w)
+      finished : (c : PlainCore) (w : State) → (S w × Fresh own texts rs s w) × E s c w → Sure (λ (a : Unit {0}) v. S v × FreshBut own texts rs x b.label s v) (evaluate_transformer rs (place_of b.init place) b.label c w)
       finished c w e =
           let up : s.names.number ≤ w.names.number = e.1.0.1.up in
           let low = waits.1.0 in
-          sure-less (λ (a : Unit {0}) v. S v × FreshBut own texts rs x b.label w v) (λ (a : Unit {0}) v. S v × FreshBut own texts rs x b.label s v) (finish_keyword rs (place_of b.init place) b.label c w)
+          sure-less (λ (a : Unit {0}) v. S v × FreshBut own texts rs x b.label w v) (λ (a : Unit {0}) v. S v × FreshBut own texts rs x b.label s v) (evaluate_transformer rs (place_of b.init place) b.label c w)
           (finish-safe own texts rs x (place_of b.init place) b.label c w e.1.0.0.sound.next e.0.0 waits.0 (omega (arith, low, up)) (still-free own texts rs x s w b.label e.0.1 waits.0 waits.1.0 waits.1.1)
           (good-expression s w c e.1) (codes-here s w c e.1) (codes-apart s w c e.1))
           (λ a v j. (j.0, then-but s w v b.label up e.0.1 j.1))
@@ -183,17 +183,17 @@ module _ (own : LibName) (texts : List CodeNo) (rs : List LibRecord) (x : Around
   seen-label false f b = refl
 
   all-go : (place : Span) (level depth : ℕ) (recursive : Bool) (f : FrameNo) (bs : List BoundSpec) (s : State) → Bs s → S s → Wait s bs → Once (map spec_label bs)
-      → Sure (λ (a : Unit {0}) u. O s u × (S u × FreshBeside (map spec_label bs) s u)) (all_keywords inner place level depth recursive f bs s)
+      → Sure (λ (a : Unit {0}) u. O s u × (S u × FreshBeside (map spec_label bs) s u)) (expand_transformers inner place level depth recursive f bs s)
   unfolding gather
   all-go place level depth recursive f [] s h k w once = (onward-self own (given own texts rs) s h, (k, (λ m e v i o. inl i)))
   all-go place level depth recursive f (b ∷ bs) s h k w once =
       let c = seen_in recursive f b in
-      sure-after (λ (a : Unit {0}) u. O s u × (S u × FreshBut own texts rs x c.label s u)) (λ (a : Unit {0}) u. O s u × (S u × FreshBeside (map spec_label (b ∷ bs)) s u)) (keyword_in inner place level depth recursive f tt b s) (λ e. gather (keyword_in inner place level depth recursive f) e bs)
+      sure-after (λ (a : Unit {0}) u. O s u × (S u × FreshBut own texts rs x c.label s u)) (λ (a : Unit {0}) u. O s u × (S u × FreshBeside (map spec_label (b ∷ bs)) s u)) (expand_transformer_in inner place level depth recursive f tt b s) (λ e. gather (expand_transformer_in inner place level depth recursive f) e bs)
       (keyword-go place level depth c s h k (subst (WaitsIn s) (sym (seen-label recursive f b)) w.0))
       (λ a u j.
       let but = subst (λ l. FreshBut own texts rs x l s u) (seen-label recursive f b) j.1.1 in
       let up = j.0.1.up in
-      sure-less (λ (d : Unit {0}) v. O u v × (S v × FreshBeside (map spec_label bs) u v)) (λ (d : Unit {0}) v. O s v × (S v × FreshBeside (map spec_label (b ∷ bs)) s v)) (all_keywords inner place level depth recursive f bs u)
+      sure-less (λ (d : Unit {0}) v. O u v × (S v × FreshBeside (map spec_label bs) u v)) (λ (d : Unit {0}) v. O s v × (S v × FreshBeside (map spec_label (b ∷ bs)) s v)) (expand_transformers inner place level depth recursive f bs u)
       (all-go place level depth recursive f bs u j.0.0 j.1.0 (wait-still s u b.label bs up but once.0 w.1) once.1)
       (λ d v i. (onward-then own (given own texts rs) s u v j.0 i.0, (i.1.0, (λ m e y p o. both s u b bs up but m e y o (i.1.1 m e y p o))))))
     where
@@ -253,12 +253,12 @@ module _ (own : LibName) (texts : List CodeNo) (rs : List LibRecord) (x : Around
       let start = goes-counted own texts rs s b h in
       sure-less (G own texts rs z) (G own texts rs s) (after (keywords inner place level depth recursive bs f z) (λ _. give (map (stamp f) forms)))
       (go own texts rs z (keywords inner place level depth recursive bs f z) (λ _. give (map (stamp f) forms))
-      (sure-after (λ xs u. Pending own texts rs x z xs u × (BindsKeywords own f z xs u × Tells z.keywords u.keywords)) (G own texts rs z) (bind_keywords f place level bs z) (all_keywords inner place level depth recursive f)
+      (sure-after (λ xs u. Pending own texts rs x z xs u × (BindsKeywords own f z xs u × Tells z.keywords u.keywords)) (G own texts rs z) (bind_keywords f place level bs z) (expand_transformers inner place level depth recursive f)
       (sure-with (λ xs u. Pending own texts rs x z xs u) (λ xs u. BindsKeywords own f z xs u × Tells z.keywords u.keywords) (bind_keywords f place level bs z) (keywords-pend own texts rs x f place level bs z b.sound.next start.safe)
       (gave-both (BindsKeywords own f z) (λ xs u. Tells z.keywords u.keywords) (bind_keywords f place level bs z) (binds-keywords own f place level bs z b.sound.next) (keywords-told f place level bs z)))
       (λ xs u k.
       let o = onward-but own (given own texts rs) f false [] [] z u k.1.0.later (k.1.0.adds false) k.1.1 start.onward.0 in
-      sure-less (λ (a : Unit {0}) v. O u v × (S v × FreshBeside (map spec_label xs) u v)) (G own texts rs z) (all_keywords inner place level depth recursive f xs u) (all-go place level depth recursive f xs u o.0 k.0.safe (pending-waits z u xs k.0) k.0.once)
+      sure-less (λ (a : Unit {0}) v. O u v × (S v × FreshBeside (map spec_label xs) u v)) (G own texts rs z) (expand_transformers inner place level depth recursive f xs u) (all-go place level depth recursive f xs u o.0 k.0.safe (pending-waits z u xs k.0) k.0.once)
       (λ a v j. pended-go z u v xs k.0 o j.0 j.1.0 j.1.1)))
       (λ a u g. goes-self own texts rs u g.onward.0 g.safe))
       (λ a u g. goes-then own texts rs s z u start g)

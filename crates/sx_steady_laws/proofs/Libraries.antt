@@ -15,7 +15,7 @@ use Rattle.sx_core.specs.Core.{PlainCore, PlainCode}
 use Rattle.sx_core.specs.Labels.{same_label}
 use Rattle.sx_core.specs.declared.binding.Binding.{Binding}
 use Rattle.sx_core.specs.declared.binding.Binding.TheVariants as binding
-use Rattle.sx_core.specs.declared.record.LibRecord.{LibRecord}
+use Rattle.sx_core.specs.declared.record.CompiledLibrary.{CompiledLibrary}
 use Rattle.sx_core_laws.specs.Words.{Each, Among}
 use Rattle.sx_core_laws.specs.Records.{defined}
 use Rattle.sx_core_laws.specs.WellMade.{same_code}
@@ -33,7 +33,7 @@ use Rattle.sx_expand.specs.Body.{splice, finish_all}
 use Rattle.sx_expand.specs.Expanding.{ready, body_of}
 use Rattle.sx_expand.specs.Expression.{inside, full_room}
 use Rattle.sx_expand.specs.Inside.{Inside}
-use Rattle.sx_expand.specs.Top.{stands_for, export, all_exports, exports, give_record, record_in, body_at, finished, first_pass, top}
+use Rattle.sx_expand.specs.Top.{stands_for, export, all_exports, exports, give_record, record_in, body_at, second_pass, first_pass, top}
 use Rattle.sx_expand.specs.declared.top.TopAt.{TopAt}
 use Rattle.sx_expand_laws.proofs.GoodKeywords.{exports-same, started-begins}
 use Rattle.sx_expand_laws.proofs.Top.{SameScope, AreShown, same-exports}
@@ -79,15 +79,15 @@ bound_there (e ∷ bs) l b h = by (same_label l e.0) refl h (bound_there bs l b)
     by true is k rest = let same = (label_decides l e.0).0 is in let also : e.1 ≡ b = cc in inl (λ i. (same i, sym also i))
     by false is k rest = inr (rest k)
 
-keyword_in : (rs : List LibRecord) (l : Label) (level : ℕ) (c : PlainCore) → Among (bindings_of rs) (l, binding.Macro level (Some c)) → IsKeywordOf rs l c
-keyword_in [] l level c a = absurd a
-keyword_in (r ∷ rs) l level c a = by (among_parts r.bindings (bindings_of rs) (l, binding.Macro level (Some c)) a) (keyword_in rs l level c)
+expand_transformer_in : (rs : List CompiledLibrary) (l : Label) (level : ℕ) (c : PlainCore) → Among (bindings_of rs) (l, binding.Macro level (Some c)) → IsKeywordOf rs l c
+expand_transformer_in [] l level c a = absurd a
+expand_transformer_in (r ∷ rs) l level c a = by (among_parts r.bindings (bindings_of rs) (l, binding.Macro level (Some c)) a) (expand_transformer_in rs l level c)
   where
     by : Among r.bindings (l, binding.Macro level (Some c)) ⊎ Among (bindings_of rs) (l, binding.Macro level (Some c)) → (Among (bindings_of rs) (l, binding.Macro level (Some c)) → IsKeywordOf rs l c) → IsKeywordOf (r ∷ rs) l c
     by (inl b) rest = record { keeper = r; among = inl refl; level = level; bound = b }
     by (inr b) rest = let k = rest b in record { keeper = k.keeper; among = inr k.among; level = k.level; bound = k.bound }
 
-module _ (own : LibName) (records : List LibRecord) (codes : Codes) (texts : AreTexts codes) where
+module _ (own : LibName) (records : List CompiledLibrary) (codes : Codes) (texts : AreTexts codes) where
   abbrev numbers : List CodeNo
   numbers = map (λ (e : CodeNo × PlainCode). e.0) codes
 
@@ -103,11 +103,11 @@ module _ (own : LibName) (records : List LibRecord) (codes : Codes) (texts : Are
       codes = λ n k. text (found_there codes n k);
       defined = λ r a k. absurd (cc);
     };
-    imported = λ l level c e. keyword_in records l level c (bound_there (bindings_of records) l (binding.Macro level (Some c)) e);
+    imported = λ l level c e. expand_transformer_in records l level c (bound_there (bindings_of records) l (binding.Macro level (Some c)) e);
     made = λ l e v k o. absurd (cc);
   }
 
-module _ (own : LibName) (texts : List CodeNo) (rs : List LibRecord) (x : Around own texts rs) (inner : Inside) (holds : Holds own texts rs inner) where
+module _ (own : LibName) (texts : List CodeNo) (rs : List CompiledLibrary) (x : Around own texts rs) (inner : Inside) (holds : Holds own texts rs inner) where
   -- The exports.
 
   export-light : (at : TopAt) (e : List ℕ × Tree) (s : State) → Safe own texts rs s → Sure (L own texts rs s) (export at e s)
@@ -129,8 +129,8 @@ module _ (own : LibName) (texts : List CodeNo) (rs : List LibRecord) (x : Around
   abbrev Any : {A : Type 0} → A → State → Type 0
   Any a u = Unit {0}
 
-  ends : (at : TopAt) (es : List (List ℕ × Tree)) (d : Taken) (s : State) → B own texts rs s → Safe own texts rs s → Sure Any (finished inner at es d s)
-  unfolding finished
+  ends : (at : TopAt) (es : List (List ℕ × Tree)) (d : Taken) (s : State) → B own texts rs s → Safe own texts rs s → Sure Any (second_pass inner at es d s)
+  unfolding second_pass
   ends at es d s b h =
       sure-after (λ ls t. Light own texts rs s t × (SameScope s t × AreShown s.frames ls)) Any (exports at es s) (λ ls t. after (finish_all inner 0 d.waiting t) (λ lines. give_record at ls lines))
       (sure-with (λ ls t. Light own texts rs s t) (λ ls t. SameScope s t × AreShown s.frames ls) (exports at es s) (exports-light at es s h) (same-exports at es s))
@@ -140,7 +140,7 @@ module _ (own : LibName) (texts : List CodeNo) (rs : List LibRecord) (x : Around
   top-fine : (at : TopAt) (es : List (List ℕ × Tree)) (forms : List Tree) (s : State) → at.frame.0.library ≡ own → B own texts rs s → Safe own texts rs s → Sure Any (top inner at es forms s)
   unfolding top first_pass
   top-fine at es forms s mine b h =
-      sure-after (Takes own texts rs x inner holds s) Any (splice inner (body_at at s.library) 0 begun (map (stamp at.frame) forms) s) (finished inner at es)
+      sure-after (Takes own texts rs x inner holds s) Any (splice inner (body_at at s.library) 0 begun (map (stamp at.frame) forms) s) (second_pass inner at es)
       (splice-goes own texts rs x inner holds (body_at at s.library) 0 begun (map (stamp at.frame) forms) s ((λ e. refl), mine) b h tt)
       (λ d t g. ends at es d t g.0.onward.0 g.0.safe)
 
@@ -153,6 +153,6 @@ expansions_never_stuck own path records imports version place exports forms code
     by (top (inside records full_room) at exports forms s)
     (top-fine own numbers records around (inside records full_room) (inside-holds own numbers records around full_room) at exports forms s refl (started-begins own records imports codes ready_for) (started-safe own records codes texts imports))
   where
-    by : (r : Result (LibRecord × State) Fault) → Sure (λ a u. Unit {0}) r → IsNotStuck (record_in r)
+    by : (r : Result (CompiledLibrary × State) Fault) → Sure (λ a u. Unit {0}) r → IsNotStuck (record_in r)
     by (Ok p) h = tt
     by (Err f) h = h

@@ -22,7 +22,7 @@ use Rattle.sx_core.specs.Labels.{same_label}
 use Rattle.sx_core.specs.declared.binding.Binding.{Binding}
 use Rattle.sx_core.specs.declared.binding.Binding.TheVariants as binding
 use Rattle.sx_core.specs.declared.core_form.CoreForm.{CoreForm}
-use Rattle.sx_core.specs.declared.record.LibRecord.{LibRecord}
+use Rattle.sx_core.specs.declared.record.CompiledLibrary.{CompiledLibrary}
 use Rattle.sx_core_laws.specs.Words.{Each, Among, Once}
 use Rattle.sx_core_laws.specs.Follows.{names_of}
 use Rattle.sx_core_laws.specs.Parts.{code_numbers}
@@ -41,11 +41,11 @@ use Rattle.sx_stage_laws.specs.Grows.{By, IsNotKept}
 use Rattle.sx_standing.specs.Binders.{row_put}
 use Rattle.sx_standing.specs.RecordUses.{at_state, defines_type, count_record_type, record_tree, record_marked, use_record}
 use Rattle.sx_standing.specs.State.{State, fresh, fault_form, stage_of, staged, on_stage}
-use Rattle.sx_standing.specs.Uses.{macro_expression, use_keyword, asks_variable, put_keyword, bind_keyword, bind_keyword_as, bind_keywords, finish_keyword}
+use Rattle.sx_standing.specs.Uses.{macro_expression, use_keyword, asks_variable, put_keyword, bind_keyword, bind_keyword_as, bind_keywords, evaluate_transformer}
 use Rattle.sx_standing.specs.declared.binders.BoundSpec.{BoundSpec}
 use Rattle.sx_heads.specs.declared.plan.KeywordUse.{KeywordUse}
 use Rattle.sx_heads.specs.declared.plan.KeywordUse.TheVariants as keyword_use
-use Rattle.sx_expand.specs.Settle.{next_form}
+use Rattle.sx_expand.specs.ExpandUses.{next_form}
 use Rattle.sx_expand_laws.specs.States.{IsOwn, Later}
 use Rattle.sx_expand_laws.proofs.Acts.{gave-both, each-cons, each-nil}
 use Rattle.sx_expand_laws.proofs.Binding.{spec_label}
@@ -53,7 +53,7 @@ use Rattle.sx_expand_laws.proofs.Naming.{as_label, counted}
 use Rattle.sx_expand_laws.proofs.SpentBinding.{onward-later}
 use Rattle.sx_expand_laws.proofs.SpentOnStage.{Tells, use-told, variable-told}
 use Rattle.sx_expand_laws.proofs.Uses.{use-later, asks-later, finish-later, left-later, next-later}
-use Rattle.sx_stuck_laws.specs.Behind.{IsImported, IsExpression}
+use Rattle.sx_stuck_laws.specs.Behind.{IsImported, IsKeywordExpression}
 use Rattle.sx_stuck_laws.specs.Steady.{OwnHasCode, Steady, Ends, EndsSteady}
 use Rattle.sx_stuck_laws.specs.Uses.{Around}
 use Rattle.sx_stuck_laws.proofs.Behind.{keyword_label}
@@ -79,7 +79,7 @@ not_kept (Some (keyword.Kept e v)) h = h e v refl
 kept_not : (o : Option Keyword) (e : Option PlainCore) (v : Value) → IsNotKept o → o ≡ Some (keyword.Kept e v) → ⊥
 kept_not o e v h is = subst IsNotKept is h
 
-module _ (own : LibName) (texts : List CodeNo) (rs : List LibRecord) (x : Around own texts rs) where
+module _ (own : LibName) (texts : List CodeNo) (rs : List CompiledLibrary) (x : Around own texts rs) where
   abbrev S : State → Type 0
   S = Safe own texts rs
 
@@ -328,11 +328,11 @@ module _ (own : LibName) (texts : List CodeNo) (rs : List LibRecord) (x : Around
   abbrev pub FreshBut : Label → State → State → Type 0
   FreshBut l s u = (m : Label) (e : Option PlainCore) (v : Value) → KeptAt u.keywords m e v → IsOwn own m.0 → KeptAt s.keywords m e v ⊎ ((s.names.number ≤ m.0.number) ⊎ (m ≡ l))
 
-  pub finish-safe : (place : Span) (l : Label) (c : PlainCore) (s : State) → s.names.library ≡ own → S s → IsOwn own l.0 → l.0.number < s.names.number → IsNotKept (keyword_at s.keywords l) → IsExpression rs c
-      → Each (λ (n : CodeNo). n.0.library ≡ own) (code_numbers c) → Each (λ n. OwnHasCode own s.keywords n → ⊥) (code_numbers c) → Sure (λ (a : Unit {0}) u. S u × FreshBut l s u) (finish_keyword rs place l c s)
-  unfolding finish_keyword
+  pub finish-safe : (place : Span) (l : Label) (c : PlainCore) (s : State) → s.names.library ≡ own → S s → IsOwn own l.0 → l.0.number < s.names.number → IsNotKept (keyword_at s.keywords l) → IsKeywordExpression rs c
+      → Each (λ (n : CodeNo). n.0.library ≡ own) (code_numbers c) → Each (λ n. OwnHasCode own s.keywords n → ⊥) (code_numbers c) → Sure (λ (a : Unit {0}) u. S u × FreshBut l s u) (evaluate_transformer rs place l c s)
+  unfolding evaluate_transformer
   finish-safe place l c s n h o lt free good here apart =
-      let r = stage.finish_keyword place rs l c (stage_of s) in
+      let r = stage.evaluate_transformer place rs l c (stage_of s) in
       sure-less (λ (a : Unit {0}) u. Stays (Is l) s u × Later own s u) (λ (a : Unit {0}) u. S u × FreshBut l s u) (staged s r)
       (sure-with (λ (a : Unit {0}) u. Stays (Is l) s u) (λ (a : Unit {0}) u. Later own s u) (staged s r)
       (stays (Is l) s r (finishes own texts rs x.new x.no_text x.texts_only x.behind place l c (stage_of s) h.stage o free good here apart) (finish_keeps place rs l c (stage_of s)))

@@ -10,7 +10,7 @@ use Rattle.sx_scope.specs.Stands.{stands}
 use Rattle.sx_core.specs.Pattern.{PlainPattern}
 use Rattle.sx_core.specs.declared.core_form.CoreForm.TheVariants as form
 use Rattle.sx_core_laws.specs.Words.{Each}
-use Rattle.sx_pattern.specs.Compile.{Context, Taken, may_be_literal, literals_checked, is_literal, is_known, new_variable, leaf_pattern, no_parts, with_repeated, Element, next_ellipsis, repeated_part, element, step, walked, vector_with, pattern, element_patterns, tail_pattern, with_variables, compiled}
+use Rattle.sx_pattern.specs.Compile.{PatternScope, Taken, may_be_literal, literals_checked, is_literal, is_known, new_variable, leaf_pattern, no_parts, with_repeated, Element, next_ellipsis, repeated_part, element, step, walked, vector_with, pattern, element_patterns, tail_pattern, with_variables, compiled}
 use Rattle.sx_pattern.specs.Keywords.{is_form}
 use Rattle.sx_steady_laws.proofs.Says.{Says, says-if, says-then, says-after}
 
@@ -21,7 +21,7 @@ says-literals fs place (t ∷ ts) = says-if (may_be_literal fs t) _ _ (says-lite
 abbrev Quiet : Element → Type 0
 Quiet x = (depth : ℕ) (s : Taken) → Says (x.1 depth s)
 
-module _ (c : Context) where
+module _ (c : PatternScope) where
   says-leaf : (t : Tree) (depth : ℕ) (s : Taken) → Says (leaf_pattern c t depth s)
   says-leaf t depth s =
       says-if (is_form form.Ellipsis (stands c.frames t)) _ _ tt

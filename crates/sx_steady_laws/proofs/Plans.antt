@@ -12,7 +12,7 @@ use Rattle.sx_core.specs.Core.{instance}
 use Rattle.sx_core.specs.Labels.{has_label, with_label}
 use Rattle.sx_core.specs.declared.core_form.CoreForm.{CoreForm}
 use Rattle.sx_core.specs.declared.core_form.CoreForm.TheVariants as core_forms
-use Rattle.sx_core.specs.declared.record.LibRecord.{LibRecord}
+use Rattle.sx_core.specs.declared.record.CompiledLibrary.{CompiledLibrary}
 use Rattle.sx_shapes.specs.At.{place_of}
 use Rattle.sx_shapes.specs.Forms.{or_bad, shape_of, shape}
 use Rattle.sx_shapes.specs.Lists.{is_leaf, is_nil_atom, proper_elements}
@@ -53,7 +53,7 @@ says-shape f t place = by (shape_of f t)
     by None = tt
     by (Some x) = tt
 
-module _ (own : LibName) (texts : List CodeNo) (rs : List LibRecord) where
+module _ (own : LibName) (texts : List CodeNo) (rs : List CompiledLibrary) where
   abbrev S : State → Type 0
   S = Safe own texts rs
 

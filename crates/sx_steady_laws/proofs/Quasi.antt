@@ -10,7 +10,7 @@ use Rattle.sx_tree.specs.Changes.{stamp}
 use Rattle.sx_tree.specs.Tree.{Tree}
 use Rattle.sx_core.specs.Core.{PlainCore, instance}
 use Rattle.sx_core.specs.Template.{PlainTemplate}
-use Rattle.sx_core.specs.declared.record.LibRecord.{LibRecord}
+use Rattle.sx_core.specs.declared.record.CompiledLibrary.{CompiledLibrary}
 use Rattle.sx_frames.specs.Scope.{with_row}
 use Rattle.sx_scope.specs.Stands.{row_for}
 use Rattle.sx_pattern.specs.declared.compile.PatternVariable.{PatternVariable}
@@ -44,7 +44,7 @@ use Rattle.sx_steady_laws.proofs.Says.{Says}
 use Rattle.sx_steady_laws.proofs.Sure.{Sure, sure-after, sure-less, sure-with}
 use Rattle.sx_steady_laws.proofs.Safe.{Safe, safe-frames, safe-counted, Light, light-then, B, Goes, goes-self, goes-then, goes-but, goes-counted}
 
-module _ (own : LibName) (texts : List CodeNo) (rs : List LibRecord) (x : Around own texts rs) (inner : Inside) (holds : Holds own texts rs inner) where
+module _ (own : LibName) (texts : List CodeNo) (rs : List CompiledLibrary) (x : Around own texts rs) (inner : Inside) (holds : Holds own texts rs inner) where
   abbrev S : State → Type 0
   S = Safe own texts rs
 

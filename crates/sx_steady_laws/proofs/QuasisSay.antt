@@ -13,15 +13,15 @@ use Rattle.sx_quasi.specs.Quasi as quote
 use Rattle.sx_quasi.specs.QuasiSyntax as syntaxes
 use Rattle.sx_quasi.specs.QuasiSyntax.{Looked}
 use Rattle.sx_quasi.specs.Words.{Words, inner, reach}
-use Rattle.sx_quasi.specs.declared.parts.Taken.{Taken}
-use Rattle.sx_quasi.specs.declared.parts.Taken.TheVariants as taken
+use Rattle.sx_quasi.specs.declared.parts.QuasiTaken.{QuasiTaken}
+use Rattle.sx_quasi.specs.declared.parts.QuasiTaken.TheVariants as taken
 use Rattle.sx_quasi.specs.declared.quasi.Pieces.{Pieces}
 use Rattle.sx_quasi.specs.declared.quasi.Begun.{Begun}
 use Rattle.sx_quasi.specs.declared.quasi.Begun.TheVariants as begun
 use Rattle.sx_quasi.specs.declared.quasi_syntax.Begun.TheVariants as of_syntax
 use Rattle.sx_quasi.specs.declared.quasi_syntax.Insert.{Insert}
-use Rattle.sx_quasi.specs.declared.quasi_syntax.Part.{Part}
-use Rattle.sx_quasi.specs.declared.quasi_syntax.Row.{Row}
+use Rattle.sx_quasi.specs.declared.quasi_syntax.QuasiPart.{QuasiPart}
+use Rattle.sx_quasi.specs.declared.quasi_syntax.QuasiRow.{QuasiRow}
 use Rattle.sx_quasi.specs.declared.word.Reach.{Reach}
 use Rattle.sx_quasi.specs.declared.word.Reach.TheVariants as reached
 use Rattle.sx_stuck_laws.proofs.Refusals.{Tells, tells-if, tells-then, tells-within}
@@ -47,7 +47,7 @@ abbrev Quiet : quote.Element → Type 0
 Quiet x = (n : ℕ) → Tells (x.1 n)
 
 module _ (w : Words) where
-  quote-step : (n : ℕ) (x : quote.Element) (p : Pieces) (k : Taken) → Quiet x → Tells (quote.step_by n x p k)
+  quote-step : (n : ℕ) (x : quote.Element) (p : Pieces) (k : QuasiTaken) → Quiet x → Tells (quote.step_by n x p k)
   quote-step n x p (taken.Each es) h = tt
   quote-step n x p (taken.Spliced es) h = tt
   quote-step n x p taken.Kept h = tells-then (x.1 n) (λ q. Ok (quote.with_item p q)) (h n) (λ q. tt)
@@ -125,19 +125,19 @@ syntax-rebuilt : (t : Tree) (r : Result Tree Bare) → Tells r → Tells (syntax
 syntax-rebuilt t (Ok u) h = tt
 syntax-rebuilt t (Err f) h = h
 
-syntax-list_joined : (t : Tree) (r : Row) (tail : Part) → Tells (syntaxes.list_joined t r tail)
+syntax-list_joined : (t : Tree) (r : QuasiRow) (tail : QuasiPart) → Tells (syntaxes.list_joined t r tail)
 syntax-list_joined t r tail = tells-if (r.changed || tail.changed) _ _ (syntax-rebuilt t (within (list_of r.trees (Some tail.tree))) (tells-within (list_of r.trees (Some tail.tree)))) tt
 
-syntax-vector_joined : (t : Tree) (r : Row) → Tells (syntaxes.vector_joined t r)
+syntax-vector_joined : (t : Tree) (r : QuasiRow) → Tells (syntaxes.vector_joined t r)
 syntax-vector_joined t r = tells-if r.changed _ _ (syntax-rebuilt t (within (vector_of r.trees)) (tells-within (vector_of r.trees))) tt
 
 module _ (w : Looked) where
-  syntax-step : (n : ℕ) (x : syntaxes.Element) (r : Row) (k : Taken) (is : List Insert) → QuietSyntax x → Tells (syntaxes.step_by w n x r k is)
+  syntax-step : (n : ℕ) (x : syntaxes.Element) (r : QuasiRow) (k : QuasiTaken) (is : List Insert) → QuietSyntax x → Tells (syntaxes.step_by w n x r k is)
   syntax-step n x r (taken.Each es) is h = tt
   syntax-step n x r (taken.Spliced es) is h = tt
   syntax-step n x r taken.Kept is h = insert-then (x.1 n is) (λ p js. Ok (syntaxes.with_part r p, js)) (h n is) (λ p js. tt)
 
-  syntax-walked : (n : ℕ) (r : Row) (xs : List syntaxes.Element) (is : List Insert) → Each QuietSyntax xs → Tells (syntaxes.walked w n r xs is)
+  syntax-walked : (n : ℕ) (r : QuasiRow) (xs : List syntaxes.Element) (is : List Insert) → Each QuietSyntax xs → Tells (syntaxes.walked w n r xs is)
   syntax-walked n r [] is h = tt
   syntax-walked n r (x ∷ xs) is h =
       insert-then (syntaxes.step w n r x is) (λ q js. syntaxes.walked w n q xs js) (syntax-step n x r (taken_at w.words n x.0) is h.0) (λ q js. syntax-walked n q xs js h.1)
@@ -146,7 +146,7 @@ module _ (w : Looked) where
   syntax-operand None is = tt
   syntax-operand (Some e) is = tt
 
-  syntax-begun : (o : Option Tree) (row : syntaxes.Inserts Row) (k : Reach) (is : List Insert) → Tells (row is) → Tells (syntaxes.begun_by o row k is)
+  syntax-begun : (o : Option Tree) (row : syntaxes.Inserts QuasiRow) (k : Reach) (is : List Insert) → Tells (row is) → Tells (syntaxes.begun_by o row k is)
   syntax-begun o row reached.Operand is h = syntax-operand o is
   syntax-begun o row reached.Refused is h = tt
   syntax-begun o row reached.Elements is h = insert-then (row is) (λ r js. Ok (of_syntax.Trees r, js)) h (λ r js. tt)

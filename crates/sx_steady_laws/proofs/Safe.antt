@@ -13,7 +13,7 @@ use Rattle.sx_core.specs.Bindings.{bound_to}
 use Rattle.sx_core.specs.Core.{PlainCore}
 use Rattle.sx_core.specs.declared.binding.Binding.{Binding}
 use Rattle.sx_core.specs.declared.binding.Binding.TheVariants as binding
-use Rattle.sx_core.specs.declared.record.LibRecord.{LibRecord}
+use Rattle.sx_core.specs.declared.record.CompiledLibrary.{CompiledLibrary}
 use Rattle.sx_core.specs.declared.link.Link.{Link}
 use Rattle.sx_core_laws.specs.Records.{defined}
 use Rattle.sx_value.specs.declared.value.Value.{Value}
@@ -40,7 +40,7 @@ use Rattle.sx_stuck_laws.specs.Steady.{world_of, Steady, Ends}
 use Rattle.sx_steady_laws.specs.States.{KeptAt, OwnMade, IsSteadyState}
 use Rattle.sx_steady_laws.proofs.Sure.{Sure, sure-after, sure-less, sure-with}
 
-module _ (own : LibName) (texts : List CodeNo) (rs : List LibRecord) where
+module _ (own : LibName) (texts : List CodeNo) (rs : List CompiledLibrary) where
   abbrev pub Safe : State → Type 0
   Safe = IsSteadyState own texts rs
 

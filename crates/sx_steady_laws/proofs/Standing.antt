@@ -8,7 +8,7 @@ use Rattle.sx_base.specs.declared.name.Label.{Label}
 use Rattle.sx_core.specs.Core as core
 use Rattle.sx_core.specs.Core.{PlainCore, PlainCores, PlainInits, PlainCases, PlainClauses}
 use Rattle.sx_core.specs.References.{references, binders, variables, formals_labels}
-use Rattle.sx_core.specs.declared.record.LibRecord.{LibRecord}
+use Rattle.sx_core.specs.declared.record.CompiledLibrary.{CompiledLibrary}
 use Rattle.sx_core.specs.declared.record.Line.{Line}
 use Rattle.sx_core.specs.declared.record.Line.TheVariants as line
 use Rattle.sx_core_laws.specs.Words.{Each, Among}
@@ -88,7 +88,7 @@ mutual
 
 -- What more records define.
 
-defines-more : (few many : List LibRecord) → ((q : LibRecord) → Among few q → Among many q) → Within (flat_map defined few) (flat_map defined many)
+defines-more : (few many : List CompiledLibrary) → ((q : CompiledLibrary) → Among few q → Among many q) → Within (flat_map defined few) (flat_map defined many)
 defines-more few many w l a = let d = defined_in few l a in among_flat defined many d.definer l (w d.definer d.among) d.defines
 
 -- what is before others, too
@@ -99,10 +99,10 @@ first-more ls ms xs w l a = by (among_parts ls xs l a)
     by (inl b) = among_first ms xs l (w l b)
     by (inr b) = among_second ms xs l b
 
-names-more : (few many : List LibRecord) → ((q : LibRecord) → Among few q → Among many q) → (k : LibName) → Among (names_of few) k → Among (names_of many) k
+names-more : (few many : List CompiledLibrary) → ((q : CompiledLibrary) → Among few q → Among many q) → (k : LibName) → Among (names_of few) k → Among (names_of many) k
 names-more few many w k a = by few a (λ q b. b)
   where
-    by : (qs : List LibRecord) → Among (names_of qs) k → ((q : LibRecord) → Among qs q → Among few q) → Among (names_of many) k
+    by : (qs : List CompiledLibrary) → Among (names_of qs) k → ((q : CompiledLibrary) → Among qs q → Among few q) → Among (names_of many) k
     by [] b sub = absurd b
     by (q ∷ qs) (inl e) sub = subst (Among (names_of many)) (sym e) (name_of many q (w q (sub q (inl refl))))
     by (q ∷ qs) (inr b) sub = by qs b (λ z c. sub z (inr c))
@@ -208,7 +208,7 @@ module _ (own : LibName) where
 
 -- The record.
 
-module _ (records : List LibRecord) (r : LibRecord) (all : AllBehind [] records) (good : IsGood records r) (keys : HasGoodKeywords records r) (serves : Serves records r) where
+module _ (records : List CompiledLibrary) (r : CompiledLibrary) (all : AllBehind [] records) (good : IsGood records r) (keys : HasGoodKeywords records r) (serves : Serves records r) where
   cores-of : (xs : List Line) (c : PlainCore) → Among (map line_core xs) c → (x : Line) × (Among xs x × (c ≡ line_core x))
   cores-of [] c a = absurd a
   cores-of (x ∷ xs) c (inl e) = (x, (inl refl, e))

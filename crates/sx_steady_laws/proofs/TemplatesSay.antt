@@ -15,13 +15,13 @@ use Rattle.sx_core.specs.declared.binding.Binding.{Binding}
 use Rattle.sx_core.specs.declared.binding.Binding.TheVariants as binding
 use Rattle.sx_shapes.specs.Lists.{is_nil, tail_of}
 use Rattle.sx_pattern.specs.Keywords.{is_ellipsis}
-use Rattle.sx_template.specs.Compile.{Context, fault_of, reach, items_of, variable_made, bound_made, label_made, is_special, leaf_made, Element, dots_behind, with_ellipses, fitted, item_made, step, walked, placed, rebuilt, fixed_list, list_joined, fixed_vector, vector_joined, escape_of, unescaped, list_parts, list_made, vector_made, template, elements_made, tail_made, template_of, compiled}
+use Rattle.sx_template.specs.Compile.{TemplateScope, fault_of, reach, items_of, variable_made, bound_made, label_made, is_special, leaf_made, TemplateElement, dots_behind, with_ellipses, fitted, item_made, step, walked, placed, rebuilt, fixed_list, list_joined, fixed_vector, vector_joined, escape_of, unescaped, list_parts, list_made, vector_made, template, elements_made, tail_made, template_of, compiled}
 use Rattle.sx_core_laws.specs.Words.{Each}
 use Rattle.sx_stuck_laws.specs.Kinds.{NotStuck}
 use Rattle.sx_steady_laws.proofs.Says.{Says, says-if, says-then}
 
 -- an element whose template isn't
-abbrev Quiet : Element → Type 0
+abbrev Quiet : TemplateElement → Type 0
 Quiet x = (escaped : Bool) (under : ℕ) → Says (x.1 escaped under)
 
 -- The types of what is made of a form and of an item, which their crate keeps to itself.
@@ -56,7 +56,7 @@ says-deep : {A : Type 0} (r : Result A Fault) → ((f : Fault) → r ≡ Err f �
 says-deep (Ok x) h = tt
 says-deep (Err f) h = subst NotStuck (sym (h f refl)) tt
 
-module _ (c : Context) where
+module _ (c : TemplateScope) where
   says-variable : (under : ℕ) (x : List ℕ) (t : Tree) (l : Label) (level depth : ℕ) → Says (variable_made c under x t l level depth)
   says-variable under x t l level depth = says-if (nat_eq level c.level) _ _ (says-if (nat_lt under depth) _ _ tt tt) tt
 
@@ -79,13 +79,13 @@ module _ (c : Context) where
   says-ellipses es m None = tt
   says-ellipses es m (Some e) = tt
 
-  says-step : (escaped : Bool) (under skips : ℕ) (x : Element) (es : List Tree) (items : List MadeItem) → Quiet x → Says (step c escaped under skips x es items)
+  says-step : (escaped : Bool) (under skips : ℕ) (x : TemplateElement) (es : List Tree) (items : List MadeItem) → Quiet x → Says (step c escaped under skips x es items)
   says-step escaped under (suc skips) x es items h = tt
   says-step escaped under zero x es items h =
       says-then (item_made c escaped under x es) (λ i. Ok (length es, items ++ i ∷ []))
       (says-then (x.1 escaped (under + length es)) (fitted c.place es) (h escaped (under + length es)) (λ m. says-ellipses es m _)) (λ i. tt)
 
-  says-walked : (escaped : Bool) (under skips : ℕ) (items : List MadeItem) (xs : List Element) → Each Quiet xs → Says (walked c escaped under skips items xs)
+  says-walked : (escaped : Bool) (under skips : ℕ) (items : List MadeItem) (xs : List TemplateElement) → Each Quiet xs → Says (walked c escaped under skips items xs)
   says-walked escaped under skips items [] h = tt
   says-walked escaped under skips items (x ∷ xs) h =
       says-then (step c escaped under skips x (dots_behind c.frames escaped xs) items) (λ w. walked c escaped under w.0 w.1 xs)
@@ -97,20 +97,20 @@ module _ (c : Context) where
   says-vector_joined : (t : Tree) (items : List MadeItem) → Says (vector_joined c.place t items)
   says-vector_joined t items = says-deep (vector_joined c.place t items) (vector-joined c.place t items)
 
-  says-list_parts : (escaped : Bool) (t : Tree) (xs : List Element) (tail : Bool → ℕ → Result Made Fault) (under : ℕ) → Each Quiet xs → ((e : Bool) (n : ℕ) → Says (tail e n)) → Says (list_parts c escaped t xs tail under)
+  says-list_parts : (escaped : Bool) (t : Tree) (xs : List TemplateElement) (tail : Bool → ℕ → Result Made Fault) (under : ℕ) → Each Quiet xs → ((e : Bool) (n : ℕ) → Says (tail e n)) → Says (list_parts c escaped t xs tail under)
   says-list_parts escaped t xs tail under h k =
       says-then (walked c escaped under 0 [] xs) (λ items. tail escaped under >>= list_joined c.place t items) (says-walked escaped under 0 [] xs h)
       (λ items. says-then (tail escaped under) (list_joined c.place t items) (k escaped under) (λ m. says-list_joined t items m))
 
-  abbrev QuietIf : Option Element → Type 0
+  abbrev QuietIf : Option TemplateElement → Type 0
   QuietIf None = Unit {0}
   QuietIf (Some y) = Quiet y
 
-  quiet-if : (b : Bool) (y : Element) → Quiet y → QuietIf (if b then Some y else None)
+  quiet-if : (b : Bool) (y : TemplateElement) → Quiet y → QuietIf (if b then Some y else None)
   quiet-if true y h = h
   quiet-if false y h = tt
 
-  quiet-escape : (escaped : Bool) (xs : List Element) (ends : Bool) → Each Quiet xs → QuietIf (escape_of c.frames escaped xs ends)
+  quiet-escape : (escaped : Bool) (xs : List TemplateElement) (ends : Bool) → Each Quiet xs → QuietIf (escape_of c.frames escaped xs ends)
   quiet-escape true [] ends h = tt
   quiet-escape true (x ∷ xs) ends h = tt
   quiet-escape false [] ends h = tt
@@ -119,12 +119,12 @@ module _ (c : Context) where
   quiet-escape false (x ∷ (y ∷ [])) false h = tt
   quiet-escape false (x ∷ (y ∷ (z ∷ xs))) ends h = tt
 
-  says-list_made : (escaped : Bool) (t : Tree) (xs : List Element) (tail : Bool → ℕ → Result Made Fault) (under : ℕ) (o : Option Element) → Each Quiet xs → ((e : Bool) (n : ℕ) → Says (tail e n)) → QuietIf o
+  says-list_made : (escaped : Bool) (t : Tree) (xs : List TemplateElement) (tail : Bool → ℕ → Result Made Fault) (under : ℕ) (o : Option TemplateElement) → Each Quiet xs → ((e : Bool) (n : ℕ) → Says (tail e n)) → QuietIf o
       → Says (list_made c escaped t xs tail under o)
   says-list_made escaped t xs tail under None h k q = says-list_parts escaped t xs tail under h k
   says-list_made escaped t xs tail under (Some y) h k q = says-then (y.1 true under) (λ m. Ok (unescaped m)) (q true under) (λ m. tt)
 
-  says-vector_made : (escaped : Bool) (t : Tree) (xs : List Element) (under : ℕ) → Each Quiet xs → Says (vector_made c escaped t xs under)
+  says-vector_made : (escaped : Bool) (t : Tree) (xs : List TemplateElement) (under : ℕ) → Each Quiet xs → Says (vector_made c escaped t xs under)
   says-vector_made escaped t xs under h = says-then (walked c escaped under 0 [] xs) (vector_joined c.place t) (says-walked escaped under 0 [] xs h) (says-vector_joined t)
 
   mutual

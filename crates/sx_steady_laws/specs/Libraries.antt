@@ -6,7 +6,7 @@ use Rattle.sx_base.specs.declared.name.CodeNo.{CodeNo}
 use Rattle.sx_base.specs.declared.name.Label.{Label}
 use Rattle.sx_base.specs.declared.span.Span.{Span}
 use Rattle.sx_tree.specs.Tree.{Tree}
-use Rattle.sx_core.specs.declared.record.LibRecord.{LibRecord}
+use Rattle.sx_core.specs.declared.record.CompiledLibrary.{CompiledLibrary}
 use Rattle.sx_core_laws.specs.Words.{Each, Among}
 use Rattle.sx_core_laws.specs.Follows.{names_of}
 use Rattle.sx_value.specs.Cells.{is_found}
@@ -30,16 +30,16 @@ IsNotStuck (Err f) = NotStuck f.kind
 
 -- A library or program whose name is new, behind records that stand behind one another. Nothing is asked of its imports and forms.
 abbrev pub ExpansionsNeverStuck : Type 0
-ExpansionsNeverStuck = (own : LibName) (path : List ℕ) (records : List LibRecord) (imports : List (List ℕ × Label)) (version : List ℕ) (place : Span)
+ExpansionsNeverStuck = (own : LibName) (path : List ℕ) (records : List CompiledLibrary) (imports : List (List ℕ × Label)) (version : List ℕ) (place : Span)
     (exports : List (List ℕ × Tree)) (forms : List Tree) (codes : Codes) → IsReady own records → AllBehind [] records → (IsOfTexts own → ⊥) → AreTexts codes
     → IsNotStuck (library_record (ready own path records imports codes) records version place exports forms)
 
 -- The record that expansion gives stands behind them too, so the law applies to one library after another.
 abbrev pub RecordsStandBehind : Type 0
-RecordsStandBehind = (own : LibName) (path : List ℕ) (records : List LibRecord) (imports : List (List ℕ × Label)) (version : List ℕ) (place : Span)
-    (exports : List (List ℕ × Tree)) (forms : List Tree) (codes : Codes) (r : LibRecord) → IsReady own records → AllBehind [] records → (IsOfTexts own → ⊥)
+RecordsStandBehind = (own : LibName) (path : List ℕ) (records : List CompiledLibrary) (imports : List (List ℕ × Label)) (version : List ℕ) (place : Span)
+    (exports : List (List ℕ × Tree)) (forms : List Tree) (codes : Codes) (r : CompiledLibrary) → IsReady own records → AllBehind [] records → (IsOfTexts own → ⊥)
     → Each (λ (e : List ℕ × Label). IsThere records e.1.0.library) imports → library_record (ready own path records imports codes) records version place exports forms ≡ Ok r → IsBehind records r
 
 -- One that stands behind some records stands behind more, if none of them has its name.
 abbrev pub MoreStandBefore : Type 0
-MoreStandBefore = (few many : List LibRecord) (r : LibRecord) → ((q : LibRecord) → Among few q → Among many q) → (Among (names_of many) r.name → ⊥) → IsBehind few r → IsBehind many r
+MoreStandBefore = (few many : List CompiledLibrary) (r : CompiledLibrary) → ((q : CompiledLibrary) → Among few q → Among many q) → (Among (names_of many) r.name → ⊥) → IsBehind few r → IsBehind many r

@@ -5,7 +5,7 @@ use Rattle.sx_base.specs.declared.library.LibName.{LibName}
 use Rattle.sx_base.specs.declared.name.CodeNo.{CodeNo}
 use Rattle.sx_base.specs.declared.name.Label.{Label}
 use Rattle.sx_core.specs.Core.{PlainCore}
-use Rattle.sx_core.specs.declared.record.LibRecord.{LibRecord}
+use Rattle.sx_core.specs.declared.record.CompiledLibrary.{CompiledLibrary}
 use Rattle.sx_core_laws.specs.Records.{defined}
 use Rattle.sx_value.specs.declared.value.Value.{Value}
 use Rattle.sx_stage.specs.Stage.{PlainStage, keyword_at}
@@ -28,14 +28,14 @@ OwnMade own g = (l : Label) (e : Option PlainCore) (v : Value) → KeptAt g.keyw
 
 -- With the codes of these texts and behind these records: the stage is steady, so its world is whole and what is kept is ready. Each keyword that has its
 -- expression in its binding is one of these records.
-pub record IsSteadyState (own : LibName) (texts : List CodeNo) (records : List LibRecord) (s : State) : Type 0 where
+pub record IsSteadyState (own : LibName) (texts : List CodeNo) (records : List CompiledLibrary) (s : State) : Type 0 where
   pub stage : Steady own texts records (stage_of s)
   pub imported : (l : Label) (level : ℕ) (c : PlainCore) → IsMacro s l level (Some c) → IsKeywordOf records l c
   pub made : OwnMade own (stage_of s)
 
 -- A state of the expansion of a library behind records that stand behind one another. Of the library's own keywords that are kept the labels and all names in
 -- their expressions were made, and no two share a name.
-pub record IsWholeState (own : LibName) (texts : List CodeNo) (records : List LibRecord) (s : State) : Type 0 where
+pub record IsWholeState (own : LibName) (texts : List CodeNo) (records : List CompiledLibrary) (s : State) : Type 0 where
   pub around : Around own texts records
   pub good : IsGoodState own (flat_map defined records) s
   pub steady : IsSteadyState own texts records s

@@ -9,7 +9,7 @@ use Rattle.sx_core.specs.Core.{PlainCore}
 use Rattle.sx_core.specs.References.{binders}
 use Rattle.sx_core.specs.declared.binding.Binding.{Binding}
 use Rattle.sx_core.specs.declared.binding.Binding.TheVariants as binding
-use Rattle.sx_core.specs.declared.record.LibRecord.{LibRecord}
+use Rattle.sx_core.specs.declared.record.CompiledLibrary.{CompiledLibrary}
 use Rattle.sx_core.specs.declared.record.Line.{Line}
 use Rattle.sx_core_laws.specs.Words.{Among, Once}
 use Rattle.sx_core_laws.specs.Parts.{code_numbers}
@@ -20,7 +20,7 @@ use Rattle.sx_core_laws.specs.Follows.{names_of, bound_labels, keyword_of, keywo
 use Rattle.sx_stage.specs.Libraries.{has_library}
 use Rattle.sx_stage_laws.specs.Reached.{RefersBack}
 use Rattle.sx_whole_laws.proofs.Among.{among_first, among_second, among_parts, among_flat, each_at, once_second, once_apart}
-use Rattle.sx_stuck_laws.specs.Behind.{IsBehind, AllBehind, IsKeywordOf, IsExpression}
+use Rattle.sx_stuck_laws.specs.Behind.{IsBehind, AllBehind, IsKeywordOf, IsKeywordExpression}
 
 -- Lists.
 
@@ -50,70 +50,70 @@ one_place f (w ∷ xs) x z y h (inr a) (inr b) p q = one_place f xs x z y (once_
 
 -- Names of records.
 
-pub name_of : (rs : List LibRecord) (r : LibRecord) → Among rs r → Among (names_of rs) r.name
+pub name_of : (rs : List CompiledLibrary) (r : CompiledLibrary) → Among rs r → Among (names_of rs) r.name
 name_of [] r a = absurd a
-name_of (q ∷ rs) r (inl e) = inl (ap (λ (x : LibRecord). x.name) e)
+name_of (q ∷ rs) r (inl e) = inl (ap (λ (x : CompiledLibrary). x.name) e)
 name_of (q ∷ rs) r (inr a) = inr (name_of rs r a)
 
-names_first : (xs ys : List LibRecord) (k : LibName) → Among (names_of xs) k → Among (names_of (xs ++ ys)) k
+names_first : (xs ys : List CompiledLibrary) (k : LibName) → Among (names_of xs) k → Among (names_of (xs ++ ys)) k
 names_first [] ys k a = absurd a
 names_first (x ∷ xs) ys k (inl e) = inl e
 names_first (x ∷ xs) ys k (inr a) = inr (names_first xs ys k a)
 
-names_last : (xs : List LibRecord) (r : LibRecord) → Among (names_of (xs ++ r ∷ [])) r.name
+names_last : (xs : List CompiledLibrary) (r : CompiledLibrary) → Among (names_of (xs ++ r ∷ [])) r.name
 names_last [] r = inl refl
 names_last (x ∷ xs) r = inr (names_last xs r)
 
 -- no record has the name of one before it
-pub no_earlier : (before rs : List LibRecord) (q : LibRecord) → AllBehind before rs → Among rs q → Among (names_of before) q.name → ⊥
+pub no_earlier : (before rs : List CompiledLibrary) (q : CompiledLibrary) → AllBehind before rs → Among rs q → Among (names_of before) q.name → ⊥
 no_earlier before [] q h a n = absurd a
-no_earlier before (r ∷ rs) q h (inl e) n = h.0.new (subst (λ (x : LibRecord). Among (names_of before) x.name) e n)
+no_earlier before (r ∷ rs) q h (inl e) n = h.0.new (subst (λ (x : CompiledLibrary). Among (names_of before) x.name) e n)
 no_earlier before (r ∷ rs) q h (inr a) n = no_earlier (before ++ r ∷ []) rs q h.1 a (names_first before (r ∷ []) q.name n)
 
 -- nor do two of them have one
-pub same_record : (before rs : List LibRecord) (q r : LibRecord) → AllBehind before rs → Among rs q → Among rs r → q.name ≡ r.name → q ≡ r
+pub same_record : (before rs : List CompiledLibrary) (q r : CompiledLibrary) → AllBehind before rs → Among rs q → Among rs r → q.name ≡ r.name → q ≡ r
 same_record before [] q r h a b e = absurd a
 same_record before (x ∷ rs) q r h (inl a) (inl b) e = a ∙ sym b
 same_record before (x ∷ rs) q r h (inl a) (inr b) e =
-    absurd (no_earlier (before ++ x ∷ []) rs r h.1 b (subst (Among (names_of (before ++ x ∷ []))) (sym (ap (λ (y : LibRecord). y.name) a) ∙ e) (names_last before x)))
+    absurd (no_earlier (before ++ x ∷ []) rs r h.1 b (subst (Among (names_of (before ++ x ∷ []))) (sym (ap (λ (y : CompiledLibrary). y.name) a) ∙ e) (names_last before x)))
 same_record before (x ∷ rs) q r h (inr a) (inl b) e =
-    absurd (no_earlier (before ++ x ∷ []) rs q h.1 a (subst (Among (names_of (before ++ x ∷ []))) (sym (ap (λ (y : LibRecord). y.name) b) ∙ sym e) (names_last before x)))
+    absurd (no_earlier (before ++ x ∷ []) rs q h.1 a (subst (Among (names_of (before ++ x ∷ []))) (sym (ap (λ (y : CompiledLibrary). y.name) b) ∙ sym e) (names_last before x)))
 same_record before (x ∷ rs) q r h (inr a) (inr b) e = same_record (before ++ x ∷ []) rs q r h.1 a b e
 
 -- no record refers to itself or to one behind it
-pub refers_back : (before rs : List LibRecord) → AllBehind before rs → RefersBack rs
+pub refers_back : (before rs : List CompiledLibrary) → AllBehind before rs → RefersBack rs
 refers_back before [] h = tt
 refers_back before (r ∷ rs) h = ((λ q a. by q a (has_library r.refs q.name) refl), refers_back (before ++ r ∷ []) rs h.1)
   where
-    by : (q : LibRecord) → Among (r ∷ rs) q → (b : Bool) → has_library r.refs q.name ≡ b → b ≡ false
+    by : (q : CompiledLibrary) → Among (r ∷ rs) q → (b : Bool) → has_library r.refs q.name ≡ b → b ≡ false
     by q a true e = absurd (no_earlier before (r ∷ rs) q h a (h.0.known q.name e))
     by q a false e = refl
 
 -- One of the records, and those that it stands behind.
-pub record Stands (before rs : List LibRecord) (r : LibRecord) : Type 0 where
-  pub earlier : List LibRecord
+pub record Stands (before rs : List CompiledLibrary) (r : CompiledLibrary) : Type 0 where
+  pub earlier : List CompiledLibrary
   pub behind : IsBehind earlier r
-  pub there : (q : LibRecord) → Among earlier q → Among before q ⊎ Among rs q
+  pub there : (q : CompiledLibrary) → Among earlier q → Among before q ⊎ Among rs q
 
-pub stands : (before rs : List LibRecord) (r : LibRecord) → AllBehind before rs → Among rs r → Stands before rs r
+pub stands : (before rs : List CompiledLibrary) (r : CompiledLibrary) → AllBehind before rs → Among rs r → Stands before rs r
 stands before [] r h a = absurd a
 stands before (x ∷ rs) r h (inl e) = record { earlier = before; behind = subst (IsBehind before) (sym e) h.0; there = λ q b. inl b }
 stands before (x ∷ rs) r h (inr a) =
     let k = stands (before ++ x ∷ []) rs r h.1 a in
     record { earlier = k.earlier; behind = k.behind; there = λ q b. by q (k.there q b) }
   where
-    last : (q : LibRecord) → Among before q ⊎ Among (x ∷ []) q → Among before q ⊎ Among (x ∷ rs) q
+    last : (q : CompiledLibrary) → Among before q ⊎ Among (x ∷ []) q → Among before q ⊎ Among (x ∷ rs) q
     last q (inl b) = inl b
     last q (inr (inl e)) = inr (inl e)
     last q (inr (inr b)) = absurd b
 
-    by : (q : LibRecord) → Among (before ++ x ∷ []) q ⊎ Among rs q → Among before q ⊎ Among (x ∷ rs) q
+    by : (q : CompiledLibrary) → Among (before ++ x ∷ []) q ⊎ Among rs q → Among before q ⊎ Among (x ∷ rs) q
     by q (inl b) = last q (among_parts before (x ∷ []) q b)
     by q (inr b) = inr (inr b)
 
 -- Labels and codes of one record.
 
-module _ (earlier : List LibRecord) (r : LibRecord) (h : IsBehind earlier r) where
+module _ (earlier : List CompiledLibrary) (r : CompiledLibrary) (h : IsBehind earlier r) where
   label_bound : (xs : List Line) (l : Label) → Among (flat_map line_labels xs) l → Among (flat_map line_binders xs) l
   label_bound [] l a = absurd a
   label_bound (x ∷ xs) l a = by (among_parts (line_labels x) (flat_map line_labels xs) l a) (label_bound xs l)
@@ -143,31 +143,31 @@ module _ (earlier : List LibRecord) (r : LibRecord) (h : IsBehind earlier r) whe
   numbered_here c n a b = each_at (λ (m : CodeNo). IsOwn r m.0) (all_numbers r) n h.numbered_here (among_flat code_numbers (all_cores r) c n a b)
 
 -- the expression of a keyword is among them
-pub keyword_there : (r : LibRecord) (l : Label) (level : ℕ) (c : PlainCore) → Among r.bindings (l, binding.Macro level (Some c)) → Among (keywords r) c
+pub keyword_there : (r : CompiledLibrary) (l : Label) (level : ℕ) (c : PlainCore) → Among r.bindings (l, binding.Macro level (Some c)) → Among (keywords r) c
 keyword_there r l level c a = among_flat keyword_of r.bindings (l, binding.Macro level (Some c)) c a (inl refl)
 
-pub core_there : (r : LibRecord) (c : PlainCore) → Among (keywords r) c → Among (all_cores r) c
+pub core_there : (r : CompiledLibrary) (c : PlainCore) → Among (keywords r) c → Among (all_cores r) c
 core_there r c a = among_second (line_cores r) (keywords r) c a
 
 -- What records define.
 
-pub record DefinedIn (rs : List LibRecord) (l : Label) : Type 0 where
-  pub definer : LibRecord
+pub record DefinedIn (rs : List CompiledLibrary) (l : Label) : Type 0 where
+  pub definer : CompiledLibrary
   pub among : Among rs definer
   pub defines : Among (defined definer) l
 
-pub defined_in : (rs : List LibRecord) (l : Label) → Among (flat_map defined rs) l → DefinedIn rs l
+pub defined_in : (rs : List CompiledLibrary) (l : Label) → Among (flat_map defined rs) l → DefinedIn rs l
 defined_in rs l a = let k = in_flat defined rs l a in record { definer = k.at; among = k.among; defines = k.there }
 
 -- An expression whose free variables these records define.
-pub record Free (rs : List LibRecord) (c : PlainCore) : Type 0 where
+pub record Free (rs : List CompiledLibrary) (c : PlainCore) : Type 0 where
   pub given : List Label
   pub from : (l : Label) → Among given l → DefinedIn rs l
   pub closed : Closed given c
   pub well_made : IsWellMade [] c
   pub apart : (l : Label) → Among given l → Among (binders c) l → ⊥
 
-pub expression_free : (rs : List LibRecord) (c : PlainCore) → IsExpression rs c → Free rs c
+pub expression_free : (rs : List CompiledLibrary) (c : PlainCore) → IsKeywordExpression rs c → Free rs c
 expression_free rs c h = record {
   given = flat_map defined rs;
   from = defined_in rs;
@@ -177,13 +177,13 @@ expression_free rs c h = record {
 }
 
 -- a label that is bound in a record isn't defined before it
-not_before : (rs earlier : List LibRecord) (r : LibRecord) → AllBehind [] rs → IsBehind earlier r → ((q : LibRecord) → Among earlier q → Among rs q) → (l : Label) → IsOwn r l.0 → Among (flat_map defined earlier) l → ⊥
+not_before : (rs earlier : List CompiledLibrary) (r : CompiledLibrary) → AllBehind [] rs → IsBehind earlier r → ((q : CompiledLibrary) → Among earlier q → Among rs q) → (l : Label) → IsOwn r l.0 → Among (flat_map defined earlier) l → ⊥
 not_before rs earlier r all h there l own a =
     let d = defined_in earlier l a in
     let s = stands [] rs d.definer all (there d.definer d.among) in
     h.new (subst (Among (names_of earlier)) (sym (defined_here s.earlier d.definer s.behind l d.defines) ∙ own) (name_of earlier d.definer d.among))
 
-pub keyword_free : (rs : List LibRecord) (l : Label) (c : PlainCore) → AllBehind [] rs → IsKeywordOf rs l c → Free rs c
+pub keyword_free : (rs : List CompiledLibrary) (l : Label) (c : PlainCore) → AllBehind [] rs → IsKeywordOf rs l c → Free rs c
 keyword_free rs l c all k = record {
   given = flat_map defined s.earlier;
   from = λ m a. let d = defined_in s.earlier m a in record { definer = d.definer; among = there d.definer d.among; defines = d.defines };
@@ -198,15 +198,15 @@ keyword_free rs l c all k = record {
     at : Among (keywords k.keeper) c
     at = keyword_there k.keeper l k.level c k.bound
 
-    by : (q : LibRecord) → Among [] q ⊎ Among rs q → Among rs q
+    by : (q : CompiledLibrary) → Among [] q ⊎ Among rs q → Among rs q
     by q (inl a) = absurd a
     by q (inr a) = a
 
-    there : (q : LibRecord) → Among s.earlier q → Among rs q
+    there : (q : CompiledLibrary) → Among s.earlier q → Among rs q
     there q a = by q (s.there q a)
 
 -- what a line binds isn't defined before its record
-pub line_apart : (rs earlier : List LibRecord) (r : LibRecord) → AllBehind [] rs → IsBehind earlier r → ((q : LibRecord) → Among earlier q → Among rs q) → (x : Line) → Among r.run x
+pub line_apart : (rs earlier : List CompiledLibrary) (r : CompiledLibrary) → AllBehind [] rs → IsBehind earlier r → ((q : CompiledLibrary) → Among earlier q → Among rs q) → (x : Line) → Among r.run x
     → (l : Label) → Among (flat_map defined earlier) l → Among (binders (line_core x)) l → ⊥
 line_apart rs earlier r all h there x a l b c = not_before rs earlier r all h there l (line_bound earlier r h x l a c) b
 
@@ -217,7 +217,7 @@ label_there [] b a = absurd a
 label_there (x ∷ bs) b (inl e) = inl (ap (λ (y : Label × Binding). y.0) e)
 label_there (x ∷ bs) b (inr a) = inr (label_there bs b a)
 
-pub keyword_label : (rs : List LibRecord) (l : Label) (c : PlainCore) → AllBehind [] rs → IsKeywordOf rs l c → Among (names_of rs) l.0.library
+pub keyword_label : (rs : List CompiledLibrary) (l : Label) (c : PlainCore) → AllBehind [] rs → IsKeywordOf rs l c → Among (names_of rs) l.0.library
 keyword_label rs l c all k =
     let s = stands [] rs k.keeper all k.among in
     let own = each_at (λ (m : Label). IsOwn k.keeper m.0) (bound_labels k.keeper) l s.behind.bindings_here (label_there k.keeper.bindings (l, binding.Macro k.level (Some c)) k.bound) in

@@ -13,7 +13,7 @@ use Rattle.sx_core.specs.Labels.{same_label}
 use Rattle.sx_core.specs.References.{mentions, references}
 use Rattle.sx_core.specs.declared.binding.Binding.{Binding}
 use Rattle.sx_core.specs.declared.binding.Binding.TheVariants as binding
-use Rattle.sx_core.specs.declared.record.LibRecord.{LibRecord}
+use Rattle.sx_core.specs.declared.record.CompiledLibrary.{CompiledLibrary}
 use Rattle.sx_core.specs.declared.record.Line.{Line}
 use Rattle.sx_core_laws.specs.Words.{Each, Among, Once, among}
 use Rattle.sx_core_laws.specs.Parts.{parts, own_number, code_numbers}
@@ -74,7 +74,7 @@ added_from es codes n h = by (among same_code (flat_map own_number es) n) refl
 pub codes_from : (c : PlainCore) (codes : Codes) (n : CodeNo) → IsTrue (is_found (code_at (with_codes c codes) n)) → IsTrue (is_found (code_at codes n)) ⊎ Among (code_numbers c) n
 codes_from c codes n h = added_from (parts c) codes n (subst (λ cs. IsTrue (is_found (code_at cs n))) (codes_added c codes) h)
 
-lines_from : (r : LibRecord) (codes : Codes) (n : CodeNo) → IsTrue (is_found (code_at (with_lines r.run codes) n)) → IsTrue (is_found (code_at codes n)) ⊎ Among (flat_map code_numbers (line_cores r)) n
+lines_from : (r : CompiledLibrary) (codes : Codes) (n : CodeNo) → IsTrue (is_found (code_at (with_lines r.run codes) n)) → IsTrue (is_found (code_at codes n)) ⊎ Among (flat_map code_numbers (line_cores r)) n
 lines_from r codes n h =
     subst (λ ns. IsTrue (is_found (code_at codes n)) ⊎ Among ns n) (numbers_of r.run) (added_from (lines_parts r.run) codes n (subst (λ cs. IsTrue (is_found (code_at cs n))) (lines_added r.run codes) h))
 
@@ -84,7 +84,7 @@ pub free_ready : (v : PlainSetting) (F : Variables) (G : PatternVariables) (give
     → ((l : Label) → Among (mentions c) l → Among given l → F l) → Ready v F G c
 free_ready v F G given c closed made stand f = ready_fewer v (Among given) F G c f (well_made_ready v (Among given) G given c (λ l a. a) closed made stand)
 
-module _ (own : LibName) (texts : List CodeNo) (rs : List LibRecord) where
+module _ (own : LibName) (texts : List CodeNo) (rs : List CompiledLibrary) where
   -- one more reason, with the codes of more texts
   more_texts : (more : List CodeNo) (ks : List (Label × Keyword)) (es : List LibName) (n : CodeNo) → HasCode own texts rs ks es n → HasCode own (texts ++ more) rs ks es n
   more_texts more ks es n (text a) = text (among_first texts more n a)
@@ -109,7 +109,7 @@ module _ (own : LibName) (texts : List CodeNo) (rs : List LibRecord) where
     pub keywords : t.keywords ≡ s.keywords
     pub evaluated : (k : LibName) → has_library s.evaluated k ≡ true → has_library t.evaluated k ≡ true
 
-  global_there : (s : PlainStage) → Steady own texts rs s → (r : LibRecord) → Among rs r → has_library s.evaluated r.name ≡ true → (l : Label) → Among (defined r) l → IsTrue (is_found (lookup (same_label l) s.globals))
+  global_there : (s : PlainStage) → Steady own texts rs s → (r : CompiledLibrary) → Among rs r → has_library s.evaluated r.name ≡ true → (l : Label) → Among (defined r) l → IsTrue (is_found (lookup (same_label l) s.globals))
   global_there s h r a e l b = each_at (λ (m : Label). IsTrue (is_found (lookup (same_label m) s.globals))) (defined r) l (h.defined r a e) b
 
   module _ (place : Span) (c : PlainCore) (s : PlainStage) (h : Steady own texts rs s) (f : Free rs c) (there : Provided s c f) (new : AreNew s.codes (code_numbers c)) where
@@ -156,17 +156,17 @@ module _ (own : LibName) (texts : List CodeNo) (rs : List LibRecord) where
   -- Libraries.
 
   module _ (all : AllBehind [] rs) (texts_only : Each (λ (n : CodeNo). IsOfTexts n.0.library) texts) (new_name : Among (names_of rs) own → ⊥) (no_text : IsOfTexts own → ⊥) where
-    abbrev pub LineNumbers : LibRecord → List CodeNo
+    abbrev pub LineNumbers : CompiledLibrary → List CodeNo
     LineNumbers r = flat_map code_numbers (line_cores r)
 
-    numbers_split : (r : LibRecord) → all_numbers r ≡ LineNumbers r ++ flat_map code_numbers (keywords r)
+    numbers_split : (r : CompiledLibrary) → all_numbers r ≡ LineNumbers r ++ flat_map code_numbers (keywords r)
     numbers_split r = flat_map-append code_numbers (line_cores r) (keywords r)
 
-    once_split : (earlier : List LibRecord) (r : LibRecord) → IsBehind earlier r → Once (LineNumbers r ++ flat_map code_numbers (keywords r))
+    once_split : (earlier : List CompiledLibrary) (r : CompiledLibrary) → IsBehind earlier r → Once (LineNumbers r ++ flat_map code_numbers (keywords r))
     once_split earlier r b = subst Once (numbers_split r) b.numbered_once
 
     -- a code of a record is named by it
-    record_code : (r : LibRecord) → Among rs r → (n : CodeNo) → Among (LineNumbers r) n ⊎ Among (flat_map code_numbers (keywords r)) n → n.0.library ≡ r.name
+    record_code : (r : CompiledLibrary) → Among rs r → (n : CodeNo) → Among (LineNumbers r) n ⊎ Among (flat_map code_numbers (keywords r)) n → n.0.library ≡ r.name
     record_code r a n x = let s = stands [] rs r all a in each_at (λ (m : CodeNo). IsOwn r m.0) (all_numbers r) n s.behind.numbered_here (subst (λ ns. Among ns n) (sym (numbers_split r)) (by x))
       where
         by : Among (LineNumbers r) n ⊎ Among (flat_map code_numbers (keywords r)) n → Among (LineNumbers r ++ flat_map code_numbers (keywords r)) n
@@ -177,11 +177,11 @@ module _ (own : LibName) (texts : List CodeNo) (rs : List LibRecord) where
     keyword_code l c k n a = among_flat code_numbers (keywords k.keeper) c n (keyword_there k.keeper l k.level c k.bound) a
 
     -- no text has the name of a record's code
-    no_text_of : (r : LibRecord) → Among rs r → (n : CodeNo) → n.0.library ≡ r.name → Among texts n → ⊥
+    no_text_of : (r : CompiledLibrary) → Among rs r → (n : CodeNo) → n.0.library ≡ r.name → Among texts n → ⊥
     no_text_of r a n e b = let s = stands [] rs r all a in s.behind.no_text (subst IsOfTexts e (each_at (λ (m : CodeNo). IsOfTexts m.0.library) texts n texts_only b))
 
     -- the codes of the lines of a library that wasn't evaluated aren't there
-    lines_new : (s : PlainStage) → Steady own texts rs s → (r : LibRecord) → Among rs r → has_library s.evaluated r.name ≡ false → AreNew s.codes (LineNumbers r)
+    lines_new : (s : PlainStage) → Steady own texts rs s → (r : CompiledLibrary) → Among rs r → has_library s.evaluated r.name ≡ false → AreNew s.codes (LineNumbers r)
     lines_new s h r a not_yet = each_of (λ n. code_at s.codes n ≡ None) (LineNumbers r) (λ n b. is_none (code_at s.codes n) (λ is. by n b (record_code r a n (inl b)) (h.codes n is)))
       where
         by : (n : CodeNo) → Among (LineNumbers r) n → n.0.library ≡ r.name → HasCode own texts rs s.keywords s.evaluated n → ⊥
@@ -191,10 +191,10 @@ module _ (own : LibName) (texts : List CodeNo) (rs : List LibRecord) where
             let there = keyword_code x.label x.expression x.imported n x.among in
             let same = same_record [] rs x.imported.keeper r all x.imported.among a (sym (record_code x.imported.keeper x.imported.among n (inr there)) ∙ e) in
             let st = stands [] rs r all a in
-            once_apart (LineNumbers r) (flat_map code_numbers (keywords r)) n (once_split st.earlier r st.behind) b (subst (λ (q : LibRecord). Among (flat_map code_numbers (keywords q)) n) same there)
+            once_apart (LineNumbers r) (flat_map code_numbers (keywords r)) n (once_split st.earlier r st.behind) b (subst (λ (q : CompiledLibrary). Among (flat_map code_numbers (keywords q)) n) same there)
         by n b e (line q x is y) =
             let same = same_record [] rs q r all x a (sym (record_code q x n (inl y)) ∙ e) in
-            let again : has_library s.evaluated r.name ≡ true = subst (λ (z : LibRecord). has_library s.evaluated z.name ≡ true) same is in
+            let again : has_library s.evaluated r.name ≡ true = subst (λ (z : CompiledLibrary). has_library s.evaluated z.name ≡ true) same is in
             absurd (cc)
 
     -- nor are those of the expression of an imported keyword that isn't kept
@@ -222,14 +222,14 @@ module _ (own : LibName) (texts : List CodeNo) (rs : List LibRecord) where
         by n b e (ours x) = new_name (subst (Among (names_of rs)) (sym e ∙ x.code_here) (name_of rs k.keeper k.among))
         by n b e (imported x) =
             let same = same_record [] rs x.imported.keeper k.keeper all x.imported.among k.among (sym (record_code x.imported.keeper x.imported.among n (inr (keyword_code x.label x.expression x.imported n x.among))) ∙ e) in
-            let row : Among k.keeper.bindings (x.label, binding.Macro x.imported.level (Some x.expression)) = subst (λ (q : LibRecord). Among q.bindings (x.label, binding.Macro x.imported.level (Some x.expression))) same x.imported.bound in
+            let row : Among k.keeper.bindings (x.label, binding.Macro x.imported.level (Some x.expression)) = subst (λ (q : CompiledLibrary). Among q.bindings (x.label, binding.Macro x.imported.level (Some x.expression))) same x.imported.bound in
             let one = one_place numbers k.keeper.bindings (l, binding.Macro k.level (Some c)) (x.label, binding.Macro x.imported.level (Some x.expression)) n once k.bound row (alone c n b) (alone x.expression n x.among) in
             let is : l ≡ x.label = ap (λ (p : Label × Binding). p.0) one in
             let bad : None ≡ Some (keyword.Kept None x.value) = sym unknown ∙ ap (keyword_at s.keywords) is ∙ x.kept in
             absurd (cc)
         by n b e (line q x is y) =
             let same = same_record [] rs q k.keeper all x k.among (sym (record_code q x n (inl y)) ∙ e) in
-            once_apart (LineNumbers k.keeper) (flat_map code_numbers (keywords k.keeper)) n (once_split st.earlier k.keeper st.behind) (subst (λ (z : LibRecord). Among (LineNumbers z) n) same y) (keyword_code l c k n b)
+            once_apart (LineNumbers k.keeper) (flat_map code_numbers (keywords k.keeper)) n (once_split st.earlier k.keeper st.behind) (subst (λ (z : CompiledLibrary). Among (LineNumbers z) n) same y) (keyword_code l c k n b)
 
     -- nor those of an own one that no other has
     pub own_new : (s : PlainStage) → Steady own texts rs s → (c : PlainCore) → Each (λ (n : CodeNo). n.0.library ≡ own) (code_numbers c) → Each (λ n. OwnHasCode own s.keywords n → ⊥) (code_numbers c)
@@ -245,9 +245,9 @@ module _ (own : LibName) (texts : List CodeNo) (rs : List LibRecord) where
         by n e not_ours (line q x is y) = new_name (subst (Among (names_of rs)) (sym (record_code q x n (inl y)) ∙ e) (name_of rs q x))
 
     -- A library whose references were evaluated is evaluated.
-    module _ (place : Span) (r : LibRecord) (s : PlainStage) (h : Steady own texts rs s) (among : Among rs r) (earlier : List LibRecord) (behind : IsBehind earlier r)
-        (inside : (q : LibRecord) → Among earlier q → Among rs q) (not_yet : has_library s.evaluated r.name ≡ false)
-        (refs : (q : LibRecord) → Among earlier q → has_library r.refs q.name ≡ true → has_library s.evaluated q.name ≡ true) where
+    module _ (place : Span) (r : CompiledLibrary) (s : PlainStage) (h : Steady own texts rs s) (among : Among rs r) (earlier : List CompiledLibrary) (behind : IsBehind earlier r)
+        (inside : (q : CompiledLibrary) → Among earlier q → Among rs q) (not_yet : has_library s.evaluated r.name ≡ false)
+        (refs : (q : CompiledLibrary) → Among earlier q → has_library r.refs q.name ≡ true → has_library s.evaluated q.name ≡ true) where
       abbrev u : PlainSetting
       u = setting_on (with_lines r.run s.codes) s
 
@@ -316,9 +316,9 @@ module _ (own : LibName) (texts : List CodeNo) (rs : List LibRecord) where
           by n (inl x) = more_lines r.name s.keywords s.evaluated n (h.codes n x)
           by n (inr a) = line r among (with_has s.evaluated r.name) a
 
-          known : (q : LibRecord) → Among rs q → (has_library s.evaluated q.name ≡ true) ⊎ (q.name ≡ r.name) → AreFound (left_by_library r s t n).globals (defined q)
+          known : (q : CompiledLibrary) → Among rs q → (has_library s.evaluated q.name ≡ true) ⊎ (q.name ≡ r.name) → AreFound (left_by_library r s t n).globals (defined q)
           known q a (inl e) = each_of (λ (l : Label). IsTrue (is_found (lookup (same_label l) (left_by_library r s t n).globals))) (defined q) (λ l b. w.kept.globals l (global_there s h q a e l b))
-          known q a (inr e) = subst (λ (z : LibRecord). AreFound (left_by_library r s t n).globals (defined z)) (sym (same_record [] rs q r all a among e)) w.defined
+          known q a (inr e) = subst (λ (z : CompiledLibrary). AreFound (left_by_library r s t n).globals (defined z)) (sym (same_record [] rs q r all a among e)) w.defined
       ran (faulted x t n) w k o = o
       ran unfit w k o = absurd w
 

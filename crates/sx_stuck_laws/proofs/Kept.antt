@@ -9,10 +9,10 @@ use Rattle.sx_base.specs.declared.name.Label.{Label}
 use Rattle.sx_base.specs.declared.span.Span.{Span}
 use Rattle.sx_tree.specs.Tree.{Tree}
 use Rattle.sx_core.specs.Core.{PlainCore}
-use Rattle.sx_core.specs.declared.record.LibRecord.{LibRecord}
+use Rattle.sx_core.specs.declared.record.CompiledLibrary.{CompiledLibrary}
 use Rattle.sx_value.specs.declared.value.Value.{Value}
 use Rattle.sx_stage.specs.Stage.{PlainStage, keyword_at, with_keyword}
-use Rattle.sx_stage.specs.Transformers.{transformer, begin_keyword, finish_keyword, value_in, import_keyword, value_or, keyword_value, is_variable, is_variable_transformer}
+use Rattle.sx_stage.specs.Transformers.{transformer, begin_keyword, evaluate_transformer, value_in, import_keyword, value_or, keyword_value, is_variable, is_variable_transformer}
 use Rattle.sx_stage.specs.Uses.{used}
 use Rattle.sx_stage.specs.declared.keyword.Keyword.{Keyword}
 use Rattle.sx_stage.specs.declared.keyword.Keyword.TheVariants as keyword
@@ -51,15 +51,15 @@ begin_keeps l place s m e v h = by (label_cases m l)
         absurd (cc)
     by (inr other) = inl (sym (put_other s.keywords l m (keyword.Waiting place) other) ∙ h)
 
-pub finish_keeps : (place : Span) (rs : List LibRecord) (l : Label) (c : PlainCore) (s : PlainStage) → By (KeptFrom (Is l)) s (finish_keyword place rs l c s)
-unfolding finish_keyword
+pub finish_keeps : (place : Span) (rs : List CompiledLibrary) (l : Label) (c : PlainCore) (s : PlainStage) → By (KeptFrom (Is l)) s (evaluate_transformer place rs l c s)
+unfolding evaluate_transformer
 finish_keeps place rs l c s = by (transformer place rs c s) (stays_transformer place rs c s)
   where
     by : (r : Result (Value × PlainStage) Fault) → By Stays s r → By (KeptFrom (Is l)) s (after r (λ v t. give (tt {0}) (with_keyword l (keyword.Kept (Some c) v) t)))
     by (Ok p) h = kept_put l (keyword.Kept (Some c) p.0) s p.1 h.keywords
     by (Err f) h = tt
 
-import_keeps : (place : Span) (rs : List LibRecord) (l : Label) (e : Option PlainCore) (s : PlainStage) → By (KeptFrom (IsWith l e)) s (import_keyword place rs l e s)
+import_keeps : (place : Span) (rs : List CompiledLibrary) (l : Label) (e : Option PlainCore) (s : PlainStage) → By (KeptFrom (IsWith l e)) s (import_keyword place rs l e s)
 unfolding import_keyword
 import_keeps place rs l None s = tt
 import_keeps place rs l (Some c) s = by (transformer place rs c s) (stays_transformer place rs c s)
@@ -68,7 +68,7 @@ import_keeps place rs l (Some c) s = by (transformer place rs c s) (stays_transf
     by (Ok p) h = kept_put l (keyword.Kept None p.0) s p.1 h.keywords
     by (Err f) h = tt
 
-pub value_keeps : (place : Span) (rs : List LibRecord) (l : Label) (e : Option PlainCore) (s : PlainStage) → By (KeptFrom (IsWith l e)) s (keyword_value place rs l e s)
+pub value_keeps : (place : Span) (rs : List CompiledLibrary) (l : Label) (e : Option PlainCore) (s : PlainStage) → By (KeptFrom (IsWith l e)) s (keyword_value place rs l e s)
 unfolding keyword_value
 value_keeps place rs l e s = by (keyword_at s.keywords l)
   where
@@ -77,7 +77,7 @@ value_keeps place rs l e s = by (keyword_at s.keywords l)
     by (Some (keyword.Waiting at)) = tt
     by (Some (keyword.Kept x v)) = λ m f w k. inl k
 
-pub asks_keep : (place : Span) (rs : List LibRecord) (l : Label) (e : Option PlainCore) (s : PlainStage) → By (KeptFrom (IsWith l e)) s (is_variable_transformer place rs l e s)
+pub asks_keep : (place : Span) (rs : List CompiledLibrary) (l : Label) (e : Option PlainCore) (s : PlainStage) → By (KeptFrom (IsWith l e)) s (is_variable_transformer place rs l e s)
 unfolding is_variable_transformer
 asks_keep place rs l e s = by (keyword_value place rs l e s) (value_keeps place rs l e s)
   where
@@ -85,7 +85,7 @@ asks_keep place rs l e s = by (keyword_value place rs l e s) (value_keeps place 
     by (Ok p) h = h
     by (Err f) h = tt
 
-pub use_keeps : (place : Span) (rs : List LibRecord) (form : Tree) (l : Label) (e : Option PlainCore) (frame : Option FrameNo) (s : PlainStage) → By (KeptFrom (IsWith l e)) s (used place rs form l e frame s)
+pub use_keeps : (place : Span) (rs : List CompiledLibrary) (form : Tree) (l : Label) (e : Option PlainCore) (frame : Option FrameNo) (s : PlainStage) → By (KeptFrom (IsWith l e)) s (used place rs form l e frame s)
 use_keeps place rs form l e frame s = by (used place rs form l e frame s) refl
   where
     by : (r : Result (Tree × PlainStage) Fault) → used place rs form l e frame s ≡ r → By (KeptFrom (IsWith l e)) s r

@@ -14,7 +14,7 @@ use Rattle.sx_tree.specs.Changes.{enter}
 use Rattle.sx_tree.specs.Tree.{Tree}
 use Rattle.sx_core.specs.Core.{PlainCore}
 use Rattle.sx_core.specs.References.{references}
-use Rattle.sx_core.specs.declared.record.LibRecord.{LibRecord}
+use Rattle.sx_core.specs.declared.record.CompiledLibrary.{CompiledLibrary}
 use Rattle.sx_core_laws.specs.Words.{Each, Among}
 use Rattle.sx_core_laws.specs.Follows.{names_of}
 use Rattle.sx_core_laws.specs.Parts.{code_numbers}
@@ -32,7 +32,7 @@ use Rattle.sx_whole_laws.proofs.Stuck.{applied_never_stuck}
 use Rattle.sx_stage.specs.Libraries.{has_library, has_all, libraries_of, wanted}
 use Rattle.sx_stage.specs.Running.{state_on, ended_at, outcome_of_call, evaluate, call, evaluate_library, evaluate_wanted, evaluate_all, need}
 use Rattle.sx_stage.specs.Stage.{PlainStage, Does, fresh_mark, keyword_at, with_keyword, not_transformer}
-use Rattle.sx_stage.specs.Transformers.{is_variable, is_transformer, transformer_only, transformer, begin_keyword, finish_keyword, value_in, import_keyword, value_or, keyword_value, is_variable_transformer}
+use Rattle.sx_stage.specs.Transformers.{is_variable, is_transformer, transformer_only, transformer, begin_keyword, evaluate_transformer, value_in, import_keyword, value_or, keyword_value, is_variable_transformer}
 use Rattle.sx_stage.specs.Uses.{procedure_in, call_procedure, tree_at, read_answer, transform, transform_and_cut, transform_marked, used}
 use Rattle.sx_stage.specs.declared.keyword.Keyword.{Keyword}
 use Rattle.sx_stage.specs.declared.keyword.Keyword.TheVariants as keyword
@@ -42,7 +42,7 @@ use Rattle.sx_stage_laws.specs.Uses.{OnlyCounts}
 use Rattle.sx_stage_laws.proofs.Calling.{uses_drop}
 use Rattle.sx_stage_laws.proofs.Sweeping.{wanted_reached, reached_wanted}
 use Rattle.sx_stage_laws.proofs.Sweeping.{all_has}
-use Rattle.sx_stuck_laws.specs.Behind.{IsOfTexts, IsBehind, AllBehind, IsImported, IsExpression}
+use Rattle.sx_stuck_laws.specs.Behind.{IsOfTexts, IsBehind, AllBehind, IsImported, IsKeywordExpression}
 use Rattle.sx_stuck_laws.specs.Kinds.{TellsOther}
 use Rattle.sx_stuck_laws.specs.Steady.{OwnHasCode, HasCode, text, ours, imported, line, world_of, IsReadyOn, Steady, Ends, EndsSteady, EndsReady}
 use Rattle.sx_stuck_laws.specs.Uses.{UsesNeverStuck, TransformersNeverStuck, AsksNeverStuck, BeginsNeverStuck, FinishesNeverStuck}
@@ -69,12 +69,12 @@ ends-if P true r q h k = h refl
 ends-if P false r q h k = k refl
 
 -- A stage that differs in names and in what was spent is as steady.
-pub steady_counts : (own : LibName) (texts : List CodeNo) (rs : List LibRecord) (s t : PlainStage) → OnlyCounts s t → Steady own texts rs s → Steady own texts rs t
+pub steady_counts : (own : LibName) (texts : List CodeNo) (rs : List CompiledLibrary) (s t : PlainStage) → OnlyCounts s t → Steady own texts rs s → Steady own texts rs t
 steady_counts own texts rs s t e h = subst (Steady own texts rs) (sym e) (record { whole = h.whole; kept = h.kept; codes = h.codes; defined = h.defined })
 
 -- Something is put down of a keyword that wasn't kept.
 
-module _ (own : LibName) (texts : List CodeNo) (rs : List LibRecord) (l : Label) (k : Keyword) where
+module _ (own : LibName) (texts : List CodeNo) (rs : List CompiledLibrary) (l : Label) (k : Keyword) where
   module _ (ks : List (Label × Keyword)) (free : IsNotKept (keyword_at ks l)) where
     kept_other : (m : Label) (e : Option PlainCore) (v : Value) → keyword_at ks m ≡ Some (keyword.Kept e v) → keyword_at (put ks l k) m ≡ Some (keyword.Kept e v)
     kept_other m e v h = put_other ks l m k (λ is. subst IsNotKept (ap (keyword_at ks) (sym is) ∙ h) free) ∙ h
@@ -106,7 +106,7 @@ module _ (own : LibName) (texts : List CodeNo) (rs : List LibRecord) (l : Label)
           ready e v (cc)
       by m e v is (inr other) = h.kept m e v (sym (put_other t.keywords l m k other) ∙ is)
 
-module _ (own : LibName) (texts : List CodeNo) (rs : List LibRecord) (new_name : Among (names_of rs) own → ⊥) (no_text : IsOfTexts own → ⊥) (texts_only : Each (λ (n : CodeNo). IsOfTexts n.0.library) texts)
+module _ (own : LibName) (texts : List CodeNo) (rs : List CompiledLibrary) (new_name : Among (names_of rs) own → ⊥) (no_text : IsOfTexts own → ⊥) (texts_only : Each (λ (n : CodeNo). IsOfTexts n.0.library) texts)
     (all : AllBehind [] rs) where
   -- more libraries were evaluated, and that is all
   pub record On (s t : PlainStage) : Type 0 where
@@ -125,12 +125,12 @@ module _ (own : LibName) (texts : List CodeNo) (rs : List LibRecord) (new_name :
 
   -- Libraries on demand.
 
-  module _ (place : Span) (ks : List LibName) (closed : (r : LibRecord) (k : LibName) → Among rs r → has_library ks r.name ≡ true → has_library r.refs k ≡ true → has_library ks k ≡ true) where
+  module _ (place : Span) (ks : List LibName) (closed : (r : CompiledLibrary) (k : LibName) → Among rs r → has_library ks r.name ≡ true → has_library r.refs k ≡ true → has_library ks k ≡ true) where
     -- those of these records that are wanted were evaluated
-    abbrev Done : List LibRecord → PlainStage → Type 0
-    Done qs s = (q : LibRecord) → Among qs q → has_library ks q.name ≡ true → has_library s.evaluated q.name ≡ true
+    abbrev Done : List CompiledLibrary → PlainStage → Type 0
+    Done qs s = (q : CompiledLibrary) → Among qs q → has_library ks q.name ≡ true → has_library s.evaluated q.name ≡ true
 
-    wanted_on : (earlier : List LibRecord) (r : LibRecord) (s : PlainStage) → Steady own texts rs s → IsBehind earlier r → ((q : LibRecord) → Among earlier q → Among rs q) → Among rs r → Done earlier s
+    wanted_on : (earlier : List CompiledLibrary) (r : CompiledLibrary) (s : PlainStage) → Steady own texts rs s → IsBehind earlier r → ((q : CompiledLibrary) → Among earlier q → Among rs q) → Among rs r → Done earlier s
         → Ends (λ x t. On s t × (has_library ks r.name ≡ true → has_library t.evaluated r.name ≡ true)) (evaluate_wanted place ks r s)
     unfolding evaluate_wanted
     wanted_on earlier r s h b inside among had =
@@ -142,7 +142,7 @@ module _ (own : LibName) (texts : List CodeNo) (rs : List LibRecord) (new_name :
         (λ x t k. (on_went s t k.0, (λ w. k.1)))))
         (λ e. (on_self s h, (λ w. let bad = w in absurd (cc))))
 
-    all_on : (before qs : List LibRecord) (s : PlainStage) → Steady own texts rs s → AllBehind before qs → ((q : LibRecord) → Among before q → Among rs q) → ((q : LibRecord) → Among qs q → Among rs q) → Done before s
+    all_on : (before qs : List CompiledLibrary) (s : PlainStage) → Steady own texts rs s → AllBehind before qs → ((q : CompiledLibrary) → Among before q → Among rs q) → ((q : CompiledLibrary) → Among qs q → Among rs q) → Done before s
         → Ends (λ x t. On s t × (Done before t × Done qs t)) (evaluate_all place ks qs s)
     unfolding evaluate_all
     all_on before [] s h b inside sub had = (on_self s h, (had, (λ q a w. absurd a)))
@@ -153,20 +153,20 @@ module _ (own : LibName) (texts : List CodeNo) (rs : List LibRecord) (new_name :
         (all_on (before ++ r ∷ []) qs t k.0.steady b.1 (λ q a. there q (among_parts before (r ∷ []) q a)) (λ q a. sub q (inr a)) (λ q a w. now t k q w (among_parts before (r ∷ []) q a)))
         (λ y u j. (on_then s t u k.0 j.0, ((λ q a w. j.1.0 q (among_first before (r ∷ []) q a) w), (λ q a w. last u j.1.0 j.1.1 q a w)))))
       where
-        there : (q : LibRecord) → Among before q ⊎ Among (r ∷ []) q → Among rs q
+        there : (q : CompiledLibrary) → Among before q ⊎ Among (r ∷ []) q → Among rs q
         there q (inl a) = inside q a
         there q (inr (inl e)) = sub q (inl e)
         there q (inr (inr a)) = absurd a
 
-        now : (t : PlainStage) → On s t × (has_library ks r.name ≡ true → has_library t.evaluated r.name ≡ true) → (q : LibRecord) → has_library ks q.name ≡ true → Among before q ⊎ Among (r ∷ []) q → has_library t.evaluated q.name ≡ true
+        now : (t : PlainStage) → On s t × (has_library ks r.name ≡ true → has_library t.evaluated r.name ≡ true) → (q : CompiledLibrary) → has_library ks q.name ≡ true → Among before q ⊎ Among (r ∷ []) q → has_library t.evaluated q.name ≡ true
         now t k q w (inl a) = k.0.evaluated q.name (had q a w)
-        now t k q w (inr (inl e)) = subst (λ (z : LibRecord). has_library t.evaluated z.name ≡ true) (sym e) (k.1 (subst (λ (z : LibRecord). has_library ks z.name ≡ true) e w))
+        now t k q w (inr (inl e)) = subst (λ (z : CompiledLibrary). has_library t.evaluated z.name ≡ true) (sym e) (k.1 (subst (λ (z : CompiledLibrary). has_library ks z.name ≡ true) e w))
         now t k q w (inr (inr a)) = absurd a
 
-        last : (u : PlainStage) → Done (before ++ r ∷ []) u → Done qs u → (q : LibRecord) → Among (r ∷ qs) q → has_library ks q.name ≡ true → has_library u.evaluated q.name ≡ true
+        last : (u : PlainStage) → Done (before ++ r ∷ []) u → Done qs u → (q : CompiledLibrary) → Among (r ∷ qs) q → has_library ks q.name ≡ true → has_library u.evaluated q.name ≡ true
         last u d e q (inl is) w = d q (own_last before q is) w
           where
-            own_last : (xs : List LibRecord) (q : LibRecord) → q ≡ r → Among (xs ++ r ∷ []) q
+            own_last : (xs : List CompiledLibrary) (q : CompiledLibrary) → q ≡ r → Among (xs ++ r ∷ []) q
             own_last [] q is = inl is
             own_last (x ∷ xs) q is = inr (own_last xs q is)
         last u d e q (inr a) w = e q a w
@@ -186,7 +186,7 @@ module _ (own : LibName) (texts : List CodeNo) (rs : List LibRecord) (new_name :
         back : RefersBack rs
         back = refers_back [] rs all
 
-        closed : (r : LibRecord) (k : LibName) → Among rs r → has_library (wanted rs (libraries_of c)) r.name ≡ true → has_library r.refs k ≡ true → has_library (wanted rs (libraries_of c)) k ≡ true
+        closed : (r : CompiledLibrary) (k : LibName) → Among rs r → has_library (wanted rs (libraries_of c)) r.name ≡ true → has_library r.refs k ≡ true → has_library (wanted rs (libraries_of c)) k ≡ true
         closed r k a w i = reached_wanted rs (libraries_of c) k back (further r k a (wanted_reached rs (libraries_of c) r.name w) i)
 
         mentions_library : (l : Label) (a : Among f.given l) → Among (references c) l → has_library (libraries_of c) (f.from l a).definer.name ≡ true
@@ -216,9 +216,9 @@ module _ (own : LibName) (texts : List CodeNo) (rs : List LibRecord) (new_name :
     not_kept : (s t : PlainStage) (l : Label) → t.keywords ≡ s.keywords → IsNotKept (keyword_at s.keywords l) → IsNotKept (keyword_at t.keywords l)
     not_kept s t l e h = subst (λ ks. IsNotKept (keyword_at ks l)) (sym e) h
 
-    pub finishes : (l : Label) (c : PlainCore) (s : PlainStage) → Steady own texts rs s → l.0.library ≡ own → IsNotKept (keyword_at s.keywords l) → IsExpression rs c → Each (λ (n : CodeNo). n.0.library ≡ own) (code_numbers c)
-        → Each (λ n. OwnHasCode own s.keywords n → ⊥) (code_numbers c) → EndsSteady own texts rs (finish_keyword place rs l c s)
-    unfolding finish_keyword
+    pub finishes : (l : Label) (c : PlainCore) (s : PlainStage) → Steady own texts rs s → l.0.library ≡ own → IsNotKept (keyword_at s.keywords l) → IsKeywordExpression rs c → Each (λ (n : CodeNo). n.0.library ≡ own) (code_numbers c)
+        → Each (λ n. OwnHasCode own s.keywords n → ⊥) (code_numbers c) → EndsSteady own texts rs (evaluate_transformer place rs l c s)
+    unfolding evaluate_transformer
     finishes l c s h here free x codes apart =
         ends-after (λ v t. Went own texts rs (code_numbers c) s t × IsReadyOn t v) (λ y t. Steady own texts rs t) (transformer place rs c s) (λ v t. give tt (with_keyword l (keyword.Kept (Some c) v) t))
         (transformer_went c (expression_free rs c x) s h

@@ -7,7 +7,7 @@ use Rattle.sx_base.specs.declared.name.Label.{Label}
 use Rattle.sx_core.specs.Core.{PlainCore}
 use Rattle.sx_core.specs.References.{references, binders}
 use Rattle.sx_core.specs.declared.binding.Binding.TheVariants as binding
-use Rattle.sx_core.specs.declared.record.LibRecord.{LibRecord}
+use Rattle.sx_core.specs.declared.record.CompiledLibrary.{CompiledLibrary}
 use Rattle.sx_core_laws.specs.Words.{Each, Among, Once}
 use Rattle.sx_core_laws.specs.Scope.{Closed}
 use Rattle.sx_core_laws.specs.WellMade.{IsWellMade}
@@ -20,13 +20,13 @@ abbrev pub IsOfTexts : LibName → Type 0
 IsOfTexts l = (l ≡ library.Core) ⊎ (l ≡ library.Prelude)
 
 -- a label of the record's own library, or of one that it refers to
-abbrev pub IsReferred : LibRecord → Label → Type 0
+abbrev pub IsReferred : CompiledLibrary → Label → Type 0
 IsReferred r l = IsOwn r l.0 ⊎ (has_library r.refs l.0.library ≡ true)
 
 -- A record behind others: its library has a name of its own, and it binds labels of its own. Its lines are closed under what these and it define, its keywords under what
 -- these define; both are well made. Each binder and each code is named by its library, and no two codes have one name. It refers to the libraries
 -- whose variables its lines mention, and to none but these records'.
-pub record IsBehind (earlier : List LibRecord) (r : LibRecord) : Type 0 where
+pub record IsBehind (earlier : List CompiledLibrary) (r : CompiledLibrary) : Type 0 where
   pub new : Among (names_of earlier) r.name → ⊥
   pub no_text : IsOfTexts r.name → ⊥
   pub bindings_here : Each (λ l. IsOwn r l.0) (bound_labels r)
@@ -40,24 +40,24 @@ pub record IsBehind (earlier : List LibRecord) (r : LibRecord) : Type 0 where
   pub known : (k : LibName) → has_library r.refs k ≡ true → Among (names_of earlier) k
 
 -- behind some records, each of these stands behind those before it
-abbrev pub AllBehind : List LibRecord → List LibRecord → Type 0
+abbrev pub AllBehind : List CompiledLibrary → List CompiledLibrary → Type 0
 AllBehind earlier [] = Unit {0}
 AllBehind earlier (r ∷ rs) = IsBehind earlier r × AllBehind (earlier ++ r ∷ []) rs
 
 -- the keyword of one of these records, with its expression
-pub record IsKeywordOf (rs : List LibRecord) (l : Label) (c : PlainCore) : Type 0 where
-  pub keeper : LibRecord
+pub record IsKeywordOf (rs : List CompiledLibrary) (l : Label) (c : PlainCore) : Type 0 where
+  pub keeper : CompiledLibrary
   pub among : Among rs keeper
   pub level : ℕ
   pub bound : Among keeper.bindings (l, binding.Macro level (Some c))
 
 -- what the binding of an imported keyword tells
-abbrev pub IsImported : List LibRecord → Label → Option PlainCore → Type 0
+abbrev pub IsImported : List CompiledLibrary → Label → Option PlainCore → Type 0
 IsImported rs l None = Unit {0}
 IsImported rs l (Some c) = IsKeywordOf rs l c
 
 -- the expression of a keyword that stands behind these records
-pub record IsExpression (rs : List LibRecord) (c : PlainCore) : Type 0 where
+pub record IsKeywordExpression (rs : List CompiledLibrary) (c : PlainCore) : Type 0 where
   pub closed : Closed (flat_map defined rs) c
   pub well_made : IsWellMade [] c
   -- it binds nothing that these define

@@ -6,7 +6,7 @@ use Rattle.sx_base.specs.declared.library.LibName.{LibName}
 use Rattle.sx_base.specs.declared.name.CodeNo.{CodeNo}
 use Rattle.sx_base.specs.declared.name.Label.{Label}
 use Rattle.sx_core.specs.Core.{PlainCore}
-use Rattle.sx_core.specs.declared.record.LibRecord.{LibRecord}
+use Rattle.sx_core.specs.declared.record.CompiledLibrary.{CompiledLibrary}
 use Rattle.sx_core_laws.specs.Words.{Among}
 use Rattle.sx_core_laws.specs.Parts.{code_numbers}
 use Rattle.sx_core_laws.specs.Records.{defined}
@@ -36,7 +36,7 @@ pub record OwnHasCode (own : LibName) (keywords : List (Label × Keyword)) (n : 
   pub label_here : label.0.library ≡ own
   pub code_here : n.0.library ≡ own
 
-pub record ImportedHasCode (rs : List LibRecord) (keywords : List (Label × Keyword)) (n : CodeNo) : Type 0 where
+pub record ImportedHasCode (rs : List CompiledLibrary) (keywords : List (Label × Keyword)) (n : CodeNo) : Type 0 where
   pub label : Label
   pub expression : PlainCore
   pub value : Value
@@ -46,11 +46,11 @@ pub record ImportedHasCode (rs : List LibRecord) (keywords : List (Label × Keyw
 
 -- Why the code of a procedure stands on a stage: it is that of a text, it stands in the expression of such a keyword, or in the lines of a library
 -- that was evaluated.
-pub data HasCode (own : LibName) (texts : List CodeNo) (rs : List LibRecord) (keywords : List (Label × Keyword)) (evaluated : List LibName) (n : CodeNo) : Type 0 where
+pub data HasCode (own : LibName) (texts : List CodeNo) (rs : List CompiledLibrary) (keywords : List (Label × Keyword)) (evaluated : List LibName) (n : CodeNo) : Type 0 where
   text : Among texts n → HasCode own texts rs keywords evaluated n
   ours : OwnHasCode own keywords n → HasCode own texts rs keywords evaluated n
   imported : ImportedHasCode rs keywords n → HasCode own texts rs keywords evaluated n
-  line : (r : LibRecord) → Among rs r → has_library evaluated r.name ≡ true → Among (flat_map code_numbers (line_cores r)) n → HasCode own texts rs keywords evaluated n
+  line : (r : CompiledLibrary) → Among rs r → has_library evaluated r.name ≡ true → Among (flat_map code_numbers (line_cores r)) n → HasCode own texts rs keywords evaluated n
 
 abbrev pub world_of : PlainStage → PlainSetting
 world_of s = setting_on s.codes s
@@ -60,20 +60,20 @@ IsReadyOn s v = ValueReady (world_of s) s.cells v
 
 -- Of a library behind some records, and with the codes of these texts: its world is whole, what is kept is ready, each code stands for one of these
 -- reasons, and the variables of a library that was evaluated have values.
-pub record Steady (own : LibName) (texts : List CodeNo) (rs : List LibRecord) (s : PlainStage) : Type 0 where
+pub record Steady (own : LibName) (texts : List CodeNo) (rs : List CompiledLibrary) (s : PlainStage) : Type 0 where
   pub whole : WholeWorld (world_of s) s.cells
   pub kept : (l : Label) (e : Option PlainCore) (v : Value) → keyword_at s.keywords l ≡ Some (keyword.Kept e v) → IsReadyOn s v
   pub codes : (n : CodeNo) → IsTrue (is_found (code_at s.codes n)) → HasCode own texts rs s.keywords s.evaluated n
-  pub defined : (r : LibRecord) → Among rs r → has_library s.evaluated r.name ≡ true → AreFound s.globals (defined r)
+  pub defined : (r : CompiledLibrary) → Among rs r → has_library s.evaluated r.name ≡ true → AreFound s.globals (defined r)
 
 -- this holds of what is given and of the stage that is left, or there is a fault that isn't that of cells that don't fit
 abbrev pub Ends : {A : Type 0} → (A → PlainStage → Type 0) → Result (A × PlainStage) Fault → Type 0
 Ends P (Ok p) = P p.0 p.1
 Ends P (Err f) = NotStuck f.kind
 
-abbrev pub EndsSteady : {A : Type 0} → LibName → List CodeNo → List LibRecord → Result (A × PlainStage) Fault → Type 0
+abbrev pub EndsSteady : {A : Type 0} → LibName → List CodeNo → List CompiledLibrary → Result (A × PlainStage) Fault → Type 0
 EndsSteady own texts rs r = Ends (λ a t. Steady own texts rs t) r
 
 -- the value is ready there
-abbrev pub EndsReady : LibName → List CodeNo → List LibRecord → Result (Value × PlainStage) Fault → Type 0
+abbrev pub EndsReady : LibName → List CodeNo → List CompiledLibrary → Result (Value × PlainStage) Fault → Type 0
 EndsReady own texts rs r = Ends (λ v t. Steady own texts rs t × IsReadyOn t v) r

@@ -7,51 +7,51 @@ use Rattle.sx_base.specs.declared.name.Label.{Label}
 use Rattle.sx_base.specs.declared.span.Span.{Span}
 use Rattle.sx_tree.specs.Tree.{Tree}
 use Rattle.sx_core.specs.Core.{PlainCore}
-use Rattle.sx_core.specs.declared.record.LibRecord.{LibRecord}
+use Rattle.sx_core.specs.declared.record.CompiledLibrary.{CompiledLibrary}
 use Rattle.sx_core_laws.specs.Words.{Each, Among}
 use Rattle.sx_core_laws.specs.Parts.{code_numbers}
 use Rattle.sx_core_laws.specs.Follows.{names_of}
 use Rattle.sx_stage.specs.Stage.{PlainStage, keyword_at}
-use Rattle.sx_stage.specs.Transformers.{begin_keyword, finish_keyword, keyword_value, is_variable_transformer}
+use Rattle.sx_stage.specs.Transformers.{begin_keyword, evaluate_transformer, keyword_value, is_variable_transformer}
 use Rattle.sx_stage.specs.Uses.{used}
 use Rattle.sx_stage_laws.specs.Grows.{IsNotKept}
-use Rattle.sx_stuck_laws.specs.Behind.{IsOfTexts, AllBehind, IsImported, IsExpression}
+use Rattle.sx_stuck_laws.specs.Behind.{IsOfTexts, AllBehind, IsImported, IsKeywordExpression}
 use Rattle.sx_stuck_laws.specs.Steady.{OwnHasCode, Steady, EndsSteady, EndsReady}
 
 -- A library with a new name, behind records that stand behind one another. The texts have names of their own.
-pub record Around (own : LibName) (texts : List CodeNo) (rs : List LibRecord) : Type 0 where
+pub record Around (own : LibName) (texts : List CodeNo) (rs : List CompiledLibrary) : Type 0 where
   pub new : Among (names_of rs) own → ⊥
   pub no_text : IsOfTexts own → ⊥
   pub texts_only : Each (λ (n : CodeNo). IsOfTexts n.0.library) texts
   pub behind : AllBehind [] rs
 
 -- its stage, which is steady
-pub record OnSteady (own : LibName) (texts : List CodeNo) (rs : List LibRecord) (s : PlainStage) : Type 0 where
+pub record OnSteady (own : LibName) (texts : List CodeNo) (rs : List CompiledLibrary) (s : PlainStage) : Type 0 where
   pub around : Around own texts rs
   pub steady : Steady own texts rs s
 
 -- a use of a keyword, an imported one included, whose libraries and transformer are evaluated first
 abbrev pub UsesNeverStuck : Type 0
-UsesNeverStuck = (own : LibName) (texts : List CodeNo) (place : Span) (rs : List LibRecord) (form : Tree) (l : Label) (e : Option PlainCore) (frame : Option FrameNo) (s : PlainStage)
+UsesNeverStuck = (own : LibName) (texts : List CodeNo) (place : Span) (rs : List CompiledLibrary) (form : Tree) (l : Label) (e : Option PlainCore) (frame : Option FrameNo) (s : PlainStage)
     → OnSteady own texts rs s → IsImported rs l e → EndsSteady own texts rs (used place rs form l e frame s)
 
 -- the transformer that it is used by
 abbrev pub TransformersNeverStuck : Type 0
-TransformersNeverStuck = (own : LibName) (texts : List CodeNo) (place : Span) (rs : List LibRecord) (l : Label) (e : Option PlainCore) (s : PlainStage)
+TransformersNeverStuck = (own : LibName) (texts : List CodeNo) (place : Span) (rs : List CompiledLibrary) (l : Label) (e : Option PlainCore) (s : PlainStage)
     → OnSteady own texts rs s → IsImported rs l e → EndsReady own texts rs (keyword_value place rs l e s)
 
 -- whether assignments are uses of it
 abbrev pub AsksNeverStuck : Type 0
-AsksNeverStuck = (own : LibName) (texts : List CodeNo) (place : Span) (rs : List LibRecord) (l : Label) (e : Option PlainCore) (s : PlainStage)
+AsksNeverStuck = (own : LibName) (texts : List CodeNo) (place : Span) (rs : List CompiledLibrary) (l : Label) (e : Option PlainCore) (s : PlainStage)
     → OnSteady own texts rs s → IsImported rs l e → EndsSteady own texts rs (is_variable_transformer place rs l e s)
 
 -- a keyword that waits for its expression
 abbrev pub BeginsNeverStuck : Type 0
-BeginsNeverStuck = (own : LibName) (texts : List CodeNo) (place : Span) (rs : List LibRecord) (l : Label) (s : PlainStage)
+BeginsNeverStuck = (own : LibName) (texts : List CodeNo) (place : Span) (rs : List CompiledLibrary) (l : Label) (s : PlainStage)
     → OnSteady own texts rs s → IsNotKept (keyword_at s.keywords l) → EndsSteady own texts rs (begin_keyword l place s)
 
 -- an own keyword that is finished: its expression has codes of the library, none of them in that of another keyword that is kept
 abbrev pub FinishesNeverStuck : Type 0
-FinishesNeverStuck = (own : LibName) (texts : List CodeNo) (place : Span) (rs : List LibRecord) (l : Label) (c : PlainCore) (s : PlainStage)
-    → OnSteady own texts rs s → l.0.library ≡ own → IsNotKept (keyword_at s.keywords l) → IsExpression rs c → Each (λ (n : CodeNo). n.0.library ≡ own) (code_numbers c)
-    → Each (λ n. OwnHasCode own s.keywords n → ⊥) (code_numbers c) → EndsSteady own texts rs (finish_keyword place rs l c s)
+FinishesNeverStuck = (own : LibName) (texts : List CodeNo) (place : Span) (rs : List CompiledLibrary) (l : Label) (c : PlainCore) (s : PlainStage)
+    → OnSteady own texts rs s → l.0.library ≡ own → IsNotKept (keyword_at s.keywords l) → IsKeywordExpression rs c → Each (λ (n : CodeNo). n.0.library ≡ own) (code_numbers c)
+    → Each (λ n. OwnHasCode own s.keywords n → ⊥) (code_numbers c) → EndsSteady own texts rs (evaluate_transformer place rs l c s)

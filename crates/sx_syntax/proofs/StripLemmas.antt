@@ -10,8 +10,8 @@ use Rattle.sx_tree.specs.Tree.{Tree, atom, leaf, pair, vector, spanned, is_pair}
 use Rattle.sx_tree.specs.Leaves.{strip}
 use Rattle.sx_tree.proofs.LeafLaws.{strip-changed}
 use Rattle.sx_syntax.specs.Kept.{IsRest, IsElements}
-use Rattle.sx_syntax.specs.KeptView.{shape_tree, view_of, Whole}
-use Rattle.sx_syntax.specs.declared.kept.Shape.{Shape}
+use Rattle.sx_syntax.specs.KeptView.{shape_tree, view_of, WholeNode}
+use Rattle.sx_syntax.specs.declared.kept.TreeShape.{TreeShape}
 use Rattle.sx_syntax.proofs.NodeLemmas.{tree_node}
 use Rattle.sx_syntax.proofs.ListLemmas.{elements_end}
 
@@ -62,6 +62,6 @@ strip-spanned s (leaf _ x c) = refl
 strip-spanned s (pair _ a d) = refl
 strip-spanned s (vector _ d) = refl
 
-pub strip_node : (n : Whole) (k : Tree) → view_of n ≡ k → (f : Shape) → n.shape ≡ f → datum.spanned n.span (strip (shape_tree f)) ≡ strip k
+pub strip_node : (n : WholeNode) (k : Tree) → view_of n ≡ k → (f : TreeShape) → n.shape ≡ f → datum.spanned n.span (strip (shape_tree f)) ≡ strip k
 strip_node n k shown f g =
     sym (strip-changed n.wrap (spanned n.span (shape_tree f)) ∙ strip-spanned n.span (shape_tree f)) ∙ ap strip (tree_node n k shown f g)

@@ -5,8 +5,8 @@ use Rattle.sx_base.specs.declared.span.Span.{Span}
 use Rattle.sx_tree.specs.Tree.{Tree, atom, leaf, pair, vector, spanned}
 use Rattle.sx_tree.specs.Changes.{changed}
 use Rattle.sx_tree.specs.declared.change.Change.{Change}
-use Rattle.sx_syntax.specs.declared.kept.Shape.{Shape}
-use Rattle.sx_syntax.specs.declared.kept.Shape.TheVariants as shape
+use Rattle.sx_syntax.specs.declared.kept.TreeShape.{TreeShape}
+use Rattle.sx_syntax.specs.declared.kept.TreeShape.TheVariants as shape
 use Rattle.sx_syntax.specs.declared.kept.Kept.TheDeep.{deep-Shape}
 use Rattle.sx_syntax.specs.Kept.{weight}
 use Rattle.sx_syntax.specs.KeptView.{shape_tree, seen}
@@ -23,14 +23,14 @@ weight-spanned s (leaf _ x c) = refl
 weight-spanned s (pair _ a d) = refl
 weight-spanned s (vector _ d) = refl
 
-pub weight-seen : (ws : List Change) (s : Option Span) (f : Shape) → weight (seen ws s f) ≡ weight (shape_tree f)
+pub weight-seen : (ws : List Change) (s : Option Span) (f : TreeShape) → weight (seen ws s f) ≡ weight (shape_tree f)
 weight-seen ws s f = weight-changed ws (spanned s (shape_tree f)) ∙ weight-spanned s (shape_tree f)
 
-shape_falls : (f : Shape) → deep-Shape f ≤ weight (shape_tree f)
+shape_falls : (f : TreeShape) → deep-Shape f ≤ weight (shape_tree f)
 shape_falls (shape.Atom a) = omega arith
 shape_falls (shape.Leaf x c) = omega arith
 shape_falls (shape.Pair e a d) = omega arith
 shape_falls (shape.Vector e d) = omega arith
 
-pub seen_falls : (ws : List Change) (s : Option Span) (f : Shape) → deep-Shape f ≤ weight (seen ws s f)
+pub seen_falls : (ws : List Change) (s : Option Span) (f : TreeShape) → deep-Shape f ≤ weight (seen ws s f)
 seen_falls ws s f = omega (arith, shape_falls f, weight-seen ws s f)

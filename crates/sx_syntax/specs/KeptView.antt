@@ -6,49 +6,49 @@ use Rattle.sx_tree.specs.Measures.{size, height, Fits}
 use Rattle.sx_tree.specs.Changes.{changed}
 use Rattle.sx_tree.specs.declared.change.Change.{Change}
 use Rattle.sx_syntax.specs.Kept.{IsRest, IsElements}
-use Rattle.sx_syntax.specs.declared.kept.Extent.{Extent}
-use Rattle.sx_syntax.specs.declared.kept.Shape.{Shape}
-use Rattle.sx_syntax.specs.declared.kept.Shape.TheVariants as shape
-use Rattle.sx_syntax.specs.declared.kept.Node.{Node}
+use Rattle.sx_syntax.specs.declared.kept.HeightAndSize.{HeightAndSize}
+use Rattle.sx_syntax.specs.declared.kept.TreeShape.{TreeShape}
+use Rattle.sx_syntax.specs.declared.kept.TreeShape.TheVariants as shape
+use Rattle.sx_syntax.specs.declared.kept.SyntaxNode.{SyntaxNode}
 
-abbrev pub shape_tree : Shape → Tree
+abbrev pub shape_tree : TreeShape → Tree
 shape_tree (shape.Atom a) = atom None a
 shape_tree (shape.Leaf x c) = leaf None x c
 shape_tree (shape.Pair e a d) = pair None a d
 shape_tree (shape.Vector e d) = vector None d
 
 -- a shape with a span, and then the changes
-abbrev pub seen : List Change → Option Span → Shape → Tree
+abbrev pub seen : List Change → Option Span → TreeShape → Tree
 seen ws s f = changed ws (spanned s (shape_tree f))
 
 -- a node with the changes that are pending
-pub record Whole : Type 0 where
+pub record WholeNode : Type 0 where
   pub wrap : List Change
   pub span : Option Span
-  pub shape : Shape
+  pub shape : TreeShape
 
-abbrev pub whole_of : List Change → Node → Whole
+abbrev pub whole_of : List Change → SyntaxNode → WholeNode
 whole_of ws n = record { wrap = ws; span = n.span; shape = n.shape }
 
-abbrev pub view_of : Whole → Tree
+abbrev pub view_of : WholeNode → Tree
 view_of n = seen n.wrap n.span n.shape
 
-abbrev pub IsExtent : Extent → Tree → Type 0
+abbrev pub IsExtent : HeightAndSize → Tree → Type 0
 IsExtent e t = (e.height ≡ height t) × (e.size ≡ size t)
 
 -- an element and the rest of a list within the limits
-pub record IsPair (e : Extent) (a d : Tree) : Type 0 where
+pub record IsPair (e : HeightAndSize) (a d : Tree) : Type 0 where
   pub extent : IsExtent e (pair None a d)
   pub fits : Fits (pair None a d)
   pub rest : IsRest d
 
 -- the elements of a vector within the limits
-pub record IsVector (e : Extent) (d : Tree) : Type 0 where
+pub record IsVector (e : HeightAndSize) (d : Tree) : Type 0 where
   pub extent : IsExtent e d
   pub fits : Fits d
   pub elements : IsElements d
 
-abbrev pub InShape : Shape → Type 0
+abbrev pub InShape : TreeShape → Type 0
 InShape (shape.Atom a) = Unit {0}
 InShape (shape.Leaf x c) = Unit {0}
 InShape (shape.Pair e a d) = IsPair e a d

@@ -1,11 +1,11 @@
 -- One level of a tree.
 use Rattle.std.specs.Prelude.{◌≡◌}
 use Rattle.sx_tree.specs.Tree.{Tree, atom, leaf, pair, vector, chain, nil}
-use Rattle.sx_syntax.specs.declared.syn.Opened.{Opened}
-use Rattle.sx_syntax.specs.declared.syn.Opened.TheVariants as opened
+use Rattle.sx_syntax.specs.declared.syn.OpenedTree.{OpenedTree}
+use Rattle.sx_syntax.specs.declared.syn.OpenedTree.TheVariants as opened
 
 -- a pair has the first element and the rest
-abbrev pub Opens : Opened → Tree → Type 0
+abbrev pub Opens : OpenedTree → Tree → Type 0
 Opens (opened.Atom b) (atom s a) = b ≡ a
 Opens (opened.Symbol x) (leaf s y c) = x ≡ y
 Opens (opened.Pair x y) (pair s a d) = (x ≡ a) × (y ≡ d)

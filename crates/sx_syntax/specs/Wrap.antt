@@ -3,14 +3,14 @@ use Rattle.std.specs.Prelude.{◌≡◌, List, [], ◌∷◌, ◌++◌, Option, 
 use Rattle.std.specs.declared.rc.Rc.{Rc}
 use Rattle.sx_tree.specs.Context.{blank, acts}
 use Rattle.sx_tree.specs.declared.change.Change.{Change}
-use Rattle.sx_syntax.specs.declared.wrap.Link.{Link}
+use Rattle.sx_syntax.specs.declared.wrap.ChangeLink.{ChangeLink}
 
 -- the first one first
-abbrev pub pending : {A : Type 0} → Option (Rc Link A) → List Change
+abbrev pub pending : {A : Type 0} → Option (Rc ChangeLink A) → List Change
 pending None = []
 pending (Some l) = l.value.before ++ l.value.change ∷ []
 
 -- what is kept is what the changes make of a leaf without marks and stamps
-abbrev pub IsMade : {A : Type 0} → Option (Rc Link A) → Type 0
+abbrev pub IsMade : {A : Type 0} → Option (Rc ChangeLink A) → Type 0
 IsMade None = Unit {0}
 IsMade (Some l) = l.value.made ≡ acts (l.value.before ++ l.value.change ∷ []) blank

@@ -17,12 +17,12 @@ use sx_tree::stamp::Stamp;
 
 /// A stamp whose marks are shared.
 #[derive(Drop)]
-struct Held {
+struct HeldStamp {
     frame: FrameNo,
     marks: Stack<Mark>,
 }
 
-impl Model for Held {
+impl Model for HeldStamp {
     ghost use Rattle.sx_tree.specs.declared.stamp.Stamp.{Stamp};
     ghost use Rattle.sx_syntax.specs.Base.{stamp_code};
 
@@ -38,7 +38,7 @@ impl Model for Held {
 #[derive(Drop)]
 pub(crate) struct Base {
     marks: Stack<Mark>,
-    stamps: Stack<Held>,
+    stamps: Stack<HeldStamp>,
 }
 
 impl Model for Base {
@@ -77,13 +77,13 @@ fn marks_of(alloc: Global, stack: &Stack<Mark>) -> Result<Marks, Memory>
     Ok(marks)
 }
 
-impl Held {
-    fn new(alloc: Global, stamp: Stamp) -> Result<Held, Memory>
+impl HeldStamp {
+    fn new(alloc: Global, stamp: Stamp) -> Result<HeldStamp, Memory>
         ensures { IfOk result (λ h. h ≡ stamp) }
     {
         let Stamp { frame, marks } = stamp;
         let marks = stack_of(alloc, &marks)?;
-        Ok(Held { frame, marks })
+        Ok(HeldStamp { frame, marks })
     }
 
     fn stamp(&self, alloc: Global) -> Result<Stamp, Memory>
@@ -96,20 +96,20 @@ impl Held {
 }
 
 /// The stamps as a list that shares its ends.
-fn held_of(alloc: Global, stamps: Vec<Stamp>) -> Result<Stack<Held>, Memory>
+fn held_of(alloc: Global, stamps: Vec<Stamp>) -> Result<Stack<HeldStamp>, Memory>
     ensures { IfOk result (λ s. s ≡ stamps.items) }
 {
     let mut left = stamps;
     let mut stack = Stack::none();
     while let Some(stamp) = left.pop() {
-        let held = Held::new(alloc, stamp)?;
+        let held = HeldStamp::new(alloc, stamp)?;
         stack = stack.with(alloc, held)?;
     }
     Ok(stack)
 }
 
 /// These stamps, each as one of its own.
-fn stamps_of(alloc: Global, held: &[&Held]) -> Result<Vec<Stamp>, Memory>
+fn stamps_of(alloc: Global, held: &[&HeldStamp]) -> Result<Vec<Stamp>, Memory>
     ensures { IfOk result (λ v. v.items ≡ map (λ h. h.now) held.now) }
 {
     let mut stamps = Vec::new(alloc);
@@ -123,7 +123,7 @@ fn stamps_of(alloc: Global, held: &[&Held]) -> Result<Vec<Stamp>, Memory>
 /// The stamps of a leaf, the newest first, shared with the leaf.
 #[derive(Drop)]
 pub struct LeafStamps {
-    stamps: Stack<Held>,
+    stamps: Stack<HeldStamp>,
 }
 
 impl Model for LeafStamps {
@@ -140,7 +140,7 @@ impl Model for LeafStamps {
 }
 
 /// Whether a stamp is of another library than this one, or has one of these frames.
-fn is_for(library: &LibName, frames: &[FrameNo], held: &Held) -> bool
+fn is_for(library: &LibName, frames: &[FrameNo], held: &HeldStamp) -> bool
     ensures { result ≡ is_for library.now frames.now held.now }
 {
     if *held.frame.0.library != *library {
@@ -304,7 +304,7 @@ impl Base {
     {
         let frame = frame.share()?;
         let held = self.marks.share()?;
-        let stamps = self.stamps.with(alloc, Held { frame, marks: held })?;
+        let stamps = self.stamps.with(alloc, HeldStamp { frame, marks: held })?;
         let marks = self.marks.share()?;
         Ok(Base { marks, stamps })
     }

@@ -23,31 +23,31 @@ use sx_tree::change::Change;
 #[cycle(kept)]
 pub(crate) struct Kept {
     pub(crate) wrap: Wrap,
-    pub(crate) node: Rc<Node>,
+    pub(crate) node: Rc<SyntaxNode>,
 }
 
 /// A shape with a span.
 #[cycle(kept)]
 #[derive(Drop)]
-pub(crate) struct Node {
+pub(crate) struct SyntaxNode {
     pub(crate) span: Option<Span>,
-    pub(crate) shape: Shape,
+    pub(crate) shape: TreeShape,
 }
 
 #[cycle(kept)]
 #[derive(Drop)]
-pub(crate) enum Shape {
+pub(crate) enum TreeShape {
     Atom(Atom),
     Leaf(Symbol, Base),
     /// The first element of a list, and the rest. The extent is the list's.
-    Pair(Extent, Kept, Kept),
+    Pair(HeightAndSize, Kept, Kept),
     /// The elements as a list, and the extent of that.
-    Vector(Extent, Kept),
+    Vector(HeightAndSize, Kept),
 }
 
 /// A height and a size.
 #[derive(Clone, Copy, Drop)]
-pub(crate) struct Extent {
+pub(crate) struct HeightAndSize {
     pub(crate) height: u32,
     pub(crate) size: u32,
 }
@@ -84,12 +84,12 @@ impl Drop for Kept {
             match Rc::into_inner(node) {
                 None => return,
                 Some(node) => {
-                    let Node { span: _, shape } = node;
+                    let SyntaxNode { span: _, shape } = node;
                     match shape {
-                        Shape::Atom(_) => return,
-                        Shape::Leaf(_, _) => return,
-                        Shape::Pair(_, _first, rest) => self = rest,
-                        Shape::Vector(_, elements) => self = elements,
+                        TreeShape::Atom(_) => return,
+                        TreeShape::Leaf(_, _) => return,
+                        TreeShape::Pair(_, _first, rest) => self = rest,
+                        TreeShape::Vector(_, elements) => self = elements,
                     }
                 }
             }
@@ -97,28 +97,28 @@ impl Drop for Kept {
     }
 }
 
-impl Shape {
-    fn share(&self) -> Result<Shape, Memory>
+impl TreeShape {
+    fn share(&self) -> Result<TreeShape, Memory>
         ensures { IfOk result (λ s. s ≡ self.now) }
     {
         match self {
-            Shape::Atom(atom) => {
+            TreeShape::Atom(atom) => {
                 let atom = atom.share()?;
-                Ok(Shape::Atom(atom))
+                Ok(TreeShape::Atom(atom))
             }
-            Shape::Leaf(symbol, base) => {
+            TreeShape::Leaf(symbol, base) => {
                 let symbol = symbol.share()?;
                 let base = base.share()?;
-                Ok(Shape::Leaf(symbol, base))
+                Ok(TreeShape::Leaf(symbol, base))
             }
-            Shape::Pair(extent, first, rest) => {
+            TreeShape::Pair(extent, first, rest) => {
                 let first = first.share()?;
                 let rest = rest.share()?;
-                Ok(Shape::Pair(*extent, first, rest))
+                Ok(TreeShape::Pair(*extent, first, rest))
             }
-            Shape::Vector(extent, elements) => {
+            TreeShape::Vector(extent, elements) => {
                 let elements = elements.share()?;
-                Ok(Shape::Vector(*extent, elements))
+                Ok(TreeShape::Vector(*extent, elements))
             }
         }
     }
@@ -130,12 +130,12 @@ impl Kept {
         alloc: Global,
         wrap: Wrap,
         span: Option<Span>,
-        shape: Shape,
+        shape: TreeShape,
     ) -> Result<Kept, Memory>
         requires { InShape shape }
         ensures { IfOk result (λ k. k ≡ seen wrap span shape) }
     {
-        let node = Rc::new(alloc, Node { span, shape })?;
+        let node = Rc::new(alloc, SyntaxNode { span, shape })?;
         Ok(Kept { wrap, node })
     }
 
@@ -170,7 +170,7 @@ impl Kept {
     pub(crate) fn spanned(&self, alloc: Global, span: Option<Span>) -> Result<Kept, Memory>
         ensures { IfOk result (λ k. k ≡ spanned span self.now) }
     {
-        let node: &Node = &self.node;
+        let node: &SyntaxNode = &self.node;
         let wrap = self.wrap.share()?;
         let shape = node.shape.share()?;
         Kept::new(alloc, wrap, span, shape)
@@ -180,22 +180,22 @@ impl Kept {
     pub(crate) fn bare(&self, alloc: Global) -> Result<Kept, Memory>
         ensures { IfOk result (λ k. k ≡ spanned None self.now) }
     {
-        let node: &Node = &self.node;
+        let node: &SyntaxNode = &self.node;
         match &node.span {
             None => self.share(),
             Some(_) => self.spanned(alloc, None),
         }
     }
 
-    pub(crate) fn extent(&self) -> Extent
+    pub(crate) fn extent(&self) -> HeightAndSize
         ensures { IsExtent result self.now }
     {
-        let node: &Node = &self.node;
+        let node: &SyntaxNode = &self.node;
         match &node.shape {
-            Shape::Atom(_) => Extent { height: 1, size: 1 },
-            Shape::Leaf(_, _) => Extent { height: 1, size: 1 },
-            Shape::Pair(extent, _, _) => *extent,
-            Shape::Vector(extent, _) => *extent,
+            TreeShape::Atom(_) => HeightAndSize { height: 1, size: 1 },
+            TreeShape::Leaf(_, _) => HeightAndSize { height: 1, size: 1 },
+            TreeShape::Pair(extent, _, _) => *extent,
+            TreeShape::Vector(extent, _) => *extent,
         }
     }
 
@@ -203,12 +203,12 @@ impl Kept {
     pub(crate) fn is_list(&self) -> bool
         ensures { result ≡ is_list self.now }
     {
-        let node: &Node = &self.node;
+        let node: &SyntaxNode = &self.node;
         match &node.shape {
-            Shape::Atom(atom) => is_nil(atom),
-            Shape::Leaf(_, _) => false,
-            Shape::Pair(_, _, _) => true,
-            Shape::Vector(_, _) => false,
+            TreeShape::Atom(atom) => is_nil(atom),
+            TreeShape::Leaf(_, _) => false,
+            TreeShape::Pair(_, _, _) => true,
+            TreeShape::Vector(_, _) => false,
         }
     }
 
@@ -216,16 +216,16 @@ impl Kept {
     pub(crate) fn parts(&self, alloc: Global) -> Result<Option<(Kept, Kept)>, Memory>
         ensures { IfOk result (λ o. Parts o self.now) }
     {
-        let node: &Node = &self.node;
+        let node: &SyntaxNode = &self.node;
         match &node.shape {
-            Shape::Atom(_) => Ok(None),
-            Shape::Leaf(_, _) => Ok(None),
-            Shape::Pair(_, first, rest) => {
+            TreeShape::Atom(_) => Ok(None),
+            TreeShape::Leaf(_, _) => Ok(None),
+            TreeShape::Pair(_, first, rest) => {
                 let first = first.under(alloc, &self.wrap)?;
                 let rest = rest.under(alloc, &self.wrap)?;
                 Ok(Some((first, rest)))
             }
-            Shape::Vector(_, _) => Ok(None),
+            TreeShape::Vector(_, _) => Ok(None),
         }
     }
 
@@ -240,12 +240,12 @@ impl Kept {
     pub(crate) fn context(&self, alloc: Global) -> Result<Base, Memory>
         ensures { IfOk result (λ c. c ≡ context_of self.now) }
     {
-        let node: &Node = &self.node;
+        let node: &SyntaxNode = &self.node;
         match &node.shape {
-            Shape::Atom(_) => Ok(Base::blank()),
-            Shape::Leaf(_, base) => self.wrap.context(alloc, base),
-            Shape::Pair(_, _, _) => Ok(Base::blank()),
-            Shape::Vector(_, _) => Ok(Base::blank()),
+            TreeShape::Atom(_) => Ok(Base::blank()),
+            TreeShape::Leaf(_, base) => self.wrap.context(alloc, base),
+            TreeShape::Pair(_, _, _) => Ok(Base::blank()),
+            TreeShape::Vector(_, _) => Ok(Base::blank()),
         }
     }
 }

@@ -11,7 +11,7 @@ ghost use Rattle.sx_syntax.specs.Leaves.{sample_context, span_by, grown_tree};
 ghost use Rattle.sx_syntax.specs.Refuses.{Refuses};
 
 use crate::base::Base;
-use crate::kept::{Kept, Shape};
+use crate::kept::{Kept, TreeShape};
 use crate::pairs::empty_list;
 use crate::wrap::Wrap;
 use std::alloc::Global;
@@ -94,7 +94,7 @@ impl Sample {
     {
         let base = self.base.share()?;
         let symbol = symbol.share()?;
-        Kept::new(alloc, Wrap::none(), span, Shape::Leaf(symbol, base))
+        Kept::new(alloc, Wrap::none(), span, TreeShape::Leaf(symbol, base))
     }
 }
 
@@ -127,7 +127,7 @@ pub(crate) fn from_datum(growth: &Growth, datum: &Datum) -> Result<Kept, BareSto
     match &datum.node {
         datum::Node::Atom(atom) => {
             let atom = atom.share()?;
-            let kept = Kept::new(growth.alloc, Wrap::none(), span, Shape::Atom(atom))?;
+            let kept = Kept::new(growth.alloc, Wrap::none(), span, TreeShape::Atom(atom))?;
             Ok(kept)
         }
         datum::Node::Symbol(symbol) => {

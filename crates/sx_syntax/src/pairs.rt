@@ -10,7 +10,7 @@ ghost use Rattle.sx_syntax.specs.KeptView.{IsExtent};
 ghost use Rattle.sx_syntax.specs.Pairs.{Extends, Grows, grown_height, grown_size};
 ghost use Rattle.sx_syntax.specs.Refuses.{Refuses};
 
-use crate::kept::{Extent, Kept, Shape};
+use crate::kept::{HeightAndSize, Kept, TreeShape};
 use crate::syn::Syn;
 use crate::wrap::Wrap;
 use std::alloc::Global;
@@ -35,7 +35,7 @@ pub(crate) fn too_deep(alloc: Global) -> BareStop
 }
 
 /// The extent of a list with one more element before the others, within the limits.
-fn grown(element: Extent, rest: Extent, joint: u32) -> Option<Extent>
+fn grown(element: HeightAndSize, rest: HeightAndSize, joint: u32) -> Option<HeightAndSize>
     requires rest { (rest.height ≤ max_height) × (rest.size ≤ max_size) }
     requires joint { joint ≤ 1 }
     ensures { Grows result (grown_height element rest joint) (grown_size element rest joint) }
@@ -45,7 +45,7 @@ fn grown(element: Extent, rest: Extent, joint: u32) -> Option<Extent>
     if height > MAX_HEIGHT || size > MAX_SIZE {
         None
     } else {
-        Some(Extent { height, size })
+        Some(HeightAndSize { height, size })
     }
 }
 
@@ -53,7 +53,7 @@ fn grown(element: Extent, rest: Extent, joint: u32) -> Option<Extent>
 pub(crate) fn empty_list(alloc: Global) -> Result<Kept, Memory>
     ensures { IfOk result (λ k. k ≡ nil) }
 {
-    Kept::new(alloc, Wrap::none(), None, Shape::Atom(Atom::Nil))
+    Kept::new(alloc, Wrap::none(), None, TreeShape::Atom(Atom::Nil))
 }
 
 impl Kept {
@@ -65,7 +65,7 @@ impl Kept {
     }
 
     /// The extent of the list of this element and this rest, within the limits.
-    fn extent_before(&self, rest: &Kept) -> Option<Extent>
+    fn extent_before(&self, rest: &Kept) -> Option<HeightAndSize>
         ensures { Extends result (pair None self.now rest.now) }
     {
         rest.within();
@@ -79,14 +79,14 @@ impl Kept {
         alloc: Global,
         span: Option<Span>,
         rest: Kept,
-        extent: Extent,
+        extent: HeightAndSize,
     ) -> Result<Kept, Memory>
         requires rest { IsRest rest }
         requires extent { IsExtent extent (pair None self rest) }
         requires fits { Fits (pair None self rest) }
         ensures { IfOk result (λ k. k ≡ pair span self rest) }
     {
-        Kept::new(alloc, Wrap::none(), span, Shape::Pair(extent, self, rest))
+        Kept::new(alloc, Wrap::none(), span, TreeShape::Pair(extent, self, rest))
     }
 
     /// This element before a rest, where the list stays within the limits. The span is the list's.
@@ -128,7 +128,7 @@ impl Kept {
     {
         self.within();
         let extent = self.extent();
-        Kept::new(alloc, Wrap::none(), span, Shape::Vector(extent, self))
+        Kept::new(alloc, Wrap::none(), span, TreeShape::Vector(extent, self))
     }
 
     /// The tree as the rest of a list: a list or Nil has no span there.

@@ -10,12 +10,12 @@ use sx_base::memory::Memory;
 /// Elements, the newest first.
 #[cycle(stack)]
 pub(crate) struct Stack<T> {
-    top: Option<Rc<Level<T>>>,
+    top: Option<Rc<StackLevel<T>>>,
 }
 
 #[cycle(stack)]
 #[derive(Drop)]
-struct Level<T> {
+struct StackLevel<T> {
     item: T,
     below: Stack<T>,
 }
@@ -46,7 +46,7 @@ impl<T: Drop> Drop for Stack<T> {
                 Some(level) => match Rc::into_inner(level) {
                     None => return,
                     Some(level) => {
-                        let Level { item: _, below } = level;
+                        let StackLevel { item: _, below } = level;
                         self = below;
                     }
                 },
@@ -87,7 +87,7 @@ impl<T: Drop> Stack<T> {
         ensures { IfOk result (λ s. s ≡ item ∷ self.now) }
     {
         let below = self.share()?;
-        let level = Rc::new(alloc, Level { item, below })?;
+        let level = Rc::new(alloc, StackLevel { item, below })?;
         Ok(Stack { top: Some(level) })
     }
 
@@ -97,7 +97,7 @@ impl<T: Drop> Stack<T> {
         match &self.top {
             None => None,
             Some(level) => {
-                let level: &Level<T> = level;
+                let level: &StackLevel<T> = level;
                 Some(&level.item)
             }
         }
@@ -111,7 +111,7 @@ impl<T: Drop> Stack<T> {
         match &self.top {
             None => None,
             Some(level) => {
-                let level: &Level<T> = level;
+                let level: &StackLevel<T> = level;
                 Some((&level.item, &level.below))
             }
         }
@@ -133,7 +133,7 @@ impl<T: Drop> Stack<T> {
         let mut items = Vec::new(alloc);
         let mut left = self;
         while let Some(level) = &left.top {
-            let level: &Level<T> = level;
+            let level: &StackLevel<T> = level;
             items.push(&level.item)?;
             left = &level.below;
         }

@@ -6,7 +6,7 @@ ghost use Rattle.sx_base.specs.DatumView.{is_some_list};
 ghost use Rattle.sx_tree.specs.Leaves.{strip};
 ghost use Rattle.sx_syntax.specs.Kept.{IsRest, IsElements};
 
-use crate::kept::{Kept, Node, Shape};
+use crate::kept::{Kept, SyntaxNode, TreeShape};
 use std::alloc::Global;
 use sx_base::datum::{self, Datum};
 use sx_base::memory::Memory;
@@ -18,25 +18,25 @@ impl Kept {
     pub(crate) fn strip(&self, alloc: Global) -> Result<Datum, Memory>
         ensures { IfOk result (λ d. d ≡ strip self.now) }
     {
-        let node: &Node = &self.node;
+        let node: &SyntaxNode = &self.node;
         let span = share_span(&node.span)?;
         match &node.shape {
-            Shape::Atom(atom) => {
+            TreeShape::Atom(atom) => {
                 let atom = atom.share()?;
                 Ok(Datum {
                     span,
                     node: datum::Node::Atom(atom),
                 })
             }
-            Shape::Leaf(symbol, _) => {
+            TreeShape::Leaf(symbol, _) => {
                 let symbol = symbol.share()?;
                 Ok(Datum {
                     span,
                     node: datum::Node::Symbol(symbol),
                 })
             }
-            Shape::Pair(_, first, rest) => { strip_list(alloc, span, first, rest) }
-            Shape::Vector(_, elements) => {
+            TreeShape::Pair(_, first, rest) => { strip_list(alloc, span, first, rest) }
+            TreeShape::Vector(_, elements) => {
                 let mut items = strip_elements(alloc, elements)?;
                 items.shrink_to_fit();
                 Ok(Datum {

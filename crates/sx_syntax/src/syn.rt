@@ -14,7 +14,7 @@ ghost use Rattle.sx_syntax.specs.Opens.{Opens};
 ghost use Rattle.sx_syntax.specs.Refuses.{Refuses};
 
 use crate::base::{Base, LeafStamps};
-use crate::kept::{Kept, Node, Shape};
+use crate::kept::{Kept, SyntaxNode, TreeShape};
 use crate::leaves::{Growth, Sample, Spans, from_datum};
 use crate::pairs::empty_list;
 use crate::wrap::Wrap;
@@ -52,7 +52,7 @@ impl Model for Syn {
 
 /// One level of a tree.
 #[derive(Drop)]
-pub enum Opened {
+pub enum OpenedTree {
     /// The symbol of a leaf.
     Symbol(Symbol),
     Atom(Atom),
@@ -89,12 +89,12 @@ fn list_on(alloc: Global, items: Vec<Syn>, rest: Kept) -> Result<Syn, BareStop>
 }
 
 /// The level of a list.
-fn pair_of(alloc: Global, first: &Kept, rest: &Kept, wrap: &Wrap) -> Result<Opened, Memory>
+fn pair_of(alloc: Global, first: &Kept, rest: &Kept, wrap: &Wrap) -> Result<OpenedTree, Memory>
     ensures { IfOk result (λ o. (s : Option Span) → Opens o (changed wrap.now (pair s first.now rest.now))) }
 {
     let first = first.under(alloc, wrap)?;
     let rest = rest.under(alloc, wrap)?;
-    Ok(Opened::Pair(Syn { kept: first }, Syn { kept: rest }))
+    Ok(OpenedTree::Pair(Syn { kept: first }, Syn { kept: rest }))
 }
 
 /// The tree of a datum whose symbols are leaves like these.
@@ -116,7 +116,7 @@ impl Syn {
     pub fn atom(alloc: Global, value: Atom) -> Result<Syn, Memory>
         ensures { IfOk result (λ t. t ≡ atom None value) }
     {
-        let kept = Kept::new(alloc, Wrap::none(), None, Shape::Atom(value))?;
+        let kept = Kept::new(alloc, Wrap::none(), None, TreeShape::Atom(value))?;
         Ok(Syn { kept })
     }
 
@@ -141,7 +141,7 @@ impl Syn {
     {
         let base = Base::new(alloc, marks, stamps)?;
         let symbol = symbol.share()?;
-        let kept = Kept::new(alloc, Wrap::none(), span, Shape::Leaf(symbol, base))?;
+        let kept = Kept::new(alloc, Wrap::none(), span, TreeShape::Leaf(symbol, base))?;
         Ok(Syn { kept })
     }
 
@@ -187,23 +187,23 @@ impl Syn {
     }
 
     /// One level of the tree. Pending changes go one level down, by one node for each part.
-    pub fn open(&self, alloc: Global) -> Result<Opened, Memory>
+    pub fn open(&self, alloc: Global) -> Result<OpenedTree, Memory>
         ensures { IfOk result (λ o. Opens o self.now) }
     {
-        let node: &Node = &self.kept.node;
+        let node: &SyntaxNode = &self.kept.node;
         match &node.shape {
-            Shape::Atom(atom) => {
+            TreeShape::Atom(atom) => {
                 let atom = atom.share()?;
-                Ok(Opened::Atom(atom))
+                Ok(OpenedTree::Atom(atom))
             }
-            Shape::Leaf(symbol, _) => {
+            TreeShape::Leaf(symbol, _) => {
                 let symbol = symbol.share()?;
-                Ok(Opened::Symbol(symbol))
+                Ok(OpenedTree::Symbol(symbol))
             }
-            Shape::Pair(_, first, rest) => pair_of(alloc, first, rest, &self.kept.wrap),
-            Shape::Vector(_, elements) => {
+            TreeShape::Pair(_, first, rest) => pair_of(alloc, first, rest, &self.kept.wrap),
+            TreeShape::Vector(_, elements) => {
                 let elements = elements.elements(alloc, &self.kept.wrap)?;
-                Ok(Opened::Vector(elements))
+                Ok(OpenedTree::Vector(elements))
             }
         }
     }
@@ -220,7 +220,7 @@ impl Syn {
     pub fn span(&self) -> Option<&Span>
         ensures { option_map (λ s. s.now) result ≡ span_of self.now }
     {
-        let node: &Node = &self.kept.node;
+        let node: &SyntaxNode = &self.kept.node;
         node.span.as_ref()
     }
 

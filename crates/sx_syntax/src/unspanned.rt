@@ -5,7 +5,7 @@ ghost use Rattle.sx_tree.specs.Tree.{unspanned, chain, is_pair};
 ghost use Rattle.sx_tree.specs.Measures.{Fits};
 ghost use Rattle.sx_syntax.specs.Kept.{IsRest};
 
-use crate::kept::{Kept, Node, Shape};
+use crate::kept::{Kept, SyntaxNode, TreeShape};
 use std::alloc::Global;
 use sx_base::memory::Memory;
 
@@ -25,12 +25,12 @@ impl Kept {
         requires { is_pair self.now ≡ false }
         ensures { IfOk result (λ k. k ≡ unspanned self.now) }
     {
-        let node: &Node = &self.node;
+        let node: &SyntaxNode = &self.node;
         match &node.shape {
-            Shape::Atom(_) => self.bare(alloc),
-            Shape::Leaf(_, _) => self.bare(alloc),
-            Shape::Pair(_, _, _) => unreachable!(),
-            Shape::Vector(_, elements) => {
+            TreeShape::Atom(_) => self.bare(alloc),
+            TreeShape::Leaf(_, _) => self.bare(alloc),
+            TreeShape::Pair(_, _, _) => unreachable!(),
+            TreeShape::Vector(_, elements) => {
                 let list = elements.unspanned(alloc)?;
                 let vector = list.into_vector(alloc, None)?;
                 vector.under(alloc, &self.wrap)

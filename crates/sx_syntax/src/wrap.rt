@@ -14,13 +14,13 @@ use sx_tree::change::Change;
 /// no memory.
 #[cycle(wrap)]
 pub(crate) struct Wrap {
-    last: Option<Rc<Link>>,
+    last: Option<Rc<ChangeLink>>,
 }
 
 /// The last change, those before it, and what they all make of a leaf without marks and stamps.
 #[cycle(wrap)]
 #[derive(Drop)]
-struct Link {
+struct ChangeLink {
     before: Wrap,
     change: Change,
     made: Base,
@@ -56,7 +56,7 @@ impl Drop for Wrap {
                 Some(link) => match Rc::into_inner(link) {
                     None => return,
                     Some(link) => {
-                        let Link {
+                        let ChangeLink {
                             before,
                             change: _,
                             made: _,
@@ -116,7 +116,7 @@ impl Wrap {
         let before = self.share()?;
         let link = Rc::new(
             alloc,
-            Link {
+            ChangeLink {
                 before,
                 change,
                 made,
@@ -132,7 +132,7 @@ impl Wrap {
     {
         if let Change::Leave(mark, _) = &change {
             if let Some(link) = &self.last {
-                let link: &Link = link;
+                let link: &ChangeLink = link;
                 if let Change::Enter(last) = &link.change {
                     if last.same(mark) {
                         return link.before.share();
@@ -168,7 +168,7 @@ impl Wrap {
         let mut changes = Vec::new(alloc);
         let mut left = self;
         while let Some(link) = &left.last {
-            let link: &Link = link;
+            let link: &ChangeLink = link;
             changes.push(&link.change)?;
             left = &link.before;
         }

@@ -13,7 +13,7 @@ use sx_syntax::syn::Syn;
 use sx_tree::marks::Marks;
 
 #[derive(Clone, Copy)]
-enum Step {
+enum ChangeStep {
     Enter(u64),
     Leave(u64),
     LeaveWith(u64, u64),
@@ -23,17 +23,17 @@ enum Step {
 fn one_step<N: Ledger>(
     alloc: Global,
     tree: &Syn,
-    step: Step,
+    step: ChangeStep,
     nodes: &mut Steps<N>,
 ) -> Result<Syn, Memory> {
     match step {
-        Step::Enter(number) => tree.enter(alloc, mark(alloc, number)?, nodes),
-        Step::Leave(number) => tree.leave(alloc, mark(alloc, number)?, None, nodes),
-        Step::LeaveWith(number, at) => {
+        ChangeStep::Enter(number) => tree.enter(alloc, mark(alloc, number)?, nodes),
+        ChangeStep::Leave(number) => tree.leave(alloc, mark(alloc, number)?, None, nodes),
+        ChangeStep::LeaveWith(number, at) => {
             let at = frame(alloc, at)?;
             tree.leave(alloc, mark(alloc, number)?, Some(at), nodes)
         }
-        Step::Stamp(at) => tree.stamp(alloc, frame(alloc, at)?, nodes),
+        ChangeStep::Stamp(at) => tree.stamp(alloc, frame(alloc, at)?, nodes),
     }
 }
 
@@ -43,7 +43,7 @@ fn bare(alloc: Global) -> Result<Syn, Memory> {
     Syn::whole_leaf(alloc, None, &x, Marks::new(alloc), Vec::new(alloc))
 }
 
-fn stepped<N: Ledger>(alloc: Global, steps: &[Step], blank: Blank) -> Result<Syn, Memory>
+fn stepped<N: Ledger>(alloc: Global, steps: &[ChangeStep], blank: Blank) -> Result<Syn, Memory>
     requires name { blank.name ≡ N.name }
     requires parts { (blank.parts ≡ N.parts) × (0 < N.parts) }
 {
@@ -56,7 +56,7 @@ fn stepped<N: Ledger>(alloc: Global, steps: &[Step], blank: Blank) -> Result<Syn
 }
 
 /// What the steps make of the leaf x without marks.
-fn after(alloc: Global, steps: &[Step]) -> Result<Syn, Memory> {
+fn after(alloc: Global, steps: &[ChangeStep]) -> Result<Syn, Memory> {
     stepped::<Brand>(alloc, steps, Blank::new(1))
 }
 
@@ -66,7 +66,7 @@ fn is_stamped(alloc: Global, tree: &Syn, rows: &[Stamped]) -> Result<bool, Memor
 }
 
 /// Steps on the leaf x without marks, and the marks and the stamps that it has then.
-type Change = (&'static [Step], &'static [u64], &'static [Stamped<'static>]);
+type Change = (&'static [ChangeStep], &'static [u64], &'static [Stamped<'static>]);
 
 fn gives(alloc: Global, change: &Change) -> Result<bool, Memory> {
     let tree = after(alloc, change.0)?;
@@ -89,17 +89,17 @@ fn leaves_change_as_the_algorithm_says(rt: HostRuntime) -> Result<(), Fail> {
         &rt,
         rt.alloc(),
         &[
-            (&[Step::Enter(1)], &[1], &[]),
-            (&[Step::Enter(1), Step::Leave(1)], &[], &[]),
-            (&[Step::LeaveWith(1, 2)], &[1], &[(2, &[1])]),
-            (&[Step::Enter(1), Step::LeaveWith(1, 2)], &[], &[]),
+            (&[ChangeStep::Enter(1)], &[1], &[]),
+            (&[ChangeStep::Enter(1), ChangeStep::Leave(1)], &[], &[]),
+            (&[ChangeStep::LeaveWith(1, 2)], &[1], &[(2, &[1])]),
+            (&[ChangeStep::Enter(1), ChangeStep::LeaveWith(1, 2)], &[], &[]),
             (
-                &[Step::Enter(1), Step::Stamp(2), Step::Leave(1)],
+                &[ChangeStep::Enter(1), ChangeStep::Stamp(2), ChangeStep::Leave(1)],
                 &[],
                 &[(2, &[1])],
             ),
             (
-                &[Step::Enter(1), Step::Leave(3), Step::Stamp(4)],
+                &[ChangeStep::Enter(1), ChangeStep::Leave(3), ChangeStep::Stamp(4)],
                 &[3, 1],
                 &[(4, &[3, 1])],
             ),

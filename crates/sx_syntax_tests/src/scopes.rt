@@ -12,15 +12,15 @@ use sx_scope::scope::Frames;
 
 /// The library that is expanded, one that it needs, and one that no one needs.
 #[derive(Drop)]
-struct Libraries {
+struct TestLibraries {
     own: Rc<LibName>,
     other: Rc<LibName>,
     left: Rc<LibName>,
 }
 
-impl Libraries {
-    fn new(alloc: Global) -> Result<Libraries, Fail> {
-        Ok(Libraries {
+impl TestLibraries {
+    fn new(alloc: Global) -> Result<TestLibraries, Fail> {
+        Ok(TestLibraries {
             own: Rc::new(alloc, LibName::Program)?,
             other: Rc::new(alloc, LibName::Prelude)?,
             left: Rc::new(alloc, LibName::Derived)?,
@@ -36,7 +36,7 @@ impl Libraries {
     }
 }
 
-fn check_step(alloc: Global, at: &Libraries, frames: &mut Frames, line: &str) -> Result<(), Fail> {
+fn check_step(alloc: Global, at: &TestLibraries, frames: &mut Frames, line: &str) -> Result<(), Fail> {
     let (asked, wanted) = line.split_once(" => ").ok_or("no answer")?;
     let (library, rest) = asked.split_once(" ").ok_or("no library")?;
     let (verb, words) = rest.split_once(" ").unwrap_or((rest, ""));
@@ -49,7 +49,7 @@ fn check_step(alloc: Global, at: &Libraries, frames: &mut Frames, line: &str) ->
 
 fn check_steps(
     alloc: Global,
-    at: &Libraries,
+    at: &TestLibraries,
     frames: &mut Frames,
     steps: &str,
 ) -> Result<(), Fail> {
@@ -60,7 +60,7 @@ fn check_steps(
 }
 
 // (frames are owned where no call can stop: each way out that drops them costs the proof much)
-fn check_new(alloc: Global, at: &Libraries) -> Result<(), Fail> {
+fn check_new(alloc: Global, at: &TestLibraries) -> Result<(), Fail> {
     let mut frames = Frames::new(alloc);
     check_steps(alloc, at, &mut frames, STEPS)
 }
@@ -68,7 +68,7 @@ fn check_new(alloc: Global, at: &Libraries) -> Result<(), Fail> {
 #[test]
 fn leaves_stand_for_what_frames_have(rt: HostRuntime) -> Result<(), Fail> {
     let alloc = rt.alloc();
-    check_new(alloc, &Libraries::new(alloc)?)
+    check_new(alloc, &TestLibraries::new(alloc)?)
 }
 
 fn given(alloc: Global, library: &Rc<LibName>) -> Result<GivenFrames, Fail> {
@@ -80,7 +80,7 @@ fn given(alloc: Global, library: &Rc<LibName>) -> Result<GivenFrames, Fail> {
 }
 
 // Puts the frames of two libraries into a table, which takes none of them again.
-fn put_both(alloc: Global, at: &Libraries, shared: &mut SharedFrames) -> Result<(), Fail> {
+fn put_both(alloc: Global, at: &TestLibraries, shared: &mut SharedFrames) -> Result<(), Fail> {
     let left = given(alloc, &at.left)?;
     let other = given(alloc, &at.other)?;
     shared.push(&left)?;
@@ -91,7 +91,7 @@ fn put_both(alloc: Global, at: &Libraries, shared: &mut SharedFrames) -> Result<
     Ok(())
 }
 
-fn shared(alloc: Global, at: &Libraries) -> Result<Rc<SharedFrames>, Fail> {
+fn shared(alloc: Global, at: &TestLibraries) -> Result<Rc<SharedFrames>, Fail> {
     let mut shared = SharedFrames::new(alloc);
     put_both(alloc, at, &mut shared)?;
     Ok(Rc::new(alloc, shared)?)
@@ -107,7 +107,7 @@ fn second(alloc: Global) -> Result<Rc<Items<bool>>, Fail> {
 
 fn check_over(
     alloc: Global,
-    at: &Libraries,
+    at: &TestLibraries,
     shared: Rc<SharedFrames>,
     needs: Rc<Items<bool>>,
 ) -> Result<(), Fail> {
@@ -118,6 +118,6 @@ fn check_over(
 #[test]
 fn what_a_needed_library_gives_is_found_and_is_complete(rt: HostRuntime) -> Result<(), Fail> {
     let alloc = rt.alloc();
-    let at = Libraries::new(alloc)?;
+    let at = TestLibraries::new(alloc)?;
     check_over(alloc, &at, shared(alloc, &at)?, second(alloc)?)
 }

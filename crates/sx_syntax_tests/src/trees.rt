@@ -9,7 +9,7 @@ use sx_base::atom::Atom;
 use sx_base::fault::BareStop;
 use sx_base::memory::Memory;
 use sx_base::steps::Steps;
-use sx_syntax::syn::{Opened, Syn};
+use sx_syntax::syn::{OpenedTree, Syn};
 
 /// The tree, or none where it would pass a limit.
 fn made(outcome: Result<Syn, BareStop>) -> Result<Option<Syn>, Memory> {
@@ -90,7 +90,7 @@ fn changed_lists(alloc: Global, times: u32) -> Result<Option<Syn>, Memory> {
 /// The rest of a list.
 fn rest(alloc: Global, tree: &Syn) -> Result<Option<Syn>, Memory> {
     match tree.open(alloc)? {
-        Opened::Pair(_, rest) => Ok(Some(rest)),
+        OpenedTree::Pair(_, rest) => Ok(Some(rest)),
         _ => Ok(None),
     }
 }

@@ -5,7 +5,7 @@ use Rattle.sx_base.specs.Gives.{◌>>=◌}
 use Rattle.sx_base.specs.declared.fault.Bare.{Bare}
 use Rattle.sx_core.specs.Template.{more}
 use Rattle.sx_core.specs.TemplateView.{items}
-use Rattle.sx_core.specs.declared.template.Item.{Item}
+use Rattle.sx_core.specs.declared.template.TemplateItem.{TemplateItem}
 use Rattle.sx_template.specs.Binds.{Binds, unbound}
 use Rattle.sx_template.specs.Lengths.{lengths, items_lengths, differing, agree}
 
@@ -25,7 +25,7 @@ agree_on m n xs ys e = agree-append m xs ys ∙ ap (λ r. r >>= λ n. agree n ys
 pub agree_stops : (m : Option ℕ) (f : Bare) (xs ys : List ℕ) → agree m xs ≡ Err f → agree m (xs ++ ys) ≡ Err f
 agree_stops m f xs ys e = agree-append m xs ys ∙ ap (λ r. r >>= λ n. agree n ys) e
 
-module _ (is : List Item) (i : ℕ) (x : Item) (h : i < length is) (e : x ≡ get_or is i x) where
+module _ (is : List TemplateItem) (i : ℕ) (x : TemplateItem) (h : i < length is) (e : x ≡ get_or is i x) where
   pub items_here : items (drop i is) ≡ more x.template x.ellipses (items (drop (i + 1) is))
   items_here =
       let cons : drop i is ≡ x ∷ drop (i + 1) is = rw add-one (drop-cons is i x h ∙ ap (λ y. y ∷ drop (suc i) is) (sym e)) in

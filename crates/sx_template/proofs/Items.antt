@@ -3,9 +3,9 @@ use Rattle.std.proofs.Common.{◌≡◌, List, [], ◌∷◌, ◌++◌, refl, ap
 use Rattle.sx_tree.specs.Tree.{Tree}
 use Rattle.sx_core.specs.Template.{PlainItems, none, more}
 use Rattle.sx_core.specs.TemplateView.{items}
-use Rattle.sx_core.specs.declared.template.Item.{Item}
-use Rattle.sx_template.specs.declared.compile.Made.{Made}
-use Rattle.sx_template.specs.declared.compile.Made.TheVariants.{Fixed, Varied}
+use Rattle.sx_core.specs.declared.template.TemplateItem.{TemplateItem}
+use Rattle.sx_template.specs.declared.compile.CompiledForm.{CompiledForm}
+use Rattle.sx_template.specs.declared.compile.CompiledForm.TheVariants.{Fixed, Varied}
 use Rattle.sx_template.specs.declared.compile.MadeItem.{MadeItem}
 use Rattle.sx_template.specs.Compile.{template_of, items_of, tree_before, trees}
 
@@ -13,7 +13,7 @@ abbrev then_items : PlainItems → PlainItems → PlainItems
 then_items none js = js
 then_items (more t e is) js = more t e (then_items is js)
 
-items-append : (xs ys : List Item) → items (xs ++ ys) ≡ then_items (items xs) (items ys)
+items-append : (xs ys : List TemplateItem) → items (xs ++ ys) ≡ then_items (items xs) (items ys)
 items-append [] ys = refl
 items-append (x ∷ xs) ys = ap (more x.template x.ellipses) (items-append xs ys)
 
@@ -22,14 +22,14 @@ items_of-append [] ys = refl
 items_of-append (x ∷ xs) ys = ap (more (template_of x.made) x.ellipses) (items_of-append xs ys)
 
 -- one more item
-pub items_on : (xs : List Item) (ys : List MadeItem) (x : Item) (y : MadeItem) → items xs ≡ items_of ys → x.template ≡ template_of y.made → x.ellipses ≡ y.ellipses
+pub items_on : (xs : List TemplateItem) (ys : List MadeItem) (x : TemplateItem) (y : MadeItem) → items xs ≡ items_of ys → x.template ≡ template_of y.made → x.ellipses ≡ y.ellipses
     → items (xs ++ x ∷ []) ≡ items_of (ys ++ y ∷ [])
 items_on xs ys x y h t e =
     items-append xs (x ∷ []) ∙ ap (λ is. then_items is (more x.template x.ellipses none)) h
     ∙ ap (λ u. then_items (items_of ys) (more u x.ellipses none)) t ∙ ap (λ n. then_items (items_of ys) (more (template_of y.made) n none)) e
     ∙ sym (items_of-append ys (y ∷ []))
 
-before-append : (m : Made) (ts : List Tree) → tree_before m ts ≡ tree_before m [] ++ ts
+before-append : (m : CompiledForm) (ts : List Tree) → tree_before m ts ≡ tree_before m [] ++ ts
 before-append (Fixed changed t) ts = refl
 before-append (Varied t r) ts = refl
 

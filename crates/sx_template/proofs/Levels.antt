@@ -10,19 +10,19 @@ use Rattle.sx_base.specs.declared.fault.Stop.TheVariants as stops
 use Rattle.sx_tree.specs.Tree.{Tree, atom, leaf, pair, vector, is_pair}
 use Rattle.sx_base.specs.declared.name.Label.{Label}
 use Rattle.sx_syntax.specs.Opens.{Opens}
-use Rattle.sx_syntax.specs.declared.syn.Opened.TheVariants as opened
+use Rattle.sx_syntax.specs.declared.syn.OpenedTree.TheVariants as opened
 use Rattle.sx_shapes.specs.Lists.{is_nil, elements, tail_of}
 use Rattle.sx_pattern.specs.Keywords.{is_ellipsis}
 use Rattle.sx_pattern.proofs.Levels.{elements_chain}
-use Rattle.sx_template.specs.declared.compile.Made.{Made}
-use Rattle.sx_template.specs.declared.compile.Made.TheVariants.{Fixed}
-use Rattle.sx_template.specs.Compile.{Context, Element, template, elements_made, tail_made, with_template, forms_walked, leaf_made, list_made, unescaped, vector_made, vector_template, list_joined, escape_of, escaped_form, list_template, dots, dots_behind, dot_count, first_label}
+use Rattle.sx_template.specs.declared.compile.CompiledForm.{CompiledForm}
+use Rattle.sx_template.specs.declared.compile.CompiledForm.TheVariants.{Fixed}
+use Rattle.sx_template.specs.Compile.{TemplateScope, TemplateElement, template, elements_made, tail_made, with_template, forms_walked, leaf_made, list_made, unescaped, vector_made, vector_template, list_joined, escape_of, escaped_form, list_template, dots, dots_behind, dot_count, first_label}
 
-module _ (c : Context) where
+module _ (c : TemplateScope) where
   pub elements_are : (t : Tree) → elements_made c t ≡ map (with_template c) (elements t)
   elements_are (atom s a) = refl
   elements_are (leaf s x k) = refl
-  elements_are (pair s a d) = ap (λ (xs : List Element). (a, template c a) ∷ xs) (elements_are d)
+  elements_are (pair s a d) = ap (λ (xs : List TemplateElement). (a, template c a) ∷ xs) (elements_are d)
   elements_are (vector s d) = refl
 
   pub tail_is : (t : Tree) → tail_made c t ≡ template c (tail_of t)
@@ -61,9 +61,9 @@ module _ (c : Context) where
     made_vector v (pair p a d) h = absurd h
     made_vector v (vector p d) h =
         let same : elements_made c d ≡ map (with_template c) v.items = elements_are d ∙ ap (map (with_template c)) (ap elements (sym h) ∙ elements_chain v.items) in
-        ap (λ (xs : List Element). vector_made c escaped (vector p d) xs under) same
+        ap (λ (xs : List TemplateElement). vector_made c escaped (vector p d) xs under) same
 
-  abbrev on_form : Bool → ℕ → Tree → List Tree → Option Tree → Result Made Fault
+  abbrev on_form : Bool → ℕ → Tree → List Tree → Option Tree → Result CompiledForm Fault
   on_form escaped under t ts None = forms_walked c escaped under ts >>= λ items. template c (tail_of t) escaped under >>= list_joined c.place t items
   on_form escaped under t ts (Some u) = template c u true under >>= λ m. Ok (unescaped m)
 
@@ -87,8 +87,8 @@ module _ (c : Context) where
   made_list escaped under (atom p b) h = absurd (cc)
   made_list escaped under (leaf p y k) h = absurd (cc)
   made_list escaped under (pair p a d) h =
-      ap (λ (xs : List Element). list_made c escaped (pair p a d) ((a, template c a) ∷ xs) (tail_made c d) under (escape_of c.frames escaped ((a, template c a) ∷ xs) (is_nil (tail_of d)))) (elements_are d)
-      ∙ ap (λ (go : Bool → ℕ → Result Made Fault). list_made c escaped (pair p a d) (map (with_template c) (a ∷ elements d)) go under (escape_of c.frames escaped (map (with_template c) (a ∷ elements d)) (is_nil (tail_of d)))) (tail_is d)
+      ap (λ (xs : List TemplateElement). list_made c escaped (pair p a d) ((a, template c a) ∷ xs) (tail_made c d) under (escape_of c.frames escaped ((a, template c a) ∷ xs) (is_nil (tail_of d)))) (elements_are d)
+      ∙ ap (λ (go : Bool → ℕ → Result CompiledForm Fault). list_made c escaped (pair p a d) (map (with_template c) (a ∷ elements d)) go under (escape_of c.frames escaped (map (with_template c) (a ∷ elements d)) (is_nil (tail_of d)))) (tail_is d)
       ∙ by_form escaped under (pair p a d) (a ∷ elements d) (is_nil (tail_of d))
   made_list escaped under (vector p d) h = absurd (cc)
 
@@ -101,7 +101,7 @@ module _ (c : Context) where
     list_plain e = made_list escaped under t h ∙ ap (on_form escaped under t (elements t)) e
 
     -- what an escaped form gives, the whole gives
-    pub escaped_gives : (u : Tree) (first : Option Label) (ts : List Tree) (tail : Tree) (ends : Bool) (m : Made) → first ≡ first_label c.frames ts → ts ≡ elements t → tail ≡ tail_of t
+    pub escaped_gives : (u : Tree) (first : Option Label) (ts : List Tree) (tail : Tree) (ends : Bool) (m : CompiledForm) → first ≡ first_label c.frames ts → ts ≡ elements t → tail ≡ tail_of t
         → ends ≡ is_nil tail → Some u ≡ escaped_form first escaped ts ends → template c u true under ≡ Ok m → template c t escaped under ≡ Ok (unescaped m)
     escaped_gives u first ts tail ends m label are last ended e k =
         let nil : is_nil (tail_of t) ≡ ends = ap is_nil (sym last) ∙ sym ended in

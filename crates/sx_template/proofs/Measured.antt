@@ -8,7 +8,7 @@ use Rattle.sx_base.specs.declared.fault.Bare.{Bare}
 use Rattle.sx_base.specs.declared.fault.BareStop.{BareStop}
 use Rattle.sx_base.specs.declared.fault.BareStop.TheVariants as stop
 use Rattle.sx_core.specs.TemplateView.{items}
-use Rattle.sx_core.specs.declared.template.Item.{Item}
+use Rattle.sx_core.specs.declared.template.TemplateItem.{TemplateItem}
 use Rattle.sx_template.specs.Binds.{Binds, unbound}
 use Rattle.sx_template.specs.Instance.{counts}
 use Rattle.sx_template.specs.Measure.{Cost, plus, turns_cost, item_cost, measure, items_cost, sees, items_see, IsCost, Measures}
@@ -69,8 +69,8 @@ comes_to o rest whole none so_far =
     subst (Measures (Ok o)) all so_far.1.0
 
 -- the items from a place on
-module _ (is : List Item) (i : ℕ) (binds : Binds) (turns : List ℕ) where
-  pub cost_here : (x : Item) → i < length is → x ≡ get_or is i x
+module _ (is : List TemplateItem) (i : ℕ) (binds : Binds) (turns : List ℕ) where
+  pub cost_here : (x : TemplateItem) → i < length is → x ≡ get_or is i x
       → items_cost unbound binds (items (drop i is)) turns
       ≡ plus (item_cost (measure unbound binds x.template) (counts unbound binds x.template) x.ellipses turns) (items_cost unbound binds (items (drop (i + 1) is)) turns)
   cost_here x h e = ap (λ js. items_cost unbound binds js turns) (items_here is i x h e)
@@ -91,7 +91,7 @@ module _ (go : List ℕ → Cost) (count i : ℕ) (turns : List ℕ) where
       ap (λ n. turns_cost go n i turns) k
 
 -- whether one of the items sees a turn
-module _ (is : List Item) (i inside : ℕ) (x : Item) (h : i < length is) (e : x ≡ get_or is i x) (total : Bool) (so_far : items_see inside (items (drop i is)) ≡ total) where
+module _ (is : List TemplateItem) (i inside : ℕ) (x : TemplateItem) (h : i < length is) (e : x ≡ get_or is i x) (total : Bool) (so_far : items_see inside (items (drop i is)) ≡ total) where
   see_here : items_see inside (items (drop i is)) ≡ (sees (inside + x.ellipses) x.template || items_see inside (items (drop (i + 1) is)))
   see_here = ap (items_see inside) (items_here is i x h e)
 
@@ -102,7 +102,7 @@ module _ (is : List Item) (i inside : ℕ) (x : Item) (h : i < length is) (e : x
   seen_on s = sym (see_here ∙ ap (λ b. b || items_see inside (items (drop (i + 1) is))) s) ∙ so_far
 
 -- the items from a place on, with what is counted so far
-module _ (is : List Item) (i : ℕ) (x : Item) (h : i < length is) (e : x ≡ get_or is i x) (binds : Binds) (turns : List ℕ) (o : Option ℕ) (whole : Cost)
+module _ (is : List TemplateItem) (i : ℕ) (x : TemplateItem) (h : i < length is) (e : x ≡ get_or is i x) (binds : Binds) (turns : List ℕ) (o : Option ℕ) (whole : Cost)
     (so_far : SoFar o (items_cost unbound binds (items (drop i is)) turns) whole) where
   abbrev of_item : Cost
   of_item = item_cost (measure unbound binds x.template) (counts unbound binds x.template) x.ellipses turns

@@ -3,7 +3,7 @@ use Rattle.std.proofs.Common.{◌≡◌, ℕ, suc, ◌+◌, ◌-◌, ◌<◌, �
 use Rattle.std.specs.Prelude.{unwrap_or}
 use Rattle.sx_tree.specs.Tree.{Tree}
 use Rattle.sx_core.specs.TemplateView.{items}
-use Rattle.sx_core.specs.declared.template.Item.{Item}
+use Rattle.sx_core.specs.declared.template.TemplateItem.{TemplateItem}
 use Rattle.sx_pattern.specs.Matched.{and_then}
 use Rattle.sx_template.specs.Binds.{Binds, unbound}
 use Rattle.sx_template.specs.Instance.{counts}
@@ -11,7 +11,7 @@ use Rattle.sx_template.specs.Lengths.{agree, or_none}
 use Rattle.sx_template.specs.Trees.{ok_of, tree_of, trees_of, item_trees, each_turn, all_bound, all_items_bound}
 use Rattle.sx_template.proofs.Agreed.{items_here}
 
-module _ (is : List Item) (i : ℕ) (x : Item) (h : i < length is) (e : x ≡ get_or is i x) (binds : Binds) where
+module _ (is : List TemplateItem) (i : ℕ) (x : TemplateItem) (h : i < length is) (e : x ≡ get_or is i x) (binds : Binds) where
   bound_here : all_items_bound binds (items (drop i is)) ≡ all_bound binds x.template && all_items_bound binds (items (drop (i + 1) is))
   bound_here = ap (all_items_bound binds) (items_here is i x h e)
 

@@ -6,18 +6,18 @@ use Rattle.sx_base.specs.declared.fault.Fault.{Fault}
 use Rattle.sx_base.specs.declared.fault.Stop.{Stop}
 use Rattle.sx_base.specs.declared.fault.Stop.TheVariants as stops
 use Rattle.sx_tree.specs.Tree.{Tree}
-use Rattle.sx_template.specs.Compile.{Context, Walked, dot_count, with_template, item_made, walked}
+use Rattle.sx_template.specs.Compile.{TemplateScope, Walked, dot_count, with_template, item_made, walked}
 use Rattle.sx_template.specs.declared.compile.MadeItem.{MadeItem}
 use Rattle.sx_template.proofs.Levels.{dots_are}
 
 -- elements that are skipped
-skipped : (c : Context) (escaped : Bool) (under : ℕ) (items : List MadeItem) (n : ℕ) (ts : List Tree)
+skipped : (c : TemplateScope) (escaped : Bool) (under : ℕ) (items : List MadeItem) (n : ℕ) (ts : List Tree)
     → walked c escaped under n items (map (with_template c) ts) ≡ walked c escaped under 0 items (map (with_template c) (drop n ts))
 skipped c escaped under items zero ts = refl
 skipped c escaped under items (suc n) [] = refl
 skipped c escaped under items (suc n) (t ∷ ts) = skipped c escaped under items n ts
 
-module _ (c : Context) (escaped : Bool) (under : ℕ) (items : List MadeItem) (left : List Tree) (t : Tree) (ts es after : List Tree) (n : ℕ)
+module _ (c : TemplateScope) (escaped : Bool) (under : ℕ) (items : List MadeItem) (left : List Tree) (t : Tree) (ts es after : List Tree) (n : ℕ)
     (total : Result (List MadeItem) Fault) (is : left ≡ t ∷ ts) (count : n ≡ dot_count c.frames escaped ts) (front : es ≡ take n ts) (many : length es ≡ n) (back : after ≡ drop n ts) where
   -- how many elements are skipped after an item, and the items then
   abbrev told : List Tree → MadeItem → Result Walked Fault

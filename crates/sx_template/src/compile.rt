@@ -9,7 +9,7 @@ ghost use Rattle.sx_core.specs.TemplateView.{items};
 ghost use Rattle.sx_core.specs.Bindings.{bound_to};
 ghost use Rattle.sx_scope.specs.Stands.{stands};
 ghost use Rattle.sx_shapes.specs.Lists.{tail_of, elements};
-ghost use Rattle.sx_template.specs.declared.compile.Made.TheVariants.{Fixed, Varied};
+ghost use Rattle.sx_template.specs.declared.compile.CompiledForm.TheVariants.{Fixed, Varied};
 ghost use Rattle.sx_template.specs.Compile.{seen, bad, variable_made, bound_made, label_made, is_special, leaf_made, dot_count, first_label, reach, fitted, item_made, constant_of, template_of, items_of, reaches, is_fixed, all_fixed, is_changed, any_changed, tree_before, trees, StopsAt, rebuilt, fixed_list, list_joined, fixed_vector, vector_joined, unescaped, template, with_template, forms_walked, escaped_form, list_template, escaped_template, vector_template, compiled};
 
 use std::alloc::Global;
@@ -21,13 +21,13 @@ use sx_base::span::Span;
 use sx_base::symbol::Symbol;
 use sx_core::binding::Binding;
 use sx_core::core_form::CoreForm;
-use sx_core::template::{Item, Template, TemplateNode};
+use sx_core::template::{TemplateItem, Template, TemplateNode};
 use sx_known::known::KnownBindings;
 use sx_pattern::keywords::is_form;
 use sx_scope::scope::Frames;
 use sx_shapes::at::{fault_at, place_of};
 use sx_shapes::lists::{is_nil, parts_of};
-use sx_syntax::syn::{Opened, Syn};
+use sx_syntax::syn::{OpenedTree, Syn};
 
 /// What forms are read with as templates.
 #[derive(Drop)]
@@ -52,7 +52,7 @@ pub(crate) struct Identifier<'a> {
 
 /// A pattern variable, as it is bound.
 #[derive(Drop)]
-pub(crate) struct Variable {
+pub(crate) struct TemplateVariable {
     pub(crate) label: Label,
     pub(crate) level: u32,
     pub(crate) depth: u32,
@@ -60,7 +60,7 @@ pub(crate) struct Variable {
 
 /// What is made of a form.
 #[derive(Drop)]
-pub(crate) enum Made {
+pub(crate) enum CompiledForm {
     /// The tree of a part without pattern variables, and whether an escape was taken out of it.
     Fixed(bool, Syn),
     /// A template, and how many ellipses behind it have a variable of depth before them.
@@ -69,7 +69,7 @@ pub(crate) enum Made {
 
 /// An element of a list or vector.
 #[derive(Drop)]
-pub(crate) struct Element<'a> {
+pub(crate) struct TemplateElement<'a> {
     pub(crate) form: &'a Syn,
     /// The label that the form stands for.
     pub(crate) label: Option<Label>,
@@ -80,7 +80,7 @@ pub(crate) struct Element<'a> {
 /// What is made of an element, and how many ellipses stand behind it.
 #[derive(Drop)]
 pub(crate) struct MadeItem {
-    pub(crate) made: Made,
+    pub(crate) made: CompiledForm,
     pub(crate) ellipses: u32,
 }
 
@@ -117,11 +117,11 @@ fn variable_made(
     context: &TemplateContext,
     id: &Identifier,
     under: u64,
-    variable: Variable,
-) -> Result<Made, Stop>
+    variable: TemplateVariable,
+) -> Result<CompiledForm, Stop>
     ensures { Gives (λ m. m) result (variable_made (seen context.now) under id.now.symbol.now id.now.form.now variable.label variable.level variable.depth) }
 {
-    let Variable {
+    let TemplateVariable {
         label,
         level,
         depth,
@@ -139,7 +139,7 @@ fn variable_made(
         return Err(bad_template(context, id.form));
     }
     let node = TemplateNode::Variable(label, depth);
-    Ok(Made::Varied(Template { node }, depth))
+    Ok(CompiledForm::Varied(Template { node }, depth))
 }
 
 fn label_made(
@@ -147,16 +147,16 @@ fn label_made(
     id: &Identifier,
     under: u64,
     label: Option<Label>,
-) -> Result<Made, Stop>
+) -> Result<CompiledForm, Stop>
     ensures { Gives (λ m. m) result (label_made (seen context.now) under id.now.symbol.now id.now.form.now label) }
 {
     let Some(label) = label else {
         let form = id.form.share()?;
-        return Ok(Made::Fixed(false, form));
+        return Ok(CompiledForm::Fixed(false, form));
     };
     match context.bindings.get(&label) {
         Some(Binding::PatternVariable { level, depth }) => {
-            let variable = Variable {
+            let variable = TemplateVariable {
                 label,
                 level: *level,
                 depth: *depth,
@@ -165,7 +165,7 @@ fn label_made(
         }
         _ => {
             let form = id.form.share()?;
-            Ok(Made::Fixed(false, form))
+            Ok(CompiledForm::Fixed(false, form))
         }
     }
 }
@@ -186,7 +186,7 @@ fn leaf_made(
     label: Option<Label>,
     escaped: bool,
     under: u64,
-) -> Result<Made, Stop>
+) -> Result<CompiledForm, Stop>
     requires { label ≡ stands context.now.frames.now id.now.form.now }
     ensures { Gives (λ m. m) result (leaf_made (seen context.now) escaped id.now.symbol.now id.now.form.now under) }
 {
@@ -242,17 +242,17 @@ fn ellipses_of(forms: &[Syn], escaped: bool, frames: &Frames) -> Result<Ellipses
     Ok(Ellipses { count, next: None })
 }
 
-fn reach(made: &Made) -> u32
+fn reach(made: &CompiledForm) -> u32
     ensures { result ≡ reach made.now }
 {
     match made {
-        Made::Fixed(_, _) => 0,
-        Made::Varied(_, reach) => *reach,
+        CompiledForm::Fixed(_, _) => 0,
+        CompiledForm::Varied(_, reach) => *reach,
     }
 }
 
 /// An item with the ellipses behind it, each of which must have a variable of depth before it.
-fn fitted(context: &TemplateContext, made: Made, ellipses: &[Syn]) -> Result<MadeItem, Stop>
+fn fitted(context: &TemplateContext, made: CompiledForm, ellipses: &[Syn]) -> Result<MadeItem, Stop>
     ensures { Gives (λ i. i) result (fitted context.now.place.now ellipses.now made) }
 {
     let reach = reach(&made);
@@ -276,23 +276,23 @@ fn constant_of(alloc: Global, form: &Syn) -> Result<Template, Memory>
     })
 }
 
-fn template_of(alloc: Global, made: Made) -> Result<Template, Memory>
+fn template_of(alloc: Global, made: CompiledForm) -> Result<Template, Memory>
     ensures { IfOk result (λ t. t ≡ template_of made) }
 {
     match made {
-        Made::Fixed(_, form) => constant_of(alloc, &form),
-        Made::Varied(template, _) => Ok(template),
+        CompiledForm::Fixed(_, form) => constant_of(alloc, &form),
+        CompiledForm::Varied(template, _) => Ok(template),
     }
 }
 
 #[tactic(auto, using(crate::proofs::Items::items_on))]
-fn items_of(alloc: Global, made: Items<MadeItem>) -> Result<Vec<Item>, Memory>
+fn items_of(alloc: Global, made: Items<MadeItem>) -> Result<Vec<TemplateItem>, Memory>
     ensures { IfOk result (λ is. items is.items ≡ items_of made) }
 {
     let mut list = Vec::new(alloc);
     for MadeItem { made, ellipses } in made.into_vec() {
         let template = template_of(alloc, made)?;
-        list.push(Item { template, ellipses })?;
+        list.push(TemplateItem { template, ellipses })?;
     }
     Ok(list)
 }
@@ -307,10 +307,10 @@ fn reaches(made: &[MadeItem]) -> u32
     most
 }
 
-fn is_fixed(made: &Made) -> bool
+fn is_fixed(made: &CompiledForm) -> bool
     ensures { result ≡ is_fixed made.now }
 {
-    matches!(made, Made::Fixed(_, _))
+    matches!(made, CompiledForm::Fixed(_, _))
 }
 
 fn all_fixed(made: &[MadeItem]) -> bool
@@ -324,12 +324,12 @@ fn all_fixed(made: &[MadeItem]) -> bool
     true
 }
 
-fn is_changed(made: &Made) -> bool
+fn is_changed(made: &CompiledForm) -> bool
     ensures { result ≡ is_changed made.now }
 {
     match made {
-        Made::Fixed(changed, _) => *changed,
-        Made::Varied(_, _) => false,
+        CompiledForm::Fixed(changed, _) => *changed,
+        CompiledForm::Varied(_, _) => false,
     }
 }
 
@@ -344,15 +344,15 @@ fn any_changed(made: &[MadeItem]) -> bool
     false
 }
 
-fn push_tree(trees: &mut Vec<Syn>, made: Made) -> Result<(), Memory>
+fn push_tree(trees: &mut Vec<Syn>, made: CompiledForm) -> Result<(), Memory>
     ensures { OnOk result (trees.new.items ≡ trees.old.items ++ tree_before made []) }
 {
     match made {
-        Made::Fixed(_, form) => {
+        CompiledForm::Fixed(_, form) => {
             trees.push(form)?;
             Ok(())
         }
-        Made::Varied(_, _) => Ok(()),
+        CompiledForm::Varied(_, _) => Ok(()),
     }
 }
 
@@ -381,7 +381,7 @@ fn stopped_at(stop: BareStop, form: &Syn, place: &Span) -> Stop
 }
 
 /// A form from which escapes were taken out, with the span that it had.
-fn fixed_again(alloc: Global, form: &Syn, tree: &Syn) -> Result<Made, Memory>
+fn fixed_again(alloc: Global, form: &Syn, tree: &Syn) -> Result<CompiledForm, Memory>
     ensures { IfOk result (λ m. m ≡ Fixed true (spanned (span_of form.now) tree.now)) }
 {
     let span = match form.span() {
@@ -389,7 +389,7 @@ fn fixed_again(alloc: Global, form: &Syn, tree: &Syn) -> Result<Made, Memory>
         Some(span) => Some(span.share()?),
     };
     let tree = tree.spanned(alloc, span)?;
-    Ok(Made::Fixed(true, tree))
+    Ok(CompiledForm::Fixed(true, tree))
 }
 
 #[tactic(auto, using(crate::proofs::Places::rebuilt_stops))]
@@ -398,7 +398,7 @@ fn list_again(
     form: &Syn,
     trees: Vec<Syn>,
     tail: Syn,
-) -> Result<Made, Stop>
+) -> Result<CompiledForm, Stop>
     ensures { Gives (λ m. m) result (rebuilt context.now.place.now form.now (within (list_of trees.items (Some tail)))) }
 {
     match Syn::list(context.alloc, trees, Some(tail)) {
@@ -411,7 +411,7 @@ fn list_again(
 }
 
 #[tactic(auto, using(crate::proofs::Places::rebuilt_stops))]
-fn vector_again(context: &TemplateContext, form: &Syn, trees: Vec<Syn>) -> Result<Made, Stop>
+fn vector_again(context: &TemplateContext, form: &Syn, trees: Vec<Syn>) -> Result<CompiledForm, Stop>
     ensures { Gives (λ m. m) result (rebuilt context.now.place.now form.now (within (vector_of trees.items))) }
 {
     match Syn::vector(context.alloc, trees) {
@@ -429,7 +429,7 @@ fn fixed_list(
     items: Items<MadeItem>,
     changed: bool,
     tail: Syn,
-) -> Result<Made, Stop>
+) -> Result<CompiledForm, Stop>
     ensures { Gives (λ m. m) result (fixed_list context.now.place.now form.now items changed tail) }
 {
     if changed || any_changed(items.as_slice()) {
@@ -437,10 +437,10 @@ fn fixed_list(
         return list_again(context, form, trees, tail);
     }
     let form = form.share()?;
-    Ok(Made::Fixed(false, form))
+    Ok(CompiledForm::Fixed(false, form))
 }
 
-fn fixed_vector(context: &TemplateContext, form: &Syn, items: Items<MadeItem>) -> Result<Made, Stop>
+fn fixed_vector(context: &TemplateContext, form: &Syn, items: Items<MadeItem>) -> Result<CompiledForm, Stop>
     ensures { Gives (λ m. m) result (fixed_vector context.now.place.now form.now items) }
 {
     if any_changed(items.as_slice()) {
@@ -448,7 +448,7 @@ fn fixed_vector(context: &TemplateContext, form: &Syn, items: Items<MadeItem>) -
         return vector_again(context, form, trees);
     }
     let form = form.share()?;
-    Ok(Made::Fixed(false, form))
+    Ok(CompiledForm::Fixed(false, form))
 }
 
 fn varied_list(
@@ -456,13 +456,13 @@ fn varied_list(
     items: Items<MadeItem>,
     tail: Template,
     reach: u32,
-) -> Result<Made, Memory>
+) -> Result<CompiledForm, Memory>
     ensures { IfOk result (λ m. m ≡ Varied (list (items_of items) tail) reach) }
 {
     let list = items_of(alloc, items)?;
     let tail = Box::new(alloc, tail)?;
     let node = TemplateNode::List(list, tail);
-    Ok(Made::Varied(Template { node }, reach))
+    Ok(CompiledForm::Varied(Template { node }, reach))
 }
 
 /// What is made of a list, from what is made of its elements and of what ends it.
@@ -470,17 +470,17 @@ fn list_joined(
     context: &TemplateContext,
     form: &Syn,
     items: Items<MadeItem>,
-    tail: Made,
-) -> Result<Made, Stop>
+    tail: CompiledForm,
+) -> Result<CompiledForm, Stop>
     ensures { Gives (λ m. m) result (list_joined context.now.place.now form.now items tail) }
 {
     let reach = reaches(items.as_slice());
     match tail {
-        Made::Varied(tail, own) => {
+        CompiledForm::Varied(tail, own) => {
             let made = varied_list(context.alloc, items, tail, reach.max(own))?;
             Ok(made)
         }
-        Made::Fixed(changed, tail) => {
+        CompiledForm::Fixed(changed, tail) => {
             if all_fixed(items.as_slice()) {
                 return fixed_list(context, form, items, changed, tail);
             }
@@ -496,7 +496,7 @@ fn vector_joined(
     context: &TemplateContext,
     form: &Syn,
     items: Items<MadeItem>,
-) -> Result<Made, Stop>
+) -> Result<CompiledForm, Stop>
     ensures { Gives (λ m. m) result (vector_joined context.now.place.now form.now items) }
 {
     if all_fixed(items.as_slice()) {
@@ -505,15 +505,15 @@ fn vector_joined(
     let reach = reaches(items.as_slice());
     let list = items_of(context.alloc, items)?;
     let node = TemplateNode::Vector(list);
-    Ok(Made::Varied(Template { node }, reach))
+    Ok(CompiledForm::Varied(Template { node }, reach))
 }
 
-fn unescaped(made: Made) -> Made
+fn unescaped(made: CompiledForm) -> CompiledForm
     ensures { result ≡ unescaped made }
 {
     match made {
-        Made::Fixed(_, form) => Made::Fixed(true, form),
-        Made::Varied(template, reach) => Made::Varied(template, reach),
+        CompiledForm::Fixed(_, form) => CompiledForm::Fixed(true, form),
+        CompiledForm::Varied(template, reach) => CompiledForm::Varied(template, reach),
     }
 }
 
@@ -547,24 +547,24 @@ fn template(
     label: Option<Label>,
     escaped: bool,
     under: u64,
-) -> Result<Made, Stop>
+) -> Result<CompiledForm, Stop>
     requires { label ≡ stands context.now.frames.now form.now }
     ensures { Gives (λ m. m) result (template (seen context.now) form.now escaped under) }
 {
     match form.open(context.alloc)? {
-        Opened::Atom(_) => {
+        OpenedTree::Atom(_) => {
             let form = form.share()?;
-            Ok(Made::Fixed(false, form))
+            Ok(CompiledForm::Fixed(false, form))
         }
-        Opened::Symbol(symbol) => {
+        OpenedTree::Symbol(symbol) => {
             let id = Identifier {
                 form,
                 symbol: &symbol,
             };
             leaf_made(context, &id, label, escaped, under)
         }
-        Opened::Pair(_, _) => list_template(context, form, escaped, under),
-        Opened::Vector(forms) => vector_template(context, form, &forms, escaped, under),
+        OpenedTree::Pair(_, _) => list_template(context, form, escaped, under),
+        OpenedTree::Vector(forms) => vector_template(context, form, &forms, escaped, under),
     }
 }
 
@@ -575,7 +575,7 @@ fn vector_template(
     forms: &[Syn],
     escaped: bool,
     under: u64,
-) -> Result<Made, Stop>
+) -> Result<CompiledForm, Stop>
     ensures { Gives (λ m. m) result (vector_template (seen context.now) form.now forms.now escaped under) }
 {
     let first = first_label(forms, context.frames)?;
@@ -590,7 +590,7 @@ fn list_template(
     form: &Syn,
     escaped: bool,
     under: u64,
-) -> Result<Made, Stop>
+) -> Result<CompiledForm, Stop>
     requires { is_pair form.now ≡ true }
     ensures { Gives (λ m. m) result (template (seen context.now) form.now escaped under) }
 {
@@ -627,7 +627,7 @@ fn elements(
     while let Some((form, behind)) = left.split_first() {
         let Ellipses { count, next } = ellipses_of(behind, escaped, context.frames)?;
         let (ellipses, after) = behind.split_at(count);
-        let element = Element {
+        let element = TemplateElement {
             form,
             label,
             ellipses,
@@ -644,14 +644,14 @@ fn elements(
 #[cycle(template)]
 fn item(
     context: &TemplateContext,
-    element: Element,
+    element: TemplateElement,
     escaped: bool,
     under: u64,
 ) -> Result<MadeItem, Stop>
     requires { element.label ≡ stands context.now.frames.now element.form.now }
     ensures { Gives (λ i. i) result (item_made (seen context.now) escaped under (with_template (seen context.now) element.entry.form.now) element.entry.ellipses.now) }
 {
-    let Element {
+    let TemplateElement {
         form,
         label,
         ellipses,

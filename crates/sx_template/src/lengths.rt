@@ -14,7 +14,7 @@ use sx_base::fault::{Bare, BareStop, FaultKind};
 use sx_base::items::Items;
 use sx_base::memory::Memory;
 use sx_base::symbol::Symbol;
-use sx_core::template::{Item, Template, TemplateNode};
+use sx_core::template::{TemplateItem, Template, TemplateNode};
 
 fn number_word(alloc: Global, number: u64) -> Result<Symbol, Memory>
     ensures { IfOk result (λ s. s ≡ decimal number) }
@@ -100,7 +100,7 @@ pub(crate) fn agreed(
 #[tactic(auto, using(crate::proofs::Agreed::agreed_here, crate::proofs::Agreed::agreed_stops))]
 fn all_agreed(
     context: &InstanceContext,
-    list: &[Item],
+    list: &[TemplateItem],
     inside: u64,
     turns: &[u64],
     so_far: Option<u64>,

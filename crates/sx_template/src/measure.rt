@@ -13,7 +13,7 @@ use std::alloc::Global;
 use sx_base::fault::BareStop;
 use sx_base::memory::Memory;
 use sx_base::name::Label;
-use sx_core::template::{Item, Template, TemplateNode};
+use sx_core::template::{TemplateItem, Template, TemplateNode};
 use sx_value::bind::Bind;
 
 /// The cost of the value that a template gives under these binds: 1 for each pair and for each element of a
@@ -83,7 +83,7 @@ fn sees(template: &Template, inside: u64) -> Result<bool, Memory>
 
 #[cycle(sees)]
 #[tactic(auto, using(crate::proofs::Measured::seen_here, crate::proofs::Measured::seen_on))]
-fn items_see(list: &[Item], inside: u64) -> Result<bool, Memory>
+fn items_see(list: &[TemplateItem], inside: u64) -> Result<bool, Memory>
     ensures { IfOk result (λ b. b ≡ items_see inside (items list.now)) }
 {
     for item in list {
@@ -125,7 +125,7 @@ fn template_cost(
 #[tactic(auto, using(crate::proofs::Measured::begun, crate::proofs::Measured::comes_to, crate::proofs::Measured::cost_end))]
 fn items_cost(
     context: &InstanceContext,
-    list: &[Item],
+    list: &[TemplateItem],
     turns: &mut Vec<u64>,
 ) -> Result<Option<u64>, BareStop>
     ensures cost { Measures result (items_cost unbound context.now.binds.now (items list.now) turns.old.items) }

@@ -28,7 +28,7 @@ use Rattle.sx_template.specs.Binds.{Binds, Absent, looked_up, through, reached, 
 use Rattle.sx_template.specs.Lengths.{lengths, items_lengths, agree, or_none}
 use Rattle.sx_template.specs.Instance.{then_add, counts, is_end, ending, instance, parts, item, turned}
 use Rattle.sx_match_laws.specs.Matches.{Bindings, Begins, here, next, stacked, Matches, takes_variable, takes_literal, takes_atom, takes_list, takes_vector, Fills, no_more, one_more, all_but, Repeats, no_rows, one_row}
-use Rattle.sx_template_laws.specs.Repeating.{variables, all_variables, Differs, Distinct, IsSome, Spells, spells_literal, spells_atom, spells_list, spells_vector, SpellsAll, spells_end, spells_more, IsRepeat, repeats_variable, repeats_form, repeats_list, repeats_vector, AreRepeats, repeats_none, repeats_more, repeats_dots, Alike, itself, same_leaf, same_atom, same_pair, same_vector, AreAlike, all_alike, next_alike, GivesBack}
+use Rattle.sx_template_laws.specs.Repeating.{variables, all_variables, Differs, Distinct, IsSome, SpellsRepeats, spells_literal, spells_atom, spells_list, spells_vector, SpellsAllRepeats, spells_end, spells_more, IsRepeat, repeats_variable, repeats_form, repeats_list, repeats_vector, AreRepeats, repeats_none, repeats_more, repeats_dots, Alike, itself, same_leaf, same_atom, same_pair, same_vector, AreAlike, all_alike, next_alike, GivesBack}
 use Rattle.sx_template_laws.proofs.Sight.{AllAre}
 use Rattle.sx_template_laws.proofs.Columns.{labels, column_labels, labels_none, long_none, RowsFit, stacked-labels, stacked_long, rows_fit, AllSee, see_then, RowsSee, rows_seen, Counts, AllCount, count_then, all_count}
 use Rattle.sx_template_laws.proofs.Alikes.{alike_kept, all_kept, alike_then, pairs_alike, vector_alike}
@@ -67,18 +67,18 @@ some_of [] ys h P f g = g h
 some_of (x ∷ xs) ys h P f g = f tt
 
 mutual
-  no_variable : {p : PlainPattern} {t : Tree} → Spells p t → IsSome (variables p) → ⊥
+  no_variable : {p : PlainPattern} {t : Tree} → SpellsRepeats p t → IsSome (variables p) → ⊥
   no_variable (spells_literal e) h = h
   no_variable spells_atom h = h
   no_variable (spells_list s) h = none_before s h
   no_variable (spells_vector {ps = ps} s) h = all_without s h
 
-  none_before : {ps : PlainPatterns} {p : PlainPattern} {t : Tree} → SpellsAll ps p t → IsSome (all_variables ps ++ variables p) → ⊥
+  none_before : {ps : PlainPatterns} {p : PlainPattern} {t : Tree} → SpellsAllRepeats ps p t → IsSome (all_variables ps ++ variables p) → ⊥
   none_before (spells_end s) h = no_variable s h
   none_before (spells_more {p = p} {q = q} {ps = ps} s ss) h =
       some_of (variables p) (all_variables ps ++ variables q) (subst IsSome (append_assoc (variables p) (all_variables ps) (variables q)) h) ⊥ (no_variable s) (none_before ss)
 
-  all_without : {ps : PlainPatterns} {p : PlainPattern} {t : Tree} → SpellsAll ps p t → IsSome (all_variables ps) → ⊥
+  all_without : {ps : PlainPatterns} {p : PlainPattern} {t : Tree} → SpellsAllRepeats ps p t → IsSome (all_variables ps) → ⊥
   all_without (spells_end s) h = h
   all_without (spells_more {p = p} {ps = ps} s ss) h = some_of (variables p) (all_variables ps) h ⊥ (no_variable s) (all_without ss)
 
@@ -153,33 +153,33 @@ false_true h = cc
 
 module _ (fs : Scope) (old new : List Cell) where
   mutual
-    spelled : {p : PlainPattern} {t : Tree} {v : Value} {bs : Bindings} {n : ℕ} → Spells p t → Matches fs old p v bs n → Alike fs old new v (value.Syn t)
+    spelled : {p : PlainPattern} {t : Tree} {v : Value} {bs : Bindings} {n : ℕ} → SpellsRepeats p t → Matches fs old p v bs n → Alike fs old new v (value.Syn t)
     spelled (spells_literal e) (takes_literal f) = same_leaf f
     spelled spells_atom (takes_atom e) = same_atom e refl
     spelled (spells_list s) (takes_list b last f m) = all_spelled s b f m
     spelled (spells_vector s) (takes_vector e f) = same_vector e refl (elements_spelled s f)
 
     all_spelled : {ps : PlainPatterns} {p : PlainPattern} {t : Tree} {xs : List Value} {r v : Value} {bs cs : Bindings} {m n : ℕ}
-        → SpellsAll ps p t → Begins old xs r v → Fills fs old ps xs bs m → Matches fs old p r cs n → Alike fs old new v (value.Syn t)
+        → SpellsAllRepeats ps p t → Begins old xs r v → Fills fs old ps xs bs m → Matches fs old p r cs n → Alike fs old new v (value.Syn t)
     all_spelled (spells_end s) here no_more m = spelled s m
     all_spelled (spells_end s) (next e b) f m = elim f [ ]
     all_spelled (spells_more s ss) here f m = elim f [ ]
     all_spelled (spells_more s ss) (next e b) (one_more r f) m = same_pair e refl (spelled s r) (all_spelled ss b f m)
 
-    elements_spelled : {ps : PlainPatterns} {t : Tree} {xs : List Value} {bs : Bindings} {m : ℕ} → SpellsAll ps (atom a.Nil) t → Fills fs old ps xs bs m → AreAlike fs old new xs (map value.Syn (elements t))
+    elements_spelled : {ps : PlainPatterns} {t : Tree} {xs : List Value} {bs : Bindings} {m : ℕ} → SpellsAllRepeats ps (atom a.Nil) t → Fills fs old ps xs bs m → AreAlike fs old new xs (map value.Syn (elements t))
     elements_spelled (spells_end spells_atom) no_more = all_alike
     elements_spelled (spells_more s ss) (one_more r f) = next_alike (spelled s r) (elements_spelled ss f)
 
 -- what is written as the empty list
 mutual
-  nil_spelled : {fs : Scope} {cells : List Cell} {p : PlainPattern} {t : Tree} {v : Value} {bs : Bindings} {n : ℕ} → Spells p t → Matches fs cells p v bs n → is_nil t ≡ true → atom_of cells v ≡ Some a.Nil
+  nil_spelled : {fs : Scope} {cells : List Cell} {p : PlainPattern} {t : Tree} {v : Value} {bs : Bindings} {n : ℕ} → SpellsRepeats p t → Matches fs cells p v bs n → is_nil t ≡ true → atom_of cells v ≡ Some a.Nil
   nil_spelled (spells_literal {t = t} e) m h = absurd (no_nil_leaf t e h)
   nil_spelled (spells_atom {a = b}) (takes_atom e) h = e ∙ ap Some (nil_atom b h)
   nil_spelled (spells_list s) (takes_list b last f m) h = nil_end s b f m h
   nil_spelled (spells_vector s) m h = absurd (false_true h)
 
   nil_end : {fs : Scope} {cells : List Cell} {ps : PlainPatterns} {p : PlainPattern} {t : Tree} {xs : List Value} {r v : Value} {bs cs : Bindings} {m n : ℕ}
-      → SpellsAll ps p t → Begins cells xs r v → Fills fs cells ps xs bs m → Matches fs cells p r cs n → is_nil t ≡ true → atom_of cells v ≡ Some a.Nil
+      → SpellsAllRepeats ps p t → Begins cells xs r v → Fills fs cells ps xs bs m → Matches fs cells p r cs n → is_nil t ≡ true → atom_of cells v ≡ Some a.Nil
   nil_end (spells_end s) here no_more m h = nil_spelled s m h
   nil_end (spells_end s) (next e b) f m h = elim f [ ]
   nil_end (spells_more s ss) b f m h = absurd (false_true h)

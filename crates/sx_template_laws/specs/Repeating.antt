@@ -50,16 +50,16 @@ IsSome (l ∷ ls) = Unit {0}
 
 -- a form is written as a pattern without variables is
 mutual
-  pub data Spells : PlainPattern → Tree → Type 0 where
-    spells_literal : {t : Tree} → is_leaf t ≡ true → Spells (literal t) t
-    spells_atom : {a : Atom} {s : Option Span} → Spells (atom a) (tree.atom s a)
-    spells_list : {ps : PlainPatterns} {p : PlainPattern} {t : Tree} → SpellsAll ps p t → Spells (list ps p) t
-    spells_vector : {ps : PlainPatterns} {s : Option Span} {t : Tree} → SpellsAll ps (atom Nil) t → Spells (vector ps) (tree.vector s t)
+  pub data SpellsRepeats : PlainPattern → Tree → Type 0 where
+    spells_literal : {t : Tree} → is_leaf t ≡ true → SpellsRepeats (literal t) t
+    spells_atom : {a : Atom} {s : Option Span} → SpellsRepeats (atom a) (tree.atom s a)
+    spells_list : {ps : PlainPatterns} {p : PlainPattern} {t : Tree} → SpellsAllRepeats ps p t → SpellsRepeats (list ps p) t
+    spells_vector : {ps : PlainPatterns} {s : Option Span} {t : Tree} → SpellsAllRepeats ps (atom Nil) t → SpellsRepeats (vector ps) (tree.vector s t)
 
   -- elements, and then what ends them
-  pub data SpellsAll : PlainPatterns → PlainPattern → Tree → Type 0 where
-    spells_end : {p : PlainPattern} {t : Tree} → Spells p t → SpellsAll none p t
-    spells_more : {p q : PlainPattern} {ps : PlainPatterns} {s : Option Span} {t u : Tree} → Spells p t → SpellsAll ps q u → SpellsAll (more p ps) q (tree.pair s t u)
+  pub data SpellsAllRepeats : PlainPatterns → PlainPattern → Tree → Type 0 where
+    spells_end : {p : PlainPattern} {t : Tree} → SpellsRepeats p t → SpellsAllRepeats none p t
+    spells_more : {p q : PlainPattern} {ps : PlainPatterns} {s : Option Span} {t u : Tree} → SpellsRepeats p t → SpellsAllRepeats ps q u → SpellsAllRepeats (more p ps) q (tree.pair s t u)
 
 -- A template repeats a pattern, under so many ellipses: each variable carries their number as its depth, a part without
 -- variables may be the form itself, and an ellipsis stands behind a part with a variable. So no pattern with an underscore is
@@ -67,7 +67,7 @@ mutual
 mutual
   pub data IsRepeat : ℕ → PlainPattern → PlainTemplate → Type 0 where
     repeats_variable : {depth : ℕ} {l : Label} → IsRepeat depth (variable l) (template.variable l depth)
-    repeats_form : {depth : ℕ} {p : PlainPattern} {t : Tree} → Spells p t → IsRepeat depth p (template.constant t)
+    repeats_form : {depth : ℕ} {p : PlainPattern} {t : Tree} → SpellsRepeats p t → IsRepeat depth p (template.constant t)
     repeats_list : {depth : ℕ} {ps : PlainPatterns} {p : PlainPattern} {is : PlainItems} {t : PlainTemplate} → AreRepeats depth ps is → IsRepeat depth p t → IsRepeat depth (list ps p) (template.list is t)
     repeats_vector : {depth : ℕ} {ps : PlainPatterns} {is : PlainItems} → AreRepeats depth ps is → IsRepeat depth (vector ps) (template.vector is)
 

@@ -5,11 +5,11 @@ ghost use Rattle.sx_base.specs.declared.name.Mark.{Mark};
 ghost use Rattle.sx_frames.specs.Scope.{Scope};
 ghost use Rattle.sx_core.specs.Pattern.{PlainPattern};
 ghost use Rattle.sx_core.specs.Template.{PlainTemplate};
-ghost use Rattle.sx_value.specs.Cells.{FitsIn, Whole};
+ghost use Rattle.sx_value.specs.Cells.{FitsIn, WholeCells};
 ghost use Rattle.sx_value.specs.declared.cell.Cell.{Cell};
 ghost use Rattle.sx_value.specs.declared.value.Value.{Value};
 ghost use Rattle.sx_pattern.specs.Matched.{matched, nothing};
-ghost use Rattle.sx_pattern.specs.declared.columns.Found.{Found};
+ghost use Rattle.sx_pattern.specs.declared.columns.PatternBinds.{PatternBinds};
 ghost use Rattle.sx_template.specs.Binds.{Binds, Absent};
 ghost use Rattle.sx_template.specs.Instance.{instance};
 ghost use Rattle.sx_template.specs.Measure.{measure};
@@ -37,7 +37,7 @@ pub fn names_of_marks_are_free()
 /// A template that repeats the pattern of a match gives back what was matched, as data, and is never at
 /// fault.
 pub fn a_repeated_pattern_gives_back_what_it_took()
-    ensures { (a : Absent) (fs : Scope) (cells : List Cell) → Whole cells → (p : PlainPattern) (v : Value) → FitsIn cells v → (f : Found) →
+    ensures { (a : Absent) (fs : Scope) (cells : List Cell) → WholeCells cells → (p : PlainPattern) (v : Value) → FitsIn cells v → (f : PatternBinds) →
         matched fs cells p v (nothing 0) ≡ Some f → (t : PlainTemplate) → IsRepeat 0 p t → Distinct (variables p) →
         GivesBack fs cells v cells (instance a f.binds t [] cells) }
 {}

@@ -7,7 +7,7 @@ use Rattle.sx_base.specs.declared.library.LibName.{LibName}
 use Rattle.sx_base.specs.declared.name.Label.{Label}
 use Rattle.sx_core.specs.declared.binding.Binding.{Binding}
 use Rattle.sx_core.specs.declared.binding.Binding.TheVariants as binding
-use Rattle.sx_core.specs.declared.record.LibRecord.{LibRecord}
+use Rattle.sx_core.specs.declared.record.CompiledLibrary.{CompiledLibrary}
 use Rattle.sx_core_laws.specs.Words.{Among, Once}
 use Rattle.sx_core_laws.specs.Records.{run_binders}
 use Rattle.sx_core_laws.specs.Follows.{names_of, bound_labels, IsOwn}
@@ -26,8 +26,8 @@ use Rattle.sx_text_laws.proofs.Closed.{libraries-once, planned-loaded, text-stan
 
 -- ---- records of different names, each of which gives what is its own, and each of that once
 
-owned-once : {A : Type 0} (give : LibRecord → List A) (owner : A → LibName) (rs : List LibRecord) → ((r : LibRecord) → Among rs r → Once (give r))
-    → ((r : LibRecord) → Among rs r → (x : A) → Among (give r) x → owner x ≡ r.name) → Once (names_of rs) → Once (flat_map give rs)
+owned-once : {A : Type 0} (give : CompiledLibrary → List A) (owner : A → LibName) (rs : List CompiledLibrary) → ((r : CompiledLibrary) → Among rs r → Once (give r))
+    → ((r : CompiledLibrary) → Among rs r → (x : A) → Among (give r) x → owner x ≡ r.name) → Once (names_of rs) → Once (flat_map give rs)
 owned-once give owner [] once own names = tt
 owned-once {A} give owner (r ∷ rs) once own names =
     once-append (give r) (flat_map give rs) (once r (inl refl)) (owned-once give owner rs (λ q a. once q (inr a)) (λ q a. own q (inr a)) names.1) apart
@@ -97,8 +97,8 @@ variables-once (b ∷ bs) h =
     once-append (named_variable b) (flat_map named_variable bs) (variable-once b) (variables-once bs (once-second (bound_index b) (flat_map bound_index bs) h))
     (λ v x y. once-apart (bound_index b) (flat_map bound_index bs) h v.1 (variable-index b v x) (variables-indexed bs v y))
 
-module _ (rs : List LibRecord) (p : LibRecord) (h : AreStanding rs p) where
-  abbrev planned : List LibRecord
+module _ (rs : List CompiledLibrary) (p : CompiledLibrary) (h : AreStanding rs p) where
+  abbrev planned : List CompiledLibrary
   planned = records_at rs (plan_of rs p)
 
   pub text-names-once : Once (names_of (text_of rs p))
@@ -120,7 +120,7 @@ module _ (rs : List LibRecord) (p : LibRecord) (h : AreStanding rs p) where
       (λ r a l b. each-at (λ k. IsOwn r k.0) (run_binders r) l (text-standing rs p h r a).bound_here b)
       text-names-once
 
-  variable-owned : (r : LibRecord) → Among (text_of rs p) r → (v : LibName × ℕ) → Among (named_variables r) v → v.0 ≡ r.name
+  variable-owned : (r : CompiledLibrary) → Among (text_of rs p) r → (v : LibName × ℕ) → Among (named_variables r) v → v.0 ≡ r.name
   variable-owned r a v b =
       let found = flat-among named_variable r.bindings v b in
       let label = among-map (λ (x : Label × Binding). x.0) r.bindings found.0 found.1 in

@@ -7,7 +7,7 @@ use Rattle.sx_base.specs.Same.{same_library, same_library_decides}
 use Rattle.sx_base.specs.declared.library.LibName.{LibName}
 use Rattle.sx_base.specs.declared.name.Label.{Label}
 use Rattle.sx_core.specs.References.{binders, mentions}
-use Rattle.sx_core.specs.declared.record.LibRecord.{LibRecord}
+use Rattle.sx_core.specs.declared.record.CompiledLibrary.{CompiledLibrary}
 use Rattle.sx_core.specs.declared.record.Line.{Line}
 use Rattle.sx_core_laws.specs.Words.{Among, Once}
 use Rattle.sx_core_laws.specs.Scope.{Closed}
@@ -29,27 +29,27 @@ use Rattle.sx_text_laws.proofs.Names.{name_of, same-record, got-among, placed}
 use Rattle.sx_text_laws.proofs.Planned.{at-there, there-at}
 
 -- what the lines of a record define, and what is bound in a line, is among its binders
-defined-bound : (r : LibRecord) (l : Label) → Among (defined r) l → Among (run_binders r) l
+defined-bound : (r : CompiledLibrary) (l : Label) → Among (defined r) l → Among (run_binders r) l
 defined-bound r l a =
     let found = flat-among line_labels r.run l a in
     among-flat line_binders r.run found.0 l found.1 (among-first (line_labels found.0) (binders (line_core found.0)) l found.2)
 
-line-bound : (r : LibRecord) (x : Line) (l : Label) → Among r.run x → Among (binders (line_core x)) l → Among (run_binders r) l
+line-bound : (r : CompiledLibrary) (x : Line) (l : Label) → Among r.run x → Among (binders (line_core x)) l → Among (run_binders r) l
 line-bound r x l a b = among-flat line_binders r.run x l a (among-second (line_labels x) (binders (line_core x)) l b)
 
-module _ (rs : List LibRecord) (p : LibRecord) (h : AreStanding rs p) where
-  abbrev planned : List LibRecord
+module _ (rs : List CompiledLibrary) (p : CompiledLibrary) (h : AreStanding rs p) where
+  abbrev planned : List CompiledLibrary
   planned = records_at rs (plan_of rs p)
 
   pub libraries-once : Once (names_of rs)
   libraries-once = once-first (names_of rs) (names_of (p ∷ [])) (subst Once (map-append name_of rs (p ∷ [])) h.named_once)
 
-  pub planned-loaded : (r : LibRecord) → Among planned r → Among rs r
+  pub planned-loaded : (r : CompiledLibrary) → Among planned r → Among rs r
   planned-loaded r a = let at = there-at rs (plan_of rs p) r a in got-among rs at.0 r at.2
 
   -- ---- the records of the text
 
-  pub text-standing : (r : LibRecord) → Among (text_of rs p) r → IsStanding rs r
+  pub text-standing : (r : CompiledLibrary) → Among (text_of rs p) r → IsStanding rs r
   text-standing r a = by (among-parts planned (p ∷ []) r a)
     where
       by : Among planned r ⊎ Among (p ∷ []) r → IsStanding rs r
@@ -57,7 +57,7 @@ module _ (rs : List LibRecord) (p : LibRecord) (h : AreStanding rs p) where
       by (inr (inl e)) = subst (IsStanding rs) (sym e) h.program
       by (inr (inr b)) = elim b [ ]
 
-  pub text-known : (r : LibRecord) → Among (text_of rs p) r → Among (rs ++ p ∷ []) r
+  pub text-known : (r : CompiledLibrary) → Among (text_of rs p) r → Among (rs ++ p ∷ []) r
   text-known r a = by (among-parts planned (p ∷ []) r a)
     where
       by : Among planned r ⊎ Among (p ∷ []) r → Among (rs ++ p ∷ []) r
@@ -65,7 +65,7 @@ module _ (rs : List LibRecord) (p : LibRecord) (h : AreStanding rs p) where
       by (inr b) = among-second rs (p ∷ []) r b
 
   -- what a record of the text refers to is planned
-  reference-planned : (r : LibRecord) → Among (text_of rs p) r → (name : LibName) (place : ℕ) → Contains r.refs name → place_of rs name ≡ Some place → Contains (plan_of rs p) place
+  reference-planned : (r : CompiledLibrary) → Among (text_of rs p) r → (name : LibName) (place : ℕ) → Contains r.refs name → place_of rs name ≡ Some place → Contains (plan_of rs p) place
   reference-planned r a name place c e = by (among-parts planned (p ∷ []) r a)
     where
       by : Among planned r ⊎ Among (p ∷ []) r → Contains (plan_of rs p) place
@@ -73,10 +73,10 @@ module _ (rs : List LibRecord) (p : LibRecord) (h : AreStanding rs p) where
           let at = there-at rs (plan_of rs p) r b in
           let plan = is_plan rs p in
           (plan.exact place).1 (further at.0 r name place ((plan.exact at.0).0 at.1) at.2 c e)
-      by (inr (inl d)) = ((is_plan rs p).exact place).1 (mentioned name place (subst (λ (q : LibRecord). Contains q.refs name) d c) e)
+      by (inr (inl d)) = ((is_plan rs p).exact place).1 (mentioned name place (subst (λ (q : CompiledLibrary). Contains q.refs name) d c) e)
       by (inr (inr b)) = elim b [ ]
 
-  referred-there : (r : LibRecord) → Among (text_of rs p) r → (q : LibRecord) → Among rs q → Among r.refs q.name → Among (text_of rs p) q
+  referred-there : (r : CompiledLibrary) → Among (text_of rs p) r → (q : CompiledLibrary) → Among rs q → Among r.refs q.name → Among (text_of rs p) q
   referred-there r a q b c =
       let at = placed rs libraries-once q b in
       let there = reference-planned r a q.name at.0 (contained r.refs q.name c) at.1 in
@@ -84,9 +84,9 @@ module _ (rs : List LibRecord) (p : LibRecord) (h : AreStanding rs p) where
 
   -- ---- a line of one of them
 
-  module _ (r : LibRecord) (a : Among (text_of rs p) r) (s : IsStanding rs r) (x : Line) (there : Among r.run x) where
+  module _ (r : CompiledLibrary) (a : Among (text_of rs p) r) (s : IsStanding rs r) (x : Line) (there : Among r.run x) where
     -- what a line mentions of what another library defines makes that a reference
-    other-there : (q : LibRecord) (l : Label) → Among rs q → Among (defined q) l → (q.name ≡ r.name → ⊥) → Among (mentions (line_core x)) l → Among (text_of rs p) q
+    other-there : (q : CompiledLibrary) (l : Label) → Among rs q → Among (defined q) l → (q.name ≡ r.name → ⊥) → Among (mentions (line_core x)) l → Among (text_of rs p) q
     other-there q l b d apart m =
         let of : l.0.library ≡ q.name = each-at (λ k. IsOwn q k.0) (run_binders q) l (each-at (IsStanding rs) rs q h.libraries b).bound_here (defined-bound q l d) in
         let foreign : l.0.library ≡ r.name → ⊥ = λ e. apart (sym of ∙ e) in
@@ -94,7 +94,7 @@ module _ (rs : List LibRecord) (p : LibRecord) (h : AreStanding rs p) where
         let named = mention-referred r.name r.run x l foreign free there m in
         referred-there r a q b (subst (Among r.refs) of (subst (λ (ks : List LibName). Among ks l.0.library) (sym s.referred) named))
 
-    definer-there : (q : LibRecord) (l : Label) → Among rs q → Among (defined q) l → Among (mentions (line_core x)) l → Among (text_of rs p) q
+    definer-there : (q : CompiledLibrary) (l : Label) → Among rs q → Among (defined q) l → Among (mentions (line_core x)) l → Among (text_of rs p) q
     definer-there q l b d m = by (same_library q.name r.name) refl
       where
         by : (t : Bool) → same_library q.name r.name ≡ t → Among (text_of rs p) q
@@ -120,7 +120,7 @@ module _ (rs : List LibRecord) (p : LibRecord) (h : AreStanding rs p) where
         kept-closed ls (flat_map defined (text_of rs p)) [] (line_core x) line-keeps (λ v b. elim b [ ]) suited
         (each-at (λ (y : Line). Closed ls (line_core y)) r.run x s.closed there)
 
-  record-closed : (r : LibRecord) → Among (text_of rs p) r → LinesClosed (flat_map defined (text_of rs p)) r
+  record-closed : (r : CompiledLibrary) → Among (text_of rs p) r → LinesClosed (flat_map defined (text_of rs p)) r
   record-closed r a = each-of (λ (x : Line). Closed (flat_map defined (text_of rs p)) (line_core x)) r.run (λ x b. line-closed r a (text-standing r a) x b)
 
   pub text-closed : AreClosed (text_of rs p)

@@ -5,7 +5,7 @@ use Rattle.sx_base.specs.declared.library.LibName.{LibName}
 use Rattle.sx_base.specs.declared.name.Label.{Label}
 use Rattle.sx_core.specs.declared.binding.Binding.{Binding}
 use Rattle.sx_core.specs.declared.binding.Binding.TheVariants as binding
-use Rattle.sx_core.specs.declared.record.LibRecord.{LibRecord}
+use Rattle.sx_core.specs.declared.record.CompiledLibrary.{CompiledLibrary}
 
 abbrev pub indexed : Label → Option ℕ → List (LibName × ℕ)
 indexed l None = []
@@ -19,5 +19,5 @@ named_variable (l, binding.Macro level expression) = []
 named_variable (l, binding.Core form) = []
 named_variable (l, binding.Primitive o) = []
 
-abbrev pub named_variables : LibRecord → List (LibName × ℕ)
+abbrev pub named_variables : CompiledLibrary → List (LibName × ℕ)
 named_variables r = flat_map named_variable r.bindings

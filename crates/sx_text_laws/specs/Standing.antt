@@ -1,7 +1,7 @@
 -- What is asked of the records of libraries, and of a program's record, before their text is made.
 use Rattle.std.specs.Prelude.{◌≡◌, List, [], ◌∷◌, ◌++◌}
 use Rattle.std.specs.List.{flat_map}
-use Rattle.sx_core.specs.declared.record.LibRecord.{LibRecord}
+use Rattle.sx_core.specs.declared.record.CompiledLibrary.{CompiledLibrary}
 use Rattle.sx_core_laws.specs.Words.{Each, Among, Once}
 use Rattle.sx_core_laws.specs.Templates.{TemplatesSuit}
 use Rattle.sx_core_laws.specs.Records.{defined, run_binders, LinesClosed}
@@ -13,8 +13,8 @@ use Rattle.sx_expand_laws.specs.Indices.{bound_index}
 -- label has two binders in it, and no two of its variables have one index; all that it binds is named by its library; and
 -- its references are the other libraries whose variables its lines mention. What a template inserts is no mention, so it is
 -- asked that each template suits the patterns round it.
-pub record IsStanding (rs : List LibRecord) (r : LibRecord) : Type 0 where
-  pub earlier : List LibRecord
+pub record IsStanding (rs : List CompiledLibrary) (r : CompiledLibrary) : Type 0 where
+  pub earlier : List CompiledLibrary
   pub loaded : Each (Among rs) earlier
   pub closed : LinesClosed (flat_map defined earlier ++ defined r) r
   pub suited : Each (TemplatesSuit []) (line_cores r)
@@ -25,7 +25,7 @@ pub record IsStanding (rs : List LibRecord) (r : LibRecord) : Type 0 where
   pub referred : r.refs ≡ refs_of r.name r.run
 
 -- no two of the records have one name, and none has that of the program
-pub record AreStanding (rs : List LibRecord) (p : LibRecord) : Type 0 where
+pub record AreStanding (rs : List CompiledLibrary) (p : CompiledLibrary) : Type 0 where
   pub named_once : Once (names_of (rs ++ p ∷ []))
   pub libraries : Each (IsStanding rs) rs
   pub program : IsStanding rs p

@@ -1,7 +1,7 @@
 -- The text of a run, and what holds of it.
 use Rattle.std.specs.Prelude.{List, [], ◌∷◌, ◌++◌}
 use Rattle.std.specs.List.{flat_map}
-use Rattle.sx_core.specs.declared.record.LibRecord.{LibRecord}
+use Rattle.sx_core.specs.declared.record.CompiledLibrary.{CompiledLibrary}
 use Rattle.sx_core_laws.specs.Words.{Once}
 use Rattle.sx_core_laws.specs.Records.{AreClosed, run_binders}
 use Rattle.sx_plan.specs.Planned.{plan_of}
@@ -10,15 +10,15 @@ use Rattle.sx_text_laws.specs.Indices.{named_variables}
 use Rattle.sx_text_laws.specs.Standing.{AreStanding}
 
 -- the records that a program needs when it runs, and its own
-abbrev pub text_of : List LibRecord → LibRecord → List LibRecord
+abbrev pub text_of : List CompiledLibrary → CompiledLibrary → List CompiledLibrary
 text_of rs p = records_at rs (plan_of rs p) ++ p ∷ []
 
 -- Each line is closed under what the lines of these define, no label has two binders, and no two variables share library
 -- and index.
-pub record IsClosedOnce (text : List LibRecord) : Type 0 where
+pub record IsClosedOnce (text : List CompiledLibrary) : Type 0 where
   pub closed : AreClosed text
   pub bound_once : Once (flat_map run_binders text)
   pub named_once : Once (flat_map named_variables text)
 
 abbrev pub TextIsClosedOnce : Type 0
-TextIsClosedOnce = (rs : List LibRecord) (p : LibRecord) → AreStanding rs p → IsClosedOnce (text_of rs p)
+TextIsClosedOnce = (rs : List CompiledLibrary) (p : CompiledLibrary) → AreStanding rs p → IsClosedOnce (text_of rs p)

@@ -17,7 +17,7 @@ use Rattle.sx_tree.specs.Measures.{fits}
 use Rattle.sx_tree.specs.Tree.{Tree, span_of}
 use Rattle.sx_tree_bytes.specs.Parts.{tree_cases}
 use Rattle.sx_tree_bytes.specs.Seen.{datum_cases}
-use Rattle.sx_tree_bytes.specs.declared.parts.Parts.{Parts}
+use Rattle.sx_tree_bytes.specs.declared.parts.TreeParts.{TreeParts}
 
 and_true : (b : Bool) → (b && true) ≡ b
 and_true true = refl
@@ -62,7 +62,7 @@ datum_puts part s n x old mid new b is proper p q =
     let r = level_of s n proper in
     level_puts datum_to is_datum (datum_node_codec part) x s (datum_cases n) old mid new b (ap datum_to (sym is) ∙ r.0) (ap is_datum (sym is) ∙ r.1) p q
 
-pub tree_puts : (part : Codec Tree) (t : Tree) (parts : Parts) (old mid new : List ℕ) (b : Bool) → true ≡ fits t → tree_to t ≡ (span_of t, tree_cases parts) → is_tree t ≡ true
+pub tree_puts : (part : Codec Tree) (t : Tree) (parts : TreeParts) (old mid new : List ℕ) (b : Bool) → true ≡ fits t → tree_to t ≡ (span_of t, tree_cases parts) → is_tree t ≡ true
     → Puts (optional span) (span_of t) old mid → PutsIf (tree_node_codec part) (tree_cases parts) mid new b → PutsIf (tree_level part) t old new b
 unfolding tree_level
 tree_puts part t parts old mid new b within to well p q =

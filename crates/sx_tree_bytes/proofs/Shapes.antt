@@ -10,7 +10,7 @@ use Rattle.sx_base.specs.declared.span.Span.{Span}
 use Rattle.sx_codec.specs.TreeLaws.{tree_vector_parts, tree_tail_alone}
 use Rattle.sx_codec.specs.Trees.{tree_to, is_tree, is_rest, is_tail, is_tree_list, elements, tail_of, are_elements}
 use Rattle.sx_syntax.specs.Opens.{Opens}
-use Rattle.sx_syntax.specs.declared.syn.Opened.TheVariants as opened
+use Rattle.sx_syntax.specs.declared.syn.OpenedTree.TheVariants as opened
 use Rattle.sx_tree.proofs.MeasureLaws.{size-some}
 use Rattle.sx_tree.specs.Context.{LeafContext}
 use Rattle.sx_tree.specs.Leaves.{marks_of, stamps_of}
@@ -19,9 +19,9 @@ use Rattle.sx_tree.specs.Tree as t
 use Rattle.sx_tree.specs.Tree.{Tree, span_of, chain, spanned, list_of, vector_of, rest_of, nil}
 use Rattle.sx_tree_bytes.specs.Parts.{PartsOf, within_limits}
 use Rattle.sx_tree_bytes.specs.Contexts.{context_of}
-use Rattle.sx_tree_bytes.specs.declared.contexts.Context.{Context}
-use Rattle.sx_tree_bytes.specs.declared.parts.ListParts.{ListParts}
-use Rattle.sx_tree_bytes.specs.declared.parts.Parts.TheVariants as p
+use Rattle.sx_tree_bytes.specs.declared.contexts.ContextLists.{ContextLists}
+use Rattle.sx_tree_bytes.specs.declared.parts.ElementsAndTail.{ElementsAndTail}
+use Rattle.sx_tree_bytes.specs.declared.parts.TreeParts.TheVariants as p
 
 -- ---- what stands behind an element
 
@@ -93,7 +93,7 @@ atom_parts b (t.leaf s x c) o = absurd o
 atom_parts b (t.pair s x e) o = absurd o
 atom_parts b (t.vector s e) o = absurd o
 
-pub leaf_parts : (x : List ℕ) (k : Context) (r : Tree) → Opens (opened.Symbol x) r → context_of k ≡ record { marks = marks_of r; stamps = stamps_of r } → PartsOf (Some (p.Leaf x k)) r
+pub leaf_parts : (x : List ℕ) (k : ContextLists) (r : Tree) → Opens (opened.Symbol x) r → context_of k ≡ record { marks = marks_of r; stamps = stamps_of r } → PartsOf (Some (p.Leaf x k)) r
 leaf_parts x k (t.atom s c) o e = absurd o
 leaf_parts x k (t.leaf s y c) o e = (λ i. (s, inr (inl (sym o i, sym e i))), refl)
 leaf_parts x k (t.pair s y d) o e = absurd o
@@ -105,7 +105,7 @@ no_parts x y (t.leaf s b c) o h = absurd o
 no_parts x y (t.pair s b e) o h = ap is_rest (sym o.1) ∙ h
 no_parts x y (t.vector s e) o h = absurd o
 
-pub list_parts : (x y : Tree) (l : ListParts) (r : Tree) → Opens (opened.Pair x y) r → l.items.items ≡ x ∷ elements y → l.tail ≡ tail_of y → is_rest y ≡ true → PartsOf (Some (p.List l.items l.tail)) r
+pub list_parts : (x y : Tree) (l : ElementsAndTail) (r : Tree) → Opens (opened.Pair x y) r → l.items.items ≡ x ∷ elements y → l.tail ≡ tail_of y → is_rest y ≡ true → PartsOf (Some (p.List l.items l.tail)) r
 list_parts x y l (t.atom s c) o e f h = absurd o
 list_parts x y l (t.leaf s b c) o e f h = absurd o
 list_parts x y l (t.pair s b d) o e f h = (

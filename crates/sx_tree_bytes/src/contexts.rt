@@ -9,7 +9,7 @@ ghost use Rattle.sx_codec.specs.Contexts as spell;
 use std::alloc::Global;
 use sx_base::memory::Memory;
 use sx_base::name::{FrameNo, Mark};
-use sx_bytes::libraries::Libraries;
+use sx_bytes::libraries::RecentLibraries;
 use sx_bytes::numbers::{put_u64, u64_at};
 use sx_bytes::spelled::{Spelled, all_at, put_all};
 use sx_tree::marks::Marks;
@@ -17,7 +17,7 @@ use sx_tree::stamp::Stamp;
 
 /// The marks and the stamps of a leaf, both with the newest first.
 #[derive(Drop)]
-pub struct Context {
+pub struct ContextLists {
     pub marks: Marks,
     pub stamps: Vec<Stamp>,
 }
@@ -32,7 +32,7 @@ pub fn put_marks(out: &mut Vec<u8>, alloc: Global, marks: &Marks) -> Result<(), 
 
 /// The marks that the bytes begin with, and the bytes behind them.
 pub fn marks_at<'a>(
-    libraries: &mut Libraries,
+    libraries: &mut RecentLibraries,
     bytes: &'a [u8],
 ) -> Result<Option<(Marks, &'a [u8])>, Memory>
     ensures { IfOk result (λ o. option_map (λ x. (x.0, x.1.now)) o ≡ (listed mark).get bytes.now) }
@@ -55,7 +55,7 @@ fn put_stamp(out: &mut Vec<u8>, alloc: Global, stamp: &Stamp) -> Result<(), Memo
 
 #[tactic(auto, unfolding(sx_codec::specs::Contexts::stamp))]
 fn stamp_at<'a>(
-    libraries: &mut Libraries,
+    libraries: &mut RecentLibraries,
     bytes: &'a [u8],
 ) -> Result<Option<(Stamp, &'a [u8])>, Memory>
     ensures { IfOk result (λ o. option_map (λ x. (x.0, x.1.now)) o ≡ spell.stamp.get bytes.now) }
@@ -80,7 +80,7 @@ fn put_stamps(out: &mut Vec<u8>, alloc: Global, stamps: &[Stamp]) -> Result<(), 
 }
 
 fn stamps_at<'a>(
-    libraries: &mut Libraries,
+    libraries: &mut RecentLibraries,
     bytes: &'a [u8],
 ) -> Result<Option<(Vec<Stamp>, &'a [u8])>, Memory>
     ensures { IfOk result (λ o. option_map (λ x. (x.0.items, x.1.now)) o ≡ (listed spell.stamp).get bytes.now) }
@@ -92,7 +92,7 @@ fn stamps_at<'a>(
 }
 
 fn some_stamps<'a>(
-    libraries: &mut Libraries,
+    libraries: &mut RecentLibraries,
     count: u64,
     bytes: &'a [u8],
 ) -> Result<Option<(Vec<Stamp>, &'a [u8])>, Memory>
@@ -110,7 +110,7 @@ fn some_stamps<'a>(
     Ok(Some((list, rest)))
 }
 
-impl Context {
+impl ContextLists {
     #[tactic(auto, unfolding(sx_codec::specs::Contexts::context))]
     pub fn put(&self, out: &mut Vec<u8>, alloc: Global) -> Result<(), Memory>
         ensures { OnOk result (Puts spell.context (context_of self.now) out.old.items out.new.items) }
@@ -121,9 +121,9 @@ impl Context {
 
     #[tactic(auto, unfolding(sx_codec::specs::Contexts::context))]
     pub fn at<'a>(
-        libraries: &mut Libraries,
+        libraries: &mut RecentLibraries,
         bytes: &'a [u8],
-    ) -> Result<Option<(Context, &'a [u8])>, Memory>
+    ) -> Result<Option<(ContextLists, &'a [u8])>, Memory>
         ensures { IfOk result (λ o. option_map (λ x. (context_of x.0, x.1.now)) o ≡ spell.context.get bytes.now) }
     {
         let Some((marks, rest)) = marks_at(libraries, bytes)? else {
@@ -132,7 +132,7 @@ impl Context {
         let Some((stamps, rest)) = stamps_at(libraries, rest)? else {
             return Ok(None);
         };
-        Ok(Some((Context { marks, stamps }, rest)))
+        Ok(Some((ContextLists { marks, stamps }, rest)))
     }
 }
 

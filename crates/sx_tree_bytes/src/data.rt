@@ -14,7 +14,7 @@ use sx_base::atom::Atom;
 use sx_base::datum::{Datum, Node};
 use sx_base::memory::Memory;
 use sx_base::symbol::Symbol;
-use sx_bytes::libraries::Libraries;
+use sx_bytes::libraries::RecentLibraries;
 use sx_bytes::numbers::{put_u64, u64_at};
 use sx_bytes::spelled::Spelled;
 
@@ -123,7 +123,7 @@ fn put_data(out: &mut Vec<u8>, room: u32, data: &[Datum]) -> Result<bool, Memory
 #[cycle(data_read)]
 #[tactic(auto, using(crate::specs::Seen::datum_none, crate::specs::Seen::datum_more))]
 pub fn datum_at<'a>(
-    libraries: &mut Libraries,
+    libraries: &mut RecentLibraries,
     room: u32,
     bytes: &'a [u8],
 ) -> Result<Option<(Datum, &'a [u8])>, Memory>
@@ -138,7 +138,7 @@ pub fn datum_at<'a>(
 #[cycle(data_read)]
 #[tactic(auto, unfolding(sx_codec::specs::Trees::datum_level), using(crate::specs::Seen::datum_is))]
 fn level_at<'a>(
-    libraries: &mut Libraries,
+    libraries: &mut RecentLibraries,
     room: u32,
     bytes: &'a [u8],
 ) -> Result<Option<(Datum, &'a [u8])>, Memory>
@@ -156,7 +156,7 @@ fn level_at<'a>(
 #[cycle(data_read)]
 #[tactic(auto, unfolding(sx_codec::specs::Trees::datum_node_codec))]
 fn node_at<'a>(
-    libraries: &mut Libraries,
+    libraries: &mut RecentLibraries,
     room: u32,
     bytes: &'a [u8],
 ) -> Result<Option<(Node, &'a [u8])>, Memory>
@@ -186,17 +186,17 @@ fn node_at<'a>(
 
 /// The elements of a list, and its tail.
 #[derive(Drop)]
-struct ListParts {
+struct ElementsAndTail {
     data: Vec<Datum>,
     tail: Box<Datum>,
 }
 
 #[cycle(data_read)]
 fn list_at<'a>(
-    libraries: &mut Libraries,
+    libraries: &mut RecentLibraries,
     room: u32,
     bytes: &'a [u8],
-) -> Result<Option<(ListParts, &'a [u8])>, Memory>
+) -> Result<Option<(ElementsAndTail, &'a [u8])>, Memory>
     ensures list { IfOk result (λ o. option_map (λ x. ((x.0.data.items, x.0.tail.value), x.1.now)) o
         ≡ (checked spell.is_datum_list (listed (spell.datum room) then spell.datum room)).get bytes.now) }
     ensures proper { IfOk result (λ o. IfSome o (λ x. IsTrue (is_proper (node.List x.0.data x.0.tail)))) }
@@ -211,12 +211,12 @@ fn list_at<'a>(
         return Ok(None);
     }
     let tail = Box::new(libraries.alloc(), tail)?;
-    Ok(Some((ListParts { data, tail }, rest)))
+    Ok(Some((ElementsAndTail { data, tail }, rest)))
 }
 
 #[cycle(data_read)]
 fn data_at<'a>(
-    libraries: &mut Libraries,
+    libraries: &mut RecentLibraries,
     room: u32,
     bytes: &'a [u8],
 ) -> Result<Option<(Vec<Datum>, &'a [u8])>, Memory>
@@ -230,7 +230,7 @@ fn data_at<'a>(
 
 #[cycle(data_read)]
 fn some_data<'a>(
-    libraries: &mut Libraries,
+    libraries: &mut RecentLibraries,
     room: u32,
     count: u64,
     bytes: &'a [u8],

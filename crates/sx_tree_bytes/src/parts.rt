@@ -7,20 +7,20 @@ ghost use Rattle.sx_tree.specs.Tree.{span_of};
 ghost use Rattle.sx_tree_bytes.specs.Contexts.{context_of};
 ghost use Rattle.sx_tree_bytes.specs.Parts.{IsRestOf, IsListOf, PartsOf, IsProper, tree_cases};
 
-use crate::contexts::Context;
+use crate::contexts::ContextLists;
 use std::alloc::Global;
 use sx_base::atom::Atom;
 use sx_base::fault::BareStop;
 use sx_base::memory::Memory;
 use sx_base::span::Span;
 use sx_base::symbol::Symbol;
-use sx_syntax::syn::{Opened, Syn};
+use sx_syntax::syn::{OpenedTree, Syn};
 
 /// What a syntax tree is, but for its span.
 #[derive(Drop)]
-pub(crate) enum Parts {
+pub(crate) enum TreeParts {
     Atom(Atom),
-    Leaf(Symbol, Context),
+    Leaf(Symbol, ContextLists),
     /// The elements, and the tail.
     List(Vec<Syn>, Syn),
     Vector(Vec<Syn>),
@@ -28,7 +28,7 @@ pub(crate) enum Parts {
 
 /// The elements of a list, and its tail.
 #[derive(Drop)]
-pub(crate) struct ListParts {
+pub(crate) struct ElementsAndTail {
     pub(crate) items: Vec<Syn>,
     pub(crate) tail: Syn,
 }
@@ -58,23 +58,23 @@ fn rest_of(alloc: Global, rest: &Syn) -> Result<Rest, Memory>
 {
     let has_span = has_span(rest);
     match rest.open(alloc)? {
-        Opened::Pair(first, after) => {
+        OpenedTree::Pair(first, after) => {
             if has_span {
                 Ok(Rest::Spanned)
             } else {
                 Ok(Rest::Pair(first, after))
             }
         }
-        Opened::Atom(Atom::Nil) => {
+        OpenedTree::Atom(Atom::Nil) => {
             if has_span {
                 Ok(Rest::Spanned)
             } else {
                 Ok(Rest::Tail)
             }
         }
-        Opened::Atom(_) => Ok(Rest::Tail),
-        Opened::Symbol(_) => Ok(Rest::Tail),
-        Opened::Vector(_) => Ok(Rest::Tail),
+        OpenedTree::Atom(_) => Ok(Rest::Tail),
+        OpenedTree::Symbol(_) => Ok(Rest::Tail),
+        OpenedTree::Vector(_) => Ok(Rest::Tail),
     }
 }
 
@@ -92,7 +92,7 @@ pub(crate) fn is_tail(alloc: Global, tree: &Syn) -> Result<bool, Memory>
 
 /// The elements and the tail of a list, where no rest of it has a span.
 #[tactic(auto, using(crate::proofs::Shapes::one_more, crate::proofs::Shapes::all_there, crate::proofs::Shapes::rest_smaller))]
-fn list_of(alloc: Global, first: Syn, rest: Syn) -> Result<Option<ListParts>, Memory>
+fn list_of(alloc: Global, first: Syn, rest: Syn) -> Result<Option<ElementsAndTail>, Memory>
     ensures { IfOk result (λ o. IsListOf o first rest) }
 {
     let mut items = Vec::new(alloc);
@@ -104,19 +104,19 @@ fn list_of(alloc: Global, first: Syn, rest: Syn) -> Result<Option<ListParts>, Me
                 items.push(item)?;
                 left = after;
             }
-            Rest::Tail => return Ok(Some(ListParts { items, tail: left })),
+            Rest::Tail => return Ok(Some(ElementsAndTail { items, tail: left })),
             Rest::Spanned => return Ok(None),
         }
     }
 }
 
 /// The marks and stamps of a leaf.
-fn context_of(alloc: Global, leaf: &Syn) -> Result<Context, Memory>
+fn context_of(alloc: Global, leaf: &Syn) -> Result<ContextLists, Memory>
     ensures { IfOk result (λ c. context_of c ≡ record { marks = marks_of leaf.now; stamps = stamps_of leaf.now }) }
 {
     let marks = leaf.marks(alloc)?;
     let stamps = leaf.stamps(alloc)?;
-    Ok(Context { marks, stamps })
+    Ok(ContextLists { marks, stamps })
 }
 
 /// The list of these elements and this tail, with this span, where it is within the limits.
@@ -127,8 +127,8 @@ fn list_tree(
     items: Vec<Syn>,
     tail: Syn,
 ) -> Result<Option<Syn>, Memory>
-    requires { IsProper (Parts.List items tail) }
-    ensures { IfOk result (λ o. o ≡ within_limits (tree_node span (tree_cases (Parts.List items tail)))) }
+    requires { IsProper (TreeParts.List items tail) }
+    ensures { IfOk result (λ o. o ≡ within_limits (tree_node span (tree_cases (TreeParts.List items tail)))) }
 {
     match Syn::list(alloc, items, Some(tail)) {
         Ok(list) => {
@@ -140,13 +140,13 @@ fn list_tree(
     }
 }
 
-ghost use Rattle.sx_tree_bytes.specs.declared.parts.Parts.TheVariants as Parts;
+ghost use Rattle.sx_tree_bytes.specs.declared.parts.TreeParts.TheVariants as Parts;
 ghost use Rattle.sx_tree_bytes.specs.Parts.{within_limits};
 
 /// The vector of these elements, with this span, where it is within the limits.
 #[tactic(auto, using(crate::proofs::Shapes::vector_ok, crate::proofs::Shapes::vector_err))]
 fn vector_tree(alloc: Global, span: Option<Span>, items: Vec<Syn>) -> Result<Option<Syn>, Memory>
-    ensures { IfOk result (λ o. o ≡ within_limits (tree_node span (tree_cases (Parts.Vector items)))) }
+    ensures { IfOk result (λ o. o ≡ within_limits (tree_node span (tree_cases (TreeParts.Vector items)))) }
 {
     match Syn::vector(alloc, items) {
         Ok(vector) => {
@@ -158,23 +158,23 @@ fn vector_tree(alloc: Global, span: Option<Span>, items: Vec<Syn>) -> Result<Opt
     }
 }
 
-impl Parts {
+impl TreeParts {
     /// What a tree is, where it has a spelling: no rest of a list has a span.
     #[tactic(auto, using(crate::proofs::Shapes::atom_parts, crate::proofs::Shapes::leaf_parts, crate::proofs::Shapes::list_parts, crate::proofs::Shapes::no_parts, crate::proofs::Shapes::elements_parts))]
-    pub(crate) fn of(alloc: Global, tree: &Syn) -> Result<Option<Parts>, Memory>
+    pub(crate) fn of(alloc: Global, tree: &Syn) -> Result<Option<TreeParts>, Memory>
         ensures { IfOk result (λ o. PartsOf o tree.now) }
     {
         match tree.open(alloc)? {
-            Opened::Atom(atom) => Ok(Some(Parts::Atom(atom))),
-            Opened::Symbol(symbol) => {
+            OpenedTree::Atom(atom) => Ok(Some(TreeParts::Atom(atom))),
+            OpenedTree::Symbol(symbol) => {
                 let context = context_of(alloc, tree)?;
-                Ok(Some(Parts::Leaf(symbol, context)))
+                Ok(Some(TreeParts::Leaf(symbol, context)))
             }
-            Opened::Pair(first, rest) => match list_of(alloc, first, rest)? {
-                Some(list) => Ok(Some(Parts::List(list.items, list.tail))),
+            OpenedTree::Pair(first, rest) => match list_of(alloc, first, rest)? {
+                Some(list) => Ok(Some(TreeParts::List(list.items, list.tail))),
                 None => Ok(None),
             },
-            Opened::Vector(elements) => Ok(Some(Parts::Vector(elements))),
+            OpenedTree::Vector(elements) => Ok(Some(TreeParts::Vector(elements))),
         }
     }
 
@@ -184,17 +184,17 @@ impl Parts {
         ensures { IfOk result (λ o. o ≡ within_limits (tree_node span (tree_cases self))) }
     {
         match self {
-            Parts::Atom(atom) => {
+            TreeParts::Atom(atom) => {
                 let tree = Syn::atom(alloc, atom)?;
                 let tree = tree.spanned(alloc, span)?;
                 Ok(Some(tree))
             }
-            Parts::Leaf(symbol, context) => {
+            TreeParts::Leaf(symbol, context) => {
                 let leaf = Syn::whole_leaf(alloc, span, &symbol, context.marks, context.stamps)?;
                 Ok(Some(leaf))
             }
-            Parts::List(items, tail) => list_tree(alloc, span, items, tail),
-            Parts::Vector(items) => vector_tree(alloc, span, items),
+            TreeParts::List(items, tail) => list_tree(alloc, span, items, tail),
+            TreeParts::Vector(items) => vector_tree(alloc, span, items),
         }
     }
 }

@@ -10,14 +10,14 @@ ghost use Rattle.sx_tree.specs.Measures.{fits};
 ghost use Rattle.sx_tree_bytes.specs.Contexts.{context_of};
 ghost use Rattle.sx_tree_bytes.specs.Parts.{tree_cases, IsProper};
 
-use crate::contexts::Context;
-use crate::parts::{ListParts, Parts, is_tail};
+use crate::contexts::ContextLists;
+use crate::parts::{ElementsAndTail, TreeParts, is_tail};
 use std::alloc::Global;
 use sx_base::atom::Atom;
 use sx_base::memory::Memory;
 use sx_base::span::Span;
 use sx_base::symbol::Symbol;
-use sx_bytes::libraries::Libraries;
+use sx_bytes::libraries::RecentLibraries;
 use sx_bytes::numbers::{put_u64, u64_at};
 use sx_bytes::spelled::Spelled;
 use sx_syntax::syn::Syn;
@@ -68,7 +68,7 @@ fn put_level(out: &mut Vec<u8>, alloc: Global, room: u32, tree: &Syn) -> Result<
     if !is_within(tree) {
         return Ok(false);
     }
-    let Some(parts) = Parts::of(alloc, tree)? else {
+    let Some(parts) = TreeParts::of(alloc, tree)? else {
         return Ok(false);
     };
     put_span(out, tree.span())?;
@@ -77,26 +77,26 @@ fn put_level(out: &mut Vec<u8>, alloc: Global, room: u32, tree: &Syn) -> Result<
 
 #[cycle(tree_put)]
 #[tactic(auto, unfolding(sx_codec::specs::Trees::tree_node_codec))]
-fn put_parts(out: &mut Vec<u8>, alloc: Global, room: u32, parts: &Parts) -> Result<bool, Memory>
+fn put_parts(out: &mut Vec<u8>, alloc: Global, room: u32, parts: &TreeParts) -> Result<bool, Memory>
     ensures { IfOk result (λ b. PutsIf (spell.tree_node_codec (spell.tree room)) (tree_cases parts.now) out.old.items out.new.items b) }
 {
     match parts {
-        Parts::Atom(atom) => {
+        TreeParts::Atom(atom) => {
             out.push(0)?;
             atom.put(out)?;
             Ok(true)
         }
-        Parts::Leaf(symbol, context) => {
+        TreeParts::Leaf(symbol, context) => {
             out.push(1)?;
             symbol.put(out)?;
             context.put(out, alloc)?;
             Ok(true)
         }
-        Parts::List(items, tail) => {
+        TreeParts::List(items, tail) => {
             out.push(2)?;
             put_list(out, alloc, room, items, tail)
         }
-        Parts::Vector(items) => {
+        TreeParts::Vector(items) => {
             out.push(3)?;
             put_trees(out, alloc, room, items)
         }
@@ -154,7 +154,7 @@ fn put_trees(out: &mut Vec<u8>, alloc: Global, room: u32, trees: &[Syn]) -> Resu
 #[cycle(tree_read)]
 #[tactic(auto, using(crate::specs::Seen::tree_none, crate::specs::Seen::tree_more))]
 pub fn tree_at<'a>(
-    libraries: &mut Libraries,
+    libraries: &mut RecentLibraries,
     room: u32,
     bytes: &'a [u8],
 ) -> Result<Option<(Syn, &'a [u8])>, Memory>
@@ -169,7 +169,7 @@ pub fn tree_at<'a>(
 #[cycle(tree_read)]
 #[tactic(auto, unfolding(sx_codec::specs::Trees::tree_level))]
 fn level_at<'a>(
-    libraries: &mut Libraries,
+    libraries: &mut RecentLibraries,
     room: u32,
     bytes: &'a [u8],
 ) -> Result<Option<(Syn, &'a [u8])>, Memory>
@@ -190,28 +190,28 @@ fn level_at<'a>(
 #[cycle(tree_read)]
 #[tactic(auto, unfolding(sx_codec::specs::Trees::tree_node_codec))]
 fn parts_at<'a>(
-    libraries: &mut Libraries,
+    libraries: &mut RecentLibraries,
     room: u32,
     bytes: &'a [u8],
-) -> Result<Option<(Parts, &'a [u8])>, Memory>
+) -> Result<Option<(TreeParts, &'a [u8])>, Memory>
     ensures parts { IfOk result (λ o. option_map (λ x. (tree_cases x.0, x.1.now)) o ≡ (spell.tree_node_codec (spell.tree room)).get bytes.now) }
     ensures proper { IfOk result (λ o. IfSome o (λ x. IsProper x.0)) }
 {
     match bytes {
         [0, rest @ ..] => match Atom::at(libraries, rest)? {
-            Some((atom, rest)) => Ok(Some((Parts::Atom(atom), rest))),
+            Some((atom, rest)) => Ok(Some((TreeParts::Atom(atom), rest))),
             None => Ok(None),
         },
         [1, rest @ ..] => match leaf_at(libraries, rest)? {
-            Some((leaf, rest)) => Ok(Some((Parts::Leaf(leaf.symbol, leaf.context), rest))),
+            Some((leaf, rest)) => Ok(Some((TreeParts::Leaf(leaf.symbol, leaf.context), rest))),
             None => Ok(None),
         },
         [2, rest @ ..] => match list_at(libraries, room, rest)? {
-            Some((list, rest)) => Ok(Some((Parts::List(list.items, list.tail), rest))),
+            Some((list, rest)) => Ok(Some((TreeParts::List(list.items, list.tail), rest))),
             None => Ok(None),
         },
         [3, rest @ ..] => match trees_at(libraries, room, rest)? {
-            Some((items, rest)) => Ok(Some((Parts::Vector(items), rest))),
+            Some((items, rest)) => Ok(Some((TreeParts::Vector(items), rest))),
             None => Ok(None),
         },
         _ => Ok(None),
@@ -222,11 +222,11 @@ fn parts_at<'a>(
 #[derive(Drop)]
 struct LeafParts {
     symbol: Symbol,
-    context: Context,
+    context: ContextLists,
 }
 
 fn leaf_at<'a>(
-    libraries: &mut Libraries,
+    libraries: &mut RecentLibraries,
     bytes: &'a [u8],
 ) -> Result<Option<(LeafParts, &'a [u8])>, Memory>
     ensures { IfOk result (λ o. option_map (λ x. ((x.0.symbol, context_of x.0.context), x.1.now)) o ≡ (text then context).get bytes.now) }
@@ -234,7 +234,7 @@ fn leaf_at<'a>(
     let Some((symbol, rest)) = Symbol::at(libraries, bytes)? else {
         return Ok(None);
     };
-    let Some((context, rest)) = Context::at(libraries, rest)? else {
+    let Some((context, rest)) = ContextLists::at(libraries, rest)? else {
         return Ok(None);
     };
     Ok(Some((LeafParts { symbol, context }, rest)))
@@ -242,10 +242,10 @@ fn leaf_at<'a>(
 
 #[cycle(tree_read)]
 fn list_at<'a>(
-    libraries: &mut Libraries,
+    libraries: &mut RecentLibraries,
     room: u32,
     bytes: &'a [u8],
-) -> Result<Option<(ListParts, &'a [u8])>, Memory>
+) -> Result<Option<(ElementsAndTail, &'a [u8])>, Memory>
     ensures list { IfOk result (λ o. option_map (λ x. ((x.0.items.items, x.0.tail), x.1.now)) o
         ≡ (checked spell.is_tree_list (listed (spell.tree room) then spell.tree room)).get bytes.now) }
     ensures proper { IfOk result (λ o. IfSome o (λ x. spell.is_tree_list (x.0.items.items, x.0.tail) ≡ true)) }
@@ -259,12 +259,12 @@ fn list_at<'a>(
     if !is_some_list(&items) || !is_tail(libraries.alloc(), &tail)? {
         return Ok(None);
     }
-    Ok(Some((ListParts { items, tail }, rest)))
+    Ok(Some((ElementsAndTail { items, tail }, rest)))
 }
 
 #[cycle(tree_read)]
 fn trees_at<'a>(
-    libraries: &mut Libraries,
+    libraries: &mut RecentLibraries,
     room: u32,
     bytes: &'a [u8],
 ) -> Result<Option<(Vec<Syn>, &'a [u8])>, Memory>
@@ -278,7 +278,7 @@ fn trees_at<'a>(
 
 #[cycle(tree_read)]
 fn some_trees<'a>(
-    libraries: &mut Libraries,
+    libraries: &mut RecentLibraries,
     room: u32,
     count: u64,
     bytes: &'a [u8],

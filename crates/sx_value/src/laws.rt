@@ -4,16 +4,16 @@ ghost use Rattle.std.specs.Prelude.{◌≡◌, ℕ, List, []};
 ghost use Rattle.sx_base.specs.Datum.{PlainDatum};
 ghost use Rattle.sx_value.specs.declared.cell.Cell.{Cell};
 ghost use Rattle.sx_value.specs.declared.value.Value.{Value};
-ghost use Rattle.sx_value.specs.Cells.{Whole, FitsIn};
+ghost use Rattle.sx_value.specs.Cells.{WholeCells, FitsIn};
 ghost use Rattle.sx_value.specs.FromDatum.{stored, Keeps};
 ghost use Rattle.sx_value.specs.ToSyntax.{to_syntax, level, shown};
 
 /// An empty list of cells is whole; to add the cells of a datum to whole cells leaves them whole, and
 /// the datum's value fits in them.
 pub fn data_keep_cells_whole()
-    ensures none { Whole [] }
-    ensures cells { (d : PlainDatum) (cells : List Cell) → Whole cells → Whole (stored d cells).1 }
-    ensures value { (d : PlainDatum) (cells : List Cell) → Whole cells → FitsIn (stored d cells).1 (stored d cells).0 }
+    ensures none { WholeCells [] }
+    ensures cells { (d : PlainDatum) (cells : List Cell) → WholeCells cells → WholeCells (stored d cells).1 }
+    ensures value { (d : PlainDatum) (cells : List Cell) → WholeCells cells → FitsIn (stored d cells).1 (stored d cells).0 }
 {}
 
 /// The cells of a datum come after those that are there, which keep their places.

@@ -11,7 +11,7 @@ use Rattle.sx_core_laws.specs.Templates.{templates_suit}
 use Rattle.sx_core_laws.specs.WellMade.{is_leaf, has_form, is_well_made, same_code}
 use Rattle.sx_core_laws.specs.Words.{among, each, once}
 use Rattle.sx_well_made.specs.Parts.{noted, noted_all}
-use Rattle.sx_well_made.specs.declared.parts.Parts.{Parts}
+use Rattle.sx_well_made.specs.declared.parts.NotedParts.{NotedParts}
 use Rattle.sx_well_made.proofs.Lists.{each_joined}
 use Rattle.sx_well_made.proofs.Noted.{flat_joined, numbers_noted, pattern_variables_noted}
 
@@ -26,7 +26,7 @@ and_true : (b : Bool) → (b && true) ≡ b
 and_true true = refl
 and_true false = refl
 
-formed_step : (all : Parts) (c : PlainCore) → (noted all c).formed ≡ (all.formed && own_formed c)
+formed_step : (all : NotedParts) (c : PlainCore) → (noted all c).formed ≡ (all.formed && own_formed c)
 formed_step all (quoted d) = sym (and_true all.formed)
 formed_step all (variable l) = sym (and_true all.formed)
 formed_step all (primitive o) = ap (λ b. all.formed && b) (sym (and_true (nat_lt o.0 name_count)))
@@ -66,7 +66,7 @@ leaves_more c cs =
     ap (each is_leaf) (flat_joined literals (own_patterns c) (flat_map own_patterns cs))
     ∙ each_joined is_leaf (flat_map literals (own_patterns c)) (flat_map literals (flat_map own_patterns cs))
 
-pub formed_noted : (all : Parts) (cs : List PlainCore) → (noted_all all cs).formed ≡ (all.formed && (each has_form cs && (all_leaves cs && each is_named (flat_map own_op cs))))
+pub formed_noted : (all : NotedParts) (cs : List PlainCore) → (noted_all all cs).formed ≡ (all.formed && (each has_form cs && (all_leaves cs && each is_named (flat_map own_op cs))))
 formed_noted all [] = sym (and_true all.formed)
 formed_noted all (c ∷ cs) =
     formed_noted (noted all c) cs ∙ ap (λ b. b && (each has_form cs && (all_leaves cs && each is_named (flat_map own_op cs)))) (formed_step all c)
@@ -83,10 +83,10 @@ and_order true true true true n m t = refl
 and_order true true true false true m t = refl
 and_order true true true false false m t = refl
 
-abbrev nothing_noted : Parts
+abbrev nothing_noted : NotedParts
 nothing_noted = record { numbers = []; variables = []; pattern_variables = []; formed = true }
 
-pub well_made_by : (c : PlainCore) (all : Parts) → all ≡ noted_all nothing_noted (parts c)
+pub well_made_by : (c : PlainCore) (all : NotedParts) → all ≡ noted_all nothing_noted (parts c)
     → (all.formed && (once same_code all.numbers && ((once same_label (binders c) && each (λ l. not (among same_label all.pattern_variables l)) (mentions c)) && templates_suit [] c))) ≡ is_well_made [] c
 well_made_by c all is =
     let formed : all.formed ≡ (each has_form (parts c) && (each is_leaf (flat_map literals (patterns c)) && each is_named (ops c))) = ap (λ p. p.formed) is ∙ formed_noted nothing_noted (parts c) in
@@ -97,7 +97,7 @@ well_made_by c all is =
     (each (λ l. not (among same_label (pattern_variables c ++ []) l)) (mentions c)) (templates_suit [] c)
 
 -- what each of the tests decides
-module _ (c : PlainCore) (all : Parts) (is : all ≡ noted_all nothing_noted (parts c)) where
+module _ (c : PlainCore) (all : NotedParts) (is : all ≡ noted_all nothing_noted (parts c)) where
   abbrev pub bound_well : Bool
   bound_well = once same_label (binders c) && each (λ l. not (among same_label all.pattern_variables l)) (mentions c)
 

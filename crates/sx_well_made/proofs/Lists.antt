@@ -13,7 +13,7 @@ use Rattle.sx_core_laws.specs.Templates.{depths, all_depths}
 use Rattle.sx_core_laws.specs.WellMade.{is_leaf}
 use Rattle.sx_core_laws.specs.Words.{each}
 use Rattle.sx_well_made.specs.Parts.{clause_variables, have_leaves, noted, noted_all}
-use Rattle.sx_well_made.specs.declared.parts.Parts.{Parts}
+use Rattle.sx_well_made.specs.declared.parts.NotedParts.{NotedParts}
 
 module _ {A : Type 0} where
   pub joined : (ls xs ys : List A) → ls ++ (xs ++ ys) ≡ (ls ++ xs) ++ ys
@@ -108,12 +108,12 @@ clause_parts_more c cs = go c.fender
 
 -- ---- what is noted of expressions
 
-pub noted_joined : (all : Parts) (xs ys : List PlainCore) → noted_all all (xs ++ ys) ≡ noted_all (noted_all all xs) ys
+pub noted_joined : (all : NotedParts) (xs ys : List PlainCore) → noted_all all (xs ++ ys) ≡ noted_all (noted_all all xs) ys
 noted_joined all [] ys = refl
 noted_joined all (x ∷ xs) ys = noted_joined (noted all x) xs ys
 
 module _ {T : Type 0} (f : List T → List PlainCore) (g : T → List PlainCore) (split : (x : T) (xs : List T) → f (x ∷ xs) ≡ g x ++ f xs) where
-  pub noted_on : (items : List T) (i : ℕ) (item : T) (b new total : Parts) → i < length items → item ≡ get_or items i item
+  pub noted_on : (items : List T) (i : ℕ) (item : T) (b new total : NotedParts) → i < length items → item ≡ get_or items i item
       → new ≡ noted_all b (g item) → noted_all b (f (drop i items)) ≡ total → noted_all new (f (drop (i + 1) items)) ≡ total
   noted_on items i item b new total h e is so_far =
       let cons : drop i items ≡ item ∷ drop (i + 1) items = rw add-one (drop-cons items i item h ∙ ap (λ x. x ∷ drop (suc i) items) (sym e)) in

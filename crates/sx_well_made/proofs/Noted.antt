@@ -6,14 +6,14 @@ use Rattle.sx_core.specs.Core.{PlainCore, quoted, variable, primitive, one_armed
 use Rattle.sx_core.specs.References.{variables}
 use Rattle.sx_core_laws.specs.Parts.{parts, code_numbers, own_number, own_variables, own_patterns}
 use Rattle.sx_well_made.specs.Parts.{noted, noted_all}
-use Rattle.sx_well_made.specs.declared.parts.Parts.{Parts}
+use Rattle.sx_well_made.specs.declared.parts.NotedParts.{NotedParts}
 
-module _ {A : Type 0} (f : PlainCore → List A) (field : Parts → List A) (step : (all : Parts) (c : PlainCore) → field (noted all c) ≡ field all ++ f c) where
-  pub noted_field : (all : Parts) (cs : List PlainCore) → field (noted_all all cs) ≡ field all ++ flat_map f cs
+module _ {A : Type 0} (f : PlainCore → List A) (field : NotedParts → List A) (step : (all : NotedParts) (c : PlainCore) → field (noted all c) ≡ field all ++ f c) where
+  pub noted_field : (all : NotedParts) (cs : List PlainCore) → field (noted_all all cs) ≡ field all ++ flat_map f cs
   noted_field all [] = sym (append-nil (field all))
   noted_field all (c ∷ cs) = noted_field (noted all c) cs ∙ ap (λ xs. xs ++ flat_map f cs) (step all c) ∙ append_assoc (field all) (f c) (flat_map f cs)
 
-number_step : (all : Parts) (c : PlainCore) → (noted all c).numbers ≡ all.numbers ++ own_number c
+number_step : (all : NotedParts) (c : PlainCore) → (noted all c).numbers ≡ all.numbers ++ own_number c
 number_step all (quoted d) = sym (append-nil all.numbers)
 number_step all (variable l) = sym (append-nil all.numbers)
 number_step all (primitive o) = sym (append-nil all.numbers)
@@ -27,10 +27,10 @@ number_step all (call c cs) = sym (append-nil all.numbers)
 number_step all (instance t s) = sym (append-nil all.numbers)
 number_step all (matching c cs s) = sym (append-nil all.numbers)
 
-pub numbers_noted : (all : Parts) (cs : List PlainCore) → (noted_all all cs).numbers ≡ all.numbers ++ flat_map own_number cs
+pub numbers_noted : (all : NotedParts) (cs : List PlainCore) → (noted_all all cs).numbers ≡ all.numbers ++ flat_map own_number cs
 numbers_noted = noted_field own_number (λ p. p.numbers) number_step
 
-variable_step : (all : Parts) (c : PlainCore) → (noted all c).variables ≡ all.variables ++ own_variables c
+variable_step : (all : NotedParts) (c : PlainCore) → (noted all c).variables ≡ all.variables ++ own_variables c
 variable_step all (quoted d) = sym (append-nil all.variables)
 variable_step all (variable l) = sym (append-nil all.variables)
 variable_step all (primitive o) = sym (append-nil all.variables)
@@ -44,13 +44,13 @@ variable_step all (call c cs) = sym (append-nil all.variables)
 variable_step all (instance t s) = sym (append-nil all.variables)
 variable_step all (matching c cs s) = sym (append-nil all.variables)
 
-pub variables_noted : (all : Parts) (cs : List PlainCore) → (noted_all all cs).variables ≡ all.variables ++ flat_map own_variables cs
+pub variables_noted : (all : NotedParts) (cs : List PlainCore) → (noted_all all cs).variables ≡ all.variables ++ flat_map own_variables cs
 variables_noted = noted_field own_variables (λ p. p.variables) variable_step
 
 abbrev own_pattern_variables : PlainCore → List Label
 own_pattern_variables c = flat_map variables (own_patterns c)
 
-pattern_step : (all : Parts) (c : PlainCore) → (noted all c).pattern_variables ≡ all.pattern_variables ++ own_pattern_variables c
+pattern_step : (all : NotedParts) (c : PlainCore) → (noted all c).pattern_variables ≡ all.pattern_variables ++ own_pattern_variables c
 pattern_step all (quoted d) = sym (append-nil all.pattern_variables)
 pattern_step all (variable l) = sym (append-nil all.pattern_variables)
 pattern_step all (primitive o) = sym (append-nil all.pattern_variables)
@@ -72,12 +72,12 @@ pub flat_flat : {A B C : Type 0} (f : B → List C) (g : A → List B) (xs : Lis
 flat_flat f g [] = refl
 flat_flat f g (x ∷ xs) = flat_joined f (g x) (flat_map g xs) ∙ ap (λ ys. flat_map f (g x) ++ ys) (flat_flat f g xs)
 
-pub pattern_variables_noted : (all : Parts) (cs : List PlainCore) → (noted_all all cs).pattern_variables ≡ all.pattern_variables ++ flat_map variables (flat_map own_patterns cs)
+pub pattern_variables_noted : (all : NotedParts) (cs : List PlainCore) → (noted_all all cs).pattern_variables ≡ all.pattern_variables ++ flat_map variables (flat_map own_patterns cs)
 pattern_variables_noted all cs =
     noted_field own_pattern_variables (λ p. p.pattern_variables) pattern_step all cs ∙ ap (λ xs. all.pattern_variables ++ xs) (sym (flat_flat variables own_patterns cs))
 
 -- the numbers of some core texts, and then of others
-pub numbers_of : (all : Parts) (cs ds : List PlainCore) → (noted_all (noted_all all (flat_map parts cs)) (flat_map parts ds)).numbers ≡ all.numbers ++ flat_map code_numbers (cs ++ ds)
+pub numbers_of : (all : NotedParts) (cs ds : List PlainCore) → (noted_all (noted_all all (flat_map parts cs)) (flat_map parts ds)).numbers ≡ all.numbers ++ flat_map code_numbers (cs ++ ds)
 numbers_of all cs ds =
     numbers_noted (noted_all all (flat_map parts cs)) (flat_map parts ds) ∙ ap (λ ns. ns ++ flat_map own_number (flat_map parts ds)) (numbers_noted all (flat_map parts cs))
     ∙ append_assoc all.numbers (flat_map own_number (flat_map parts cs)) (flat_map own_number (flat_map parts ds))

@@ -11,7 +11,7 @@ use Rattle.sx_core.specs.Template as template
 use Rattle.sx_core.specs.Template.{PlainTemplate, PlainItems}
 use Rattle.sx_core.specs.TemplateView.{items}
 use Rattle.sx_core.specs.declared.code.Clause.{Clause}
-use Rattle.sx_core.specs.declared.template.Item.{Item}
+use Rattle.sx_core.specs.declared.template.TemplateItem.{TemplateItem}
 use Rattle.sx_core_laws.specs.Templates.{Depths, same_depth, depths, has_depths, suits, items_suit, templates_suit, all_suit, inits_suit, cases_suit, clauses_suit}
 use Rattle.sx_core_laws.specs.Words.{among, each}
 use Rattle.sx_core_laws.proofs.Decisions.{label_decides, depth_decides}
@@ -189,7 +189,7 @@ mutual
   same_items_suit vs ws h n (template.more t e is) = and_both refl (and_both (same_suits vs ws h (n + e) t) (same_items_suit vs ws h n is))
 
 -- an item, and then the others
-pub items_suit_more : (vs : Depths) (n : ℕ) (x : Item) (xs : List Item) → items_suit vs n (items (x ∷ xs)) ≡ (items_suit vs n (items (x ∷ [])) && items_suit vs n (items xs))
+pub items_suit_more : (vs : Depths) (n : ℕ) (x : TemplateItem) (xs : List TemplateItem) → items_suit vs n (items (x ∷ xs)) ≡ (items_suit vs n (items (x ∷ [])) && items_suit vs n (items xs))
 items_suit_more vs n x xs = by (has_depths x.ellipses x.template) (suits vs (n + x.ellipses) x.template)
   where
     by : (a b : Bool) → (a && (b && items_suit vs n (items xs))) ≡ ((a && (b && true)) && items_suit vs n (items xs))

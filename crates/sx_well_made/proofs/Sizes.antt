@@ -2,13 +2,13 @@
 use Rattle.std.proofs.Common.{ℕ, zero, suc, ◌<◌, ◌≤◌, List, [], ◌∷◌, length, get_or, arith}
 use Rattle.sx_core.specs.Template.{PlainItems, none, more, template_size, items_size}
 use Rattle.sx_core.specs.TemplateView.{items}
-use Rattle.sx_core.specs.declared.template.Item.{Item}
+use Rattle.sx_core.specs.declared.template.TemplateItem.{TemplateItem}
 
 some_items : (is : PlainItems) → 1 ≤ items_size is
 some_items none = omega arith
 some_items (more t e is) = omega arith
 
-pub item_smaller : (is : List Item) (i : ℕ) (d : Item) → i < length is → template_size (get_or is i d).template < items_size (items is)
+pub item_smaller : (is : List TemplateItem) (i : ℕ) (d : TemplateItem) → i < length is → template_size (get_or is i d).template < items_size (items is)
 item_smaller [] i d h = absurd (omega arith)
 item_smaller (x ∷ is) zero d h = omega (arith, some_items (items is))
 item_smaller (x ∷ is) (suc i) d h = omega (arith, item_smaller is i d (omega arith))

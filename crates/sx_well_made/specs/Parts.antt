@@ -8,7 +8,7 @@ use Rattle.sx_core.specs.References.{variables}
 use Rattle.sx_core_laws.specs.Parts.{core_count, case_count, init_labels, case_labels, clause_patterns, literals}
 use Rattle.sx_core_laws.specs.WellMade.{is_leaf}
 use Rattle.sx_core_laws.specs.Words.{each}
-use Rattle.sx_well_made.specs.declared.parts.Parts.{Parts}
+use Rattle.sx_well_made.specs.declared.parts.NotedParts.{NotedParts}
 
 -- a `lambda` has one case
 abbrev pub has_cases : Bool → PlainCases → Bool
@@ -22,11 +22,11 @@ clause_variables cs = flat_map variables (clause_patterns cs)
 abbrev pub have_leaves : PlainClauses → Bool
 have_leaves cs = each is_leaf (flat_map literals (clause_patterns cs))
 
-abbrev pub demanded : Parts → Bool → Parts
+abbrev pub demanded : NotedParts → Bool → NotedParts
 demanded all b = record all { formed = all.formed && b }
 
 -- with what an expression says for itself
-abbrev pub noted : Parts → PlainCore → Parts
+abbrev pub noted : NotedParts → PlainCore → NotedParts
 noted all (quoted d) = all
 noted all (variable l) = all
 noted all (primitive o) = demanded all (nat_lt o.0 name_count)
@@ -40,6 +40,6 @@ noted all (call c cs) = all
 noted all (instance t s) = all
 noted all (matching c cs s) = record all { pattern_variables = all.pattern_variables ++ clause_variables cs; formed = all.formed && have_leaves cs }
 
-abbrev pub noted_all : Parts → List PlainCore → Parts
+abbrev pub noted_all : NotedParts → List PlainCore → NotedParts
 noted_all all [] = all
 noted_all all (c ∷ cs) = noted_all (noted all c) cs

@@ -18,7 +18,7 @@ use sx_base::memory::Memory;
 use sx_base::name::Label;
 use sx_core::code::{Clause, Code, Core, CoreNode, Init, Lambda};
 use sx_core::pattern::{Elements, Pattern, PatternNode, Repeated};
-use sx_core::template::{Item, Template, TemplateNode};
+use sx_core::template::{TemplateItem, Template, TemplateNode};
 
 /// Pattern variables, each with how many ellipses it stands under in its pattern, in the order of coming.
 #[derive(Drop)]
@@ -217,7 +217,7 @@ fn shortened(reach: u64, ellipses: u64) -> Option<u64>
 
 #[cycle(suits)]
 #[tactic(auto, using(crate::proofs::Reach::no_number))]
-fn item_suits(variables: &DepthSet, ellipses: u64, item: &Item) -> Result<Option<u64>, Memory>
+fn item_suits(variables: &DepthSet, ellipses: u64, item: &TemplateItem) -> Result<Option<u64>, Memory>
     ensures { IfOk result (λ r. r ≡ number_if (items_suit variables.now ellipses (items (item.now ∷ []))) (reach item.now.template - item.now.ellipses)) }
 {
     let own = item.ellipses as u64;
@@ -230,7 +230,7 @@ fn item_suits(variables: &DepthSet, ellipses: u64, item: &Item) -> Result<Option
 
 #[cycle(suits)]
 #[tactic(auto, using(crate::proofs::Sets::items_suit_more, crate::proofs::Reach::no_number, crate::proofs::Reach::a_number, crate::proofs::Reach::the_number))]
-fn items_suit(variables: &DepthSet, ellipses: u64, list: &[Item]) -> Result<Option<u64>, Memory>
+fn items_suit(variables: &DepthSet, ellipses: u64, list: &[TemplateItem]) -> Result<Option<u64>, Memory>
     ensures { IfOk result (λ r. r ≡ number_if (items_suit variables.now ellipses (items list.now)) (items_reach (items list.now))) }
 {
     let mut furthest = 0;

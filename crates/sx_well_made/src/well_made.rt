@@ -8,7 +8,7 @@ ghost use Rattle.sx_core_laws.specs.Words.{among, each, once};
 
 use crate::labels::LabelSet;
 use crate::once::once;
-use crate::parts::{Parts, gather};
+use crate::parts::{NotedParts, gather};
 use crate::scan::scan;
 use crate::templates::{DepthSet, templates_suit};
 use std::alloc::Global;
@@ -60,9 +60,9 @@ fn is_bound_well(alloc: Global, core: &Core, variables: &Items<Label>) -> Result
 pub fn is_well_made(alloc: Global, core: &Core) -> Result<bool, Memory>
     ensures { IfOk result (λ b. b ≡ is_well_made [] core.now) }
 {
-    let mut parts = Parts::new(alloc);
+    let mut parts = NotedParts::new(alloc);
     gather(alloc, &mut parts, core)?;
-    let Parts {
+    let NotedParts {
         numbers,
         pattern_variables,
         formed,

@@ -11,7 +11,7 @@ use Rattle.sx_eval.specs.Codes.{Codes, code_at, with_codes}
 use Rattle.sx_eval.specs.Evals.{setting_of, state_of, evaluated}
 use Rattle.sx_eval.specs.Procedures.{text_number}
 use Rattle.sx_eval.specs.Setting.{PlainSetting}
-use Rattle.sx_eval.specs.State.{State, with_cell, next_place}
+use Rattle.sx_eval.specs.State.{WorldState, with_cell, next_place}
 use Rattle.sx_whole_laws.specs.Evaluated.{EvalsNeverStuck, CallsNeverStuck, ScopeThere, codes_of}
 use Rattle.sx_whole_laws.specs.Extends.{Stay, Extends}
 use Rattle.sx_whole_laws.specs.Ready.{FoundFrom, BoundFrom, ReadyIn}
@@ -38,7 +38,7 @@ with_codes_whole w v x e cells world =
     (subst (λ gs. Each (λ (e : Label × Value). ValueReady v cells e.1) gs) e (globals_later w v x cells cells (grows_refl cells) w.globals world.globals))
 
 -- an expression, after codes were added that give no number to another code
-pub expressions_never_stuck : (w : PlainSetting) (codes : Codes) (c : PlainCore) (scope : Option Place) (s : State) (n : ℕ) → WholeWorld w s.cells → ScopeThere s.cells scope → Stay w.codes codes
+pub expressions_never_stuck : (w : PlainSetting) (codes : Codes) (c : PlainCore) (scope : Option Place) (s : WorldState) (n : ℕ) → WholeWorld w s.cells → ScopeThere s.cells scope → Stay w.codes codes
     → ReadyIn (record w { codes = codes }) s.cells scope c → WholeEnding (record w { codes = codes }) (evaluated (record w { codes = codes }) c scope s n)
 expressions_never_stuck w codes c scope s n world there stay ready = by_scope scope there ready
   where

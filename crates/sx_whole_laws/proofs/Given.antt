@@ -24,9 +24,9 @@ use Rattle.sx_template.specs.Lengths.{agree, or_none}
 use Rattle.sx_prims_laws.proofs.Taken.{each_and}
 use Rattle.sx_eval.specs.Instances.{Binds, with_bind, gathered, gathered_items, instance_of, cost_of, instance_made, instance_paid, instance_with, instanced}
 use Rattle.sx_eval.specs.Setting.{PlainSetting}
-use Rattle.sx_eval.specs.State.{State, done, store}
+use Rattle.sx_eval.specs.State.{WorldState, done, store}
 use Rattle.sx_eval.specs.Variables.{bind_in, parent_in, upwards, here_or_up, bind_found}
-use Rattle.sx_whole_laws.specs.Grows.{Grows}
+use Rattle.sx_whole_laws.specs.Grows.{WorldGrowth}
 use Rattle.sx_whole_laws.specs.PartsReady.{EndsWell}
 use Rattle.sx_whole_laws.specs.Ready.{BoundTo, BoundFrom, FindsAll, FindsItems}
 use Rattle.sx_whole_laws.specs.WholeWorld.{ValueReady, ValuesReady, BindReady, BindsReady, CellReady, WholeWorld}
@@ -147,11 +147,11 @@ value_ready w cells (Some (many bs)) r = record { fits = tt; ready = tt }
 
 -- what was given, with the cells then
 abbrev Given : {A : Type 0} → PlainSetting → (List Cell → A → Type 0) → List Cell → Result (A × List Cell) Bare → Type 0
-Given w P cells (Ok p) = Grows cells p.1 × (WholeWorld w p.1 × P p.1 p.0)
+Given w P cells (Ok p) = WorldGrowth cells p.1 × (WholeWorld w p.1 × P p.1 p.0)
 Given w P cells (Err f) = Unit {0}
 
 given_then : {A B : Type 0} (w : PlainSetting) (P : List Cell → A → Type 0) (Q : List Cell → B → Type 0) (cells : List Cell) (r : Result (A × List Cell) Bare) (go : A → List Cell → Result (B × List Cell) Bare)
-    → Given w P cells r → ((x : A) (after : List Cell) → Grows cells after → WholeWorld w after → P after x → Given w Q after (go x after)) → Given w Q cells (instances.then_add r go)
+    → Given w P cells r → ((x : A) (after : List Cell) → WorldGrowth cells after → WholeWorld w after → P after x → Given w Q after (go x after)) → Given w Q cells (instances.then_add r go)
 given_then {A} {B} w P Q cells (Ok p) go h k = later (go p.0 p.1) (k p.0 p.1 h.0 h.1.0 h.1.1)
   where
     later : (q : Result (B × List Cell) Bare) → Given w Q p.1 q → Given w Q cells q
@@ -219,18 +219,18 @@ module _ (w : PlainSetting) (bs : Binds) where
         (item_given (instances.instance unbound bs t) (instances.counts unbound bs t) (instance_given t) ellipses turns xs cells world b r)
         (λ ys after g whole k. parts_given is turns ys after whole (binds_still w cells after g bs b) k)
 
-well_made : (w : PlainSetting) (s : State) (r : Result (Value × List Cell) Bare) → WholeWorld w s.cells → Given w (ValueReady w) s.cells r → (n : ℕ) → EndsWell w s.cells (instance_made s r n)
+well_made : (w : PlainSetting) (s : WorldState) (r : Result (Value × List Cell) Bare) → WholeWorld w s.cells → Given w (ValueReady w) s.cells r → (n : ℕ) → EndsWell w s.cells (instance_made s r n)
 well_made w s (Ok p) world h n = h
 well_made w s (Err f) world h n = (grows_refl s.cells, world)
 
-well_paid : (w : PlainSetting) (s : State) (n : ℕ) (r : Result (Value × List Cell) Bare) (c : Result ℕ Bare) → WholeWorld w s.cells → Given w (ValueReady w) s.cells r → EndsWell w s.cells (instance_paid s n r c)
+well_paid : (w : PlainSetting) (s : WorldState) (n : ℕ) (r : Result (Value × List Cell) Bare) (c : Result ℕ Bare) → WholeWorld w s.cells → Given w (ValueReady w) s.cells r → EndsWell w s.cells (instance_paid s n r c)
 well_paid w s n r (Ok cost) world h = well_charged w cost s n (instance_made s r) world (λ m e. well_made w s r world h m)
 well_paid w s n r (Err f) world h = (grows_refl s.cells, world)
 
-well_with : (w : PlainSetting) (t : PlainTemplate) (s : State) (n : ℕ) (o : Option Binds) → WholeWorld w s.cells → GatherReady w s.cells o → EndsWell w s.cells (instance_with t s n o)
+well_with : (w : PlainSetting) (t : PlainTemplate) (s : WorldState) (n : ℕ) (o : Option Binds) → WholeWorld w s.cells → GatherReady w s.cells o → EndsWell w s.cells (instance_with t s n o)
 well_with w t s n None world h = absurd h
 well_with w t s n (Some bs) world h = well_paid w s n (instance_of bs t s.cells) (cost_of bs t) world (instance_given w bs t [] s.cells world h)
 
-pub well_instance : (w : PlainSetting) (t : PlainTemplate) (scope : Place) (s : State) (n : ℕ) → WholeWorld w s.cells → FindsAll (BoundFrom s.cells (Some scope)) t → EndsWell w s.cells (instanced t scope s n)
+pub well_instance : (w : PlainSetting) (t : PlainTemplate) (scope : Place) (s : WorldState) (n : ℕ) → WholeWorld w s.cells → FindsAll (BoundFrom s.cells (Some scope)) t → EndsWell w s.cells (instanced t scope s n)
 unfolding instanced
 well_instance w t scope s n world f = well_with w t s n (gathered s.cells scope t []) world (gathered_ready w s.cells world scope t [] f tt)

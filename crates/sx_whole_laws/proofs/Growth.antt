@@ -15,7 +15,7 @@ use Rattle.sx_value.specs.declared.value.Value.TheVariants as value
 use Rattle.sx_value.specs.declared.cell.Cell.{Cell}
 use Rattle.sx_value.specs.declared.cell.Cell.TheVariants as cell
 use Rattle.sx_eval.specs.Variables.{Entries, entry_in, bind_in, parent_in, upwards, here_or_up, found, bind_found, set_entry, cell_with, assigned_in, assigned}
-use Rattle.sx_whole_laws.specs.Grows.{has_value, Same, StillAt, Grows}
+use Rattle.sx_whole_laws.specs.Grows.{has_value, Same, StillAt, WorldGrowth}
 use Rattle.sx_whole_laws.specs.Ready.{BoundTo}
 
 pub same_refl : (c : Cell) → Same c c
@@ -34,15 +34,15 @@ same_then c d e h k = record {
   value = λ l j. k.value l (h.value l j);
 }
 
-still_then : (y z : List Cell) (n : ℕ) (c : Cell) → Grows y z → StillAt y n c → StillAt z n c
+still_then : (y z : List Cell) (n : ℕ) (c : Cell) → WorldGrowth y z → StillAt y n c → StillAt z n c
 still_then y z n c k m =
     let o = k.still n m.cell m.there in
     record { cell = o.cell; there = o.there; same = same_then c m.cell o.cell m.same o.same }
 
-pub grows_refl : (cells : List Cell) → Grows cells cells
+pub grows_refl : (cells : List Cell) → WorldGrowth cells cells
 grows_refl cells = record { longer = omega arith; still = λ n c e. record { cell = c; there = e; same = same_refl c } }
 
-pub grows_then : (x y z : List Cell) → Grows x y → Grows y z → Grows x z
+pub grows_then : (x y z : List Cell) → WorldGrowth x y → WorldGrowth y z → WorldGrowth x z
 grows_then x y z h k = record { longer = omega (arith, h.longer, k.longer); still = λ n c e. still_then y z n c k (h.still n c e) }
 
 pub below_length : (cells : List Cell) (n : ℕ) (c : Cell) → slice_get cells n ≡ Some c → n < length cells
@@ -55,7 +55,7 @@ kept_at old new n c k e =
     let same : slice_get old n ≡ slice_get new n = ap (λ cs. slice_get cs n) (sym k) ∙ slice_get-released new (length old) n (below_length old n c e) in
     sym same ∙ e
 
-pub grows_kept : (old new : List Cell) → Keeps old new → Grows old new
+pub grows_kept : (old new : List Cell) → Keeps old new → WorldGrowth old new
 grows_kept old new k = record {
   longer = omega (arith, sym (length-take (length old) new) ∙ ap length k);
   still = λ n c e. record { cell = c; there = kept_at old new n c k e; same = same_refl c };
@@ -125,13 +125,13 @@ still_set (x ∷ cells) (suc i) (suc n) c d b e s f =
     let r = still_set cells i n c d b e s f in
     record { cell = r.cell; there = r.there; same = r.same }
 
-pub grows_set : (cells : List Cell) (i : ℕ) (c d : Cell) → slice_get cells i ≡ Some c → Same c d → Grows cells (slice_set cells i d)
+pub grows_set : (cells : List Cell) (i : ℕ) (c d : Cell) → slice_get cells i ≡ Some c → Same c d → WorldGrowth cells (slice_set cells i d)
 grows_set cells i c d e s = record { longer = omega (arith, length_set cells i d); still = λ n b f. still_set cells i n c d b e s f }
 
-pub grows_assigned : (cells : List Cell) (place : Place) (l : Label) (v : Value) → Grows cells (assigned cells place l v)
+pub grows_assigned : (cells : List Cell) (place : Place) (l : Label) (v : Value) → WorldGrowth cells (assigned cells place l v)
 grows_assigned cells place l v = by_cell (slice_get cells place.0) refl
   where
-    by_cell : (o : Option Cell) → slice_get cells place.0 ≡ o → Grows cells (assigned_in cells place l v o)
+    by_cell : (o : Option Cell) → slice_get cells place.0 ≡ o → WorldGrowth cells (assigned_in cells place l v o)
     by_cell None e = grows_refl cells
     by_cell (Some c) e = grows_set cells place.0 c (cell_with l v c) e (same_with l v c)
 
@@ -168,7 +168,7 @@ bound_up d f g a b e k h = subst (λ c. BoundTo d (upwards g c)) e (here a h)
     here None h = absurd h
     here (Some o) h = k o h
 
-module _ (old new : List Cell) (g : Grows old new) where
+module _ (old new : List Cell) (g : WorldGrowth old new) where
   pub test_still : (test : Option Cell → Bool) → test None ≡ false → ((c d : Cell) → Same c d → test (Some c) ≡ test (Some d)) → (n : ℕ)
       → IsTrue (test (slice_get old n)) → IsTrue (test (slice_get new n))
   test_still test none same n h = by_cell (slice_get old n) refl h

@@ -19,11 +19,11 @@ use Rattle.sx_eval.specs.Evals.{setting_of, state_of}
 use Rattle.sx_eval.specs.Lines.{defined, with_lines, lines_from, with_value, with_values, with_values_in}
 use Rattle.sx_eval.specs.Meaning.{eval_of}
 use Rattle.sx_eval.specs.Setting.{PlainSetting}
-use Rattle.sx_eval.specs.State.{State, Outcome, done, faulted, unfit, then_do, store, with_cell, next_place}
+use Rattle.sx_eval.specs.State.{WorldState, Outcome, done, faulted, unfit, then_do, store, with_cell, next_place}
 use Rattle.sx_eval.specs.Variables.{Entries, entry_in, set_entry, cell_with, assigned_in, assigned}
 use Rattle.sx_whole_laws.specs.Evaluated.{codes_of, lines_labels, LinesReady, LibraryReady, with_globals_from, LeavesLibrary, LibraryEnding, LibrariesNeverStuck}
 use Rattle.sx_whole_laws.specs.Extends.{Stay, Extends}
-use Rattle.sx_whole_laws.specs.Grows.{has_value, Grows}
+use Rattle.sx_whole_laws.specs.Grows.{has_value, WorldGrowth}
 use Rattle.sx_whole_laws.specs.PartsReady.{EndsWell}
 use Rattle.sx_whole_laws.specs.Ready.{Variables, PatternVariables, Besides, is_one_of, FoundFrom, BoundFrom}
 use Rattle.sx_whole_laws.specs.WholeWorld.{ValueReady, OptionReady, CellReady, WholeWorld}
@@ -46,20 +46,20 @@ lines_map w F H G K f g (line.Expr c ∷ ls) r = (ready_map w w (λ number code 
 abbrev ReadyThere : PlainSetting → List Cell → Place → List Line → Type 0
 ReadyThere w cells scope ls = LinesReady w (FoundFrom w cells (Some scope)) (BoundFrom cells (Some scope)) ls
 
-lines_still : (w : PlainSetting) (old new : List Cell) (scope : Place) (ls : List Line) → Grows old new → ReadyThere w old scope ls → ReadyThere w new scope ls
+lines_still : (w : PlainSetting) (old new : List Cell) (scope : Place) (ls : List Line) → WorldGrowth old new → ReadyThere w old scope ls → ReadyThere w new scope ls
 lines_still w old new scope ls g r =
     lines_map w (FoundFrom w old (Some scope)) (FoundFrom w new (Some scope)) (BoundFrom old (Some scope)) (BoundFrom new (Some scope))
     (from_still w old new g (Some scope)) (bound_from_still w old new g (Some scope)) ls r
 
-well_lines : (w : PlainSetting) (ls : List Line) (scope : Place) (s : State) (n : ℕ) → WholeWorld w s.cells → HasScope s.cells scope → ReadyThere w s.cells scope ls
+well_lines : (w : PlainSetting) (ls : List Line) (scope : Place) (s : WorldState) (n : ℕ) → WholeWorld w s.cells → HasScope s.cells scope → ReadyThere w s.cells scope ls
     → EndsWell w s.cells (lines_from (eval_of w) ls scope s n)
 well_lines w [] scope s n world has ready = (grows_refl s.cells, (world, record { fits = tt; ready = tt }))
 well_lines w (line.Define l c ∷ ls) scope s n world has ready =
     well_then w s.cells (eval_of w c scope s n) (λ v t. lines_from (eval_of w) ls scope (store (assigned t.cells scope l v) t.names)) (well_eval_of w c scope s n world has ready.0)
     (λ v t m g whole k. by_cells v t m g whole k (well_lines w ls scope))
   where
-    by_cells : (v : Value) (t : State) (m : ℕ) → Grows s.cells t.cells → WholeWorld w t.cells → ValueReady w t.cells v
-        → ((u : State) (m : ℕ) → WholeWorld w u.cells → HasScope u.cells scope → ReadyThere w u.cells scope ls → EndsWell w u.cells (lines_from (eval_of w) ls scope u m))
+    by_cells : (v : Value) (t : WorldState) (m : ℕ) → WorldGrowth s.cells t.cells → WholeWorld w t.cells → ValueReady w t.cells v
+        → ((u : WorldState) (m : ℕ) → WholeWorld w u.cells → HasScope u.cells scope → ReadyThere w u.cells scope ls → EndsWell w u.cells (lines_from (eval_of w) ls scope u m))
         → EndsWell w t.cells (lines_from (eval_of w) ls scope (store (assigned t.cells scope l v) t.names) m)
     by_cells v t m g whole k again =
         let cells = assigned t.cells scope l v in
@@ -88,10 +88,10 @@ IsThere cells place l = IsTrue (entry_there l (slice_get cells place))
 abbrev IsSet : List Cell → ℕ → Label → Type 0
 IsSet cells place l = IsTrue (value_in l (slice_get cells place))
 
-there_still : (old new : List Cell) → Grows old new → (place : ℕ) (l : Label) → IsThere old place l → IsThere new place l
+there_still : (old new : List Cell) → WorldGrowth old new → (place : ℕ) (l : Label) → IsThere old place l → IsThere new place l
 there_still old new g place l h = test_still old new g (entry_there l) refl (λ c d s. s.entry l) place h
 
-set_still : (old new : List Cell) → Grows old new → (place : ℕ) (l : Label) → IsSet old place l → IsSet new place l
+set_still : (old new : List Cell) → WorldGrowth old new → (place : ℕ) (l : Label) → IsSet old place l → IsSet new place l
 set_still old new g place l h = by_cell (slice_get old place) refl h
   where
     by_cell : (o : Option Cell) → slice_get old place ≡ o → IsTrue (value_in l o) → IsSet new place l
@@ -134,16 +134,16 @@ and_set w cells place l ls (done v s n) h k set = (set_still cells s.cells h.0 p
 and_set w cells place l ls (faulted f s n) h k set = tt
 and_set w cells place l ls unfit h k set = tt
 
-all_there : (old new : List Cell) → Grows old new → (place : ℕ) (ls : List Label) → Each (λ l. IsThere old place l) ls → Each (λ l. IsThere new place l) ls
+all_there : (old new : List Cell) → WorldGrowth old new → (place : ℕ) (ls : List Label) → Each (λ l. IsThere old place l) ls → Each (λ l. IsThere new place l) ls
 all_there old new g place ls h = each_of (λ l. IsThere new place l) ls (λ l a. there_still old new g place l (each_at (λ m. IsThere old place m) ls l h a))
 
-lines_set : (w : PlainSetting) (ls : List Line) (scope : Place) (s : State) (n : ℕ) → WholeWorld w s.cells → HasScope s.cells scope → ReadyThere w s.cells scope ls
+lines_set : (w : PlainSetting) (ls : List Line) (scope : Place) (s : WorldState) (n : ℕ) → WholeWorld w s.cells → HasScope s.cells scope → ReadyThere w s.cells scope ls
     → Each (λ l. IsThere s.cells scope.0 l) (lines_labels ls) → SetIn scope.0 (lines_labels ls) (lines_from (eval_of w) ls scope s n)
 lines_set w [] scope s n world has ready there = tt
 lines_set w (line.Define l c ∷ ls) scope s n world has ready there = by_end (eval_of w c scope s n) (well_eval_of w c scope s n world has ready.0) (lines_set w ls scope)
   where
     by_end : (o : Outcome) → EndsWell w s.cells o
-        → ((u : State) (m : ℕ) → WholeWorld w u.cells → HasScope u.cells scope → ReadyThere w u.cells scope ls → Each (λ l. IsThere u.cells scope.0 l) (lines_labels ls)
+        → ((u : WorldState) (m : ℕ) → WholeWorld w u.cells → HasScope u.cells scope → ReadyThere w u.cells scope ls → Each (λ l. IsThere u.cells scope.0 l) (lines_labels ls)
         → SetIn scope.0 (lines_labels ls) (lines_from (eval_of w) ls scope u m))
         → SetIn scope.0 (l ∷ lines_labels ls) (then_do o (λ v t. lines_from (eval_of w) ls scope (store (assigned t.cells scope l v) t.names)))
     by_end (done v t m) h again =
@@ -160,7 +160,7 @@ lines_set w (line.Define l c ∷ ls) scope s n world has ready there = by_end (e
 lines_set w (line.Expr c ∷ ls) scope s n world has ready there = by_end (eval_of w c scope s n) (well_eval_of w c scope s n world has ready.0) (lines_set w ls scope)
   where
     by_end : (o : Outcome) → EndsWell w s.cells o
-        → ((u : State) (m : ℕ) → WholeWorld w u.cells → HasScope u.cells scope → ReadyThere w u.cells scope ls → Each (λ l. IsThere u.cells scope.0 l) (lines_labels ls)
+        → ((u : WorldState) (m : ℕ) → WholeWorld w u.cells → HasScope u.cells scope → ReadyThere w u.cells scope ls → Each (λ l. IsThere u.cells scope.0 l) (lines_labels ls)
         → SetIn scope.0 (lines_labels ls) (lines_from (eval_of w) ls scope u m))
         → SetIn scope.0 (lines_labels ls) (then_do o (λ v. lines_from (eval_of w) ls scope))
     by_end (done v t m) h again =
@@ -299,7 +299,7 @@ defined_found l (line.Define m c ∷ ls) h = by_own (same_label l m) (defined_fo
 defined_found l (line.Expr c ∷ ls) h = defined_found l ls h
 
 -- lines, after their codes were added
-pub lines_never_stuck : (w : PlainSetting) (codes : Codes) (ls : List Line) (s : State) (n : ℕ) → WholeWorld w s.cells → Stay w.codes codes → LibraryReady (record w { codes = codes }) s.cells ls
+pub lines_never_stuck : (w : PlainSetting) (codes : Codes) (ls : List Line) (s : WorldState) (n : ℕ) → WholeWorld w s.cells → Stay w.codes codes → LibraryReady (record w { codes = codes }) s.cells ls
     → LibraryEnding (record w { codes = codes }) (lines_labels ls) (length s.cells) (lines_from (eval_of (record w { codes = codes })) ls (next_place s) (with_cell (cell.Scope (defined ls) None) s) n)
 lines_never_stuck w codes ls s n world stay ready =
     let v : PlainSetting = record w { codes = codes } in

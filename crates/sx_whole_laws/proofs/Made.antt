@@ -16,15 +16,15 @@ use Rattle.sx_prims.specs.Answers.{Answer}
 use Rattle.sx_prims.specs.Cost.{cost}
 use Rattle.sx_prims.specs.Delta.{delta}
 use Rattle.sx_prims.specs.Perform.{performed, temporaries, name_after}
-use Rattle.sx_prims.specs.declared.made.Made.{Made}
-use Rattle.sx_prims.specs.declared.made.Made.TheVariants as made_by
+use Rattle.sx_prims.specs.declared.made.PrimResult.{PrimResult}
+use Rattle.sx_prims.specs.declared.made.PrimResult.TheVariants as made_by
 use Rattle.sx_prims_laws.specs.Holds.{MadeHolds}
 use Rattle.sx_prims_laws.proofs.Calls.{call_holds}
 use Rattle.sx_eval.specs.Meaning.{answer_made, primitive_called, quoted_value}
 use Rattle.sx_eval.specs.Quoted.{datum_cost}
 use Rattle.sx_eval.specs.Setting.{PlainSetting}
-use Rattle.sx_eval.specs.State.{State, made}
-use Rattle.sx_whole_laws.specs.Grows.{Grows}
+use Rattle.sx_eval.specs.State.{WorldState, made}
+use Rattle.sx_whole_laws.specs.Grows.{WorldGrowth}
 use Rattle.sx_whole_laws.specs.PartsReady.{EndsWell}
 use Rattle.sx_whole_laws.specs.WholeWorld.{ValueReady, ValuesReady, WholeWorld}
 use Rattle.sx_whole_laws.proofs.Growth.{grows_refl, grows_then}
@@ -63,7 +63,7 @@ transformer_good w cells x world r = record {
 pub as_is : (w : PlainSetting) (cells : List Cell) (x : Value) → WholeWorld w cells → ValueReady w cells x → Stored w cells (x, cells)
 as_is w cells x world r = record { grows = grows_refl cells; world = world; ready = r }
 
-stored_later : (w : PlainSetting) (x y : List Cell) (p : Value × List Cell) → Grows x y → Stored w y p → Stored w x p
+stored_later : (w : PlainSetting) (x y : List Cell) (p : Value × List Cell) → WorldGrowth x y → Stored w y p → Stored w x p
 stored_later w x y p g h = record { grows = grows_then x y p.1 g h.grows; world = h.world; ready = h.ready }
 
 -- Data.
@@ -78,7 +78,7 @@ atom_good w (a.Str text) cells world = string_good w cells text world
 atom_good w (a.Bytes bytes) cells world = as_is w cells (value.Atom (a.Bytes bytes)) world (record { fits = tt; ready = tt })
 
 record AllStored (w : PlainSetting) (old : List Cell) (p : List Value × List Cell) : Type 0 where
-  grows : Grows old p.1
+  grows : WorldGrowth old p.1
   world : WholeWorld w p.1
   ready : ValuesReady w p.1 p.0
 
@@ -109,7 +109,7 @@ mutual
       record { grows = grows_then cells p.1 q.1 first.grows rest.grows; world = rest.world; ready = (value_still w p.1 q.1 rest.grows p.0 first.ready, rest.ready) }
   elements_good w (vector s d) cells world = record { grows = grows_refl cells; world = world; ready = tt }
 
-pub well_quoted : (w : PlainSetting) (d : PlainDatum) (s : State) (n : ℕ) → WholeWorld w s.cells → EndsWell w s.cells (quoted_value d s n)
+pub well_quoted : (w : PlainSetting) (d : PlainDatum) (s : WorldState) (n : ℕ) → WholeWorld w s.cells → EndsWell w s.cells (quoted_value d s n)
 unfolding quoted_value
 well_quoted w d s n world =
     let it = stored_good w d s.cells world in
@@ -121,7 +121,7 @@ temporaries_ready : (w : PlainSetting) (cells : List Cell) (n : ℕ) (name : Nam
 temporaries_ready w cells zero name = tt
 temporaries_ready w cells (suc n) name = (record { fits = tt; ready = tt }, temporaries_ready w cells n (name_after 1 name))
 
-performed_good : (w : PlainSetting) (m : Made) (name : Named) (cells : List Cell) → WholeWorld w cells → MadeHolds (ValueReady w cells) m → Stored w cells (performed m name cells)
+performed_good : (w : PlainSetting) (m : PrimResult) (name : Named) (cells : List Cell) → WholeWorld w cells → MadeHolds (ValueReady w cells) m → Stored w cells (performed m name cells)
 performed_good w (made_by.Value x) name cells world r = as_is w cells x world r
 performed_good w (made_by.List xs x) name cells world r = pairs_good w xs x cells world r.0 r.1
 performed_good w (made_by.Vector xs) name cells world r = vector_good w cells xs world r
@@ -131,7 +131,7 @@ performed_good w (made_by.Datum x) name cells world r = stored_good w (datum_in 
 performed_good w (made_by.Temporaries n) name cells world r =
     pairs_good w (temporaries n name) (value.Atom a.Nil) cells world (temporaries_ready w cells n name) (record { fits = tt; ready = tt })
 
-pub well_primitive : (w : PlainSetting) (op : ℕ) (args : List Value) (s : State) (n : ℕ) → WholeWorld w s.cells → ValuesReady w s.cells args
+pub well_primitive : (w : PlainSetting) (op : ℕ) (args : List Value) (s : WorldState) (n : ℕ) → WholeWorld w s.cells → ValuesReady w s.cells args
     → EndsWell w s.cells (primitive_called w op args s n)
 unfolding primitive_called
 well_primitive w op args s n world r =

@@ -17,7 +17,7 @@ use Rattle.sx_pattern.specs.Front.{has_room, fronted, on_pair, store_front, tree
 use Rattle.sx_pattern.specs.Matched.{nothing, and_then, kept, count, limit, repeated, no_rows, with_rows, on_elements, matched, all_matched}
 use Rattle.sx_pattern.specs.Values.{atom_of, is_atom, is_alike, stored_pair, vector_of}
 use Rattle.sx_pattern.specs.declared.columns.Column.{Column}
-use Rattle.sx_pattern.specs.declared.columns.Found.{Found}
+use Rattle.sx_pattern.specs.declared.columns.PatternBinds.{PatternBinds}
 use Rattle.sx_pattern.specs.declared.columns.Rows.{Rows}
 use Rattle.sx_pattern.specs.declared.front.Front.{Front}
 use Rattle.sx_prims_laws.proofs.Taken.{PairOr, ValuesOr, each_both, each_and, each_taken, each_dropped, pair_at_holds, vector_at_holds}
@@ -73,7 +73,7 @@ record Took (w : PlainSetting) (cells : List Cell) (ds : Depths) (old after : Bi
   bound_to : Bound ds new
   ready : AreReady w cells new
 
-abbrev TookOr : PlainSetting → List Cell → Depths → Binds → Option Found → Type 0
+abbrev TookOr : PlainSetting → List Cell → Depths → Binds → Option PatternBinds → Type 0
 TookOr w cells ds old None = Unit {0}
 TookOr w cells ds old (Some f) = Took w cells ds old f.binds
 
@@ -88,16 +88,16 @@ took_both w cells ds es x y z h k = record {
   ready = each_both (λ (b : Label × PlainBind). BindReady w cells b.1) h.new k.new h.ready k.ready;
 }
 
-took_then : (w : PlainSetting) (cells : List Cell) (ds es : Depths) (old : Binds) (o : Option Found) (go : Found → Option Found) → TookOr w cells ds old o
-    → ((f : Found) → TookOr w cells es f.binds (go f)) → TookOr w cells (ds ++ es) old (and_then o go)
+took_then : (w : PlainSetting) (cells : List Cell) (ds es : Depths) (old : Binds) (o : Option PatternBinds) (go : PatternBinds → Option PatternBinds) → TookOr w cells ds old o
+    → ((f : PatternBinds) → TookOr w cells es f.binds (go f)) → TookOr w cells (ds ++ es) old (and_then o go)
 took_then w cells ds es old None go h k = tt
 took_then w cells ds es old (Some f) go h k = later (go f) (k f)
   where
-    later : (o : Option Found) → TookOr w cells es f.binds o → TookOr w cells (ds ++ es) old o
+    later : (o : Option PatternBinds) → TookOr w cells es f.binds o → TookOr w cells (ds ++ es) old o
     later None j = tt
     later (Some g) j = took_both w cells ds es old f.binds g.binds h j
 
-took_kept : (w : PlainSetting) (cells : List Cell) (b : Bool) (s : Found) → TookOr w cells [] s.binds (kept b s)
+took_kept : (w : PlainSetting) (cells : List Cell) (b : Bool) (s : PatternBinds) → TookOr w cells [] s.binds (kept b s)
 took_kept w cells true s = took_none w cells s.binds
 took_kept w cells false s = tt
 
@@ -174,13 +174,13 @@ abbrev RowsOr : PlainSetting → List Cell → Depths → Option Rows → Type 0
 RowsOr w cells ds None = Unit {0}
 RowsOr w cells ds (Some rows) = Columns w cells ds rows.columns
 
-repeated_good : (w : PlainSetting) (cells : List Cell) (ds : Depths) (go : Value → Found → Option Found) → ((v : Value) (s : Found) → ValueReady w cells v → TookOr w cells ds s.binds (go v s))
+repeated_good : (w : PlainSetting) (cells : List Cell) (ds : Depths) (go : Value → PatternBinds → Option PatternBinds) → ((v : Value) (s : PatternBinds) → ValueReady w cells v → TookOr w cells ds s.binds (go v s))
     → (xs : List Value) (rows : Rows) → Columns w cells ds rows.columns → ValuesReady w cells xs → RowsOr w cells ds (repeated go rows xs)
 repeated_good w cells ds go goes [] rows h r = h
 repeated_good w cells ds go goes (x ∷ xs) rows h r =
     by_row (λ next k. repeated_good w cells ds go goes xs next k r.1) (go x (nothing (rows.taken + 1))) (goes x (nothing (rows.taken + 1)) r.0)
   where
-    by_row : ((next : Rows) → Columns w cells ds next.columns → RowsOr w cells ds (repeated go next xs)) → (o : Option Found) → TookOr w cells ds [] o
+    by_row : ((next : Rows) → Columns w cells ds next.columns → RowsOr w cells ds (repeated go next xs)) → (o : Option PatternBinds) → TookOr w cells ds [] o
         → RowsOr w cells ds (and_then o (λ row. repeated go (record { columns = grown [] rows.columns row.binds; taken = row.taken }) xs))
     by_row again None j = tt
     by_row again (Some row) j =
@@ -271,7 +271,7 @@ module _ (w : PlainSetting) (cells : List Cell) (world : WholeWorld w cells) whe
 
 module _ (w : PlainSetting) (cells : List Cell) (world : WholeWorld w cells) (fs : Scope) where
   mutual
-    matched_took : (p : PlainPattern) (v : Value) (s : Found) → ValueReady w cells v → TookOr w cells (depths 0 p) s.binds (matched fs cells p v s)
+    matched_took : (p : PlainPattern) (v : Value) (s : PatternBinds) → ValueReady w cells v → TookOr w cells (depths 0 p) s.binds (matched fs cells p v s)
     matched_took any v s r = took_none w cells s.binds
     matched_took (variable l) v s r = record { new = (l, one v) ∷ []; is = refl; bound_to = (refl, (tt, tt)); ready = (r, tt) }
     matched_took (literal t) v s r = took_kept w cells (is_alike fs t v) s
@@ -287,7 +287,7 @@ module _ (w : PlainSetting) (cells : List Cell) (world : WholeWorld w cells) (fs
         by_elements None h k = tt
         by_elements (Some xs) h k = k xs h
 
-    all_took : (ps : PlainPatterns) (xs : List Value) (s : Found) → ValuesReady w cells xs → TookOr w cells (all_depths 0 ps) s.binds (all_matched fs cells ps xs s)
+    all_took : (ps : PlainPatterns) (xs : List Value) (s : PatternBinds) → ValuesReady w cells xs → TookOr w cells (all_depths 0 ps) s.binds (all_matched fs cells ps xs s)
     all_took none [] s r = took_none w cells s.binds
     all_took none (x ∷ xs) s r = tt
     all_took (more p ps) [] s r = tt
@@ -298,7 +298,7 @@ module _ (w : PlainSetting) (cells : List Cell) (world : WholeWorld w cells) (fs
         let rows = repeated_good w cells (depths 0 p) (matched fs cells p) (λ v g k. matched_took p v g k) (take n xs) (no_rows p s.taken) (empty_good w cells 0 p [] [] tt) (each_taken (ValueReady w cells) n xs r) in
         by_room (nat_le (count ps) (length xs)) (by_rows (repeated (matched fs cells p) (no_rows p s.taken) (take n xs)) rows (λ g. all_took ps (drop n xs) g (each_dropped (ValueReady w cells) n xs r)))
       where
-        by_rows : (o : Option Rows) → RowsOr w cells (depths 0 p) o → ((g : Found) → TookOr w cells (all_depths 0 ps) g.binds (all_matched fs cells ps (drop (length xs - count ps) xs) g))
+        by_rows : (o : Option Rows) → RowsOr w cells (depths 0 p) o → ((g : PatternBinds) → TookOr w cells (all_depths 0 ps) g.binds (all_matched fs cells ps (drop (length xs - count ps) xs) g))
             → TookOr w cells (depths 1 p ++ all_depths 0 ps) s.binds (and_then o (λ rows. all_matched fs cells ps (drop (length xs - count ps) xs) (with_rows s rows)))
         by_rows None h k = tt
         by_rows (Some rows) h k =
@@ -319,12 +319,12 @@ module _ (w : PlainSetting) (cells : List Cell) (world : WholeWorld w cells) (fs
         by_room false k = tt
 
 -- the binds of a match from nothing
-match_good : (w : PlainSetting) (cells : List Cell) (p : PlainPattern) (f : Found) (o : Option Found) → TookOr w cells (depths 0 p) [] o → o ≡ Some f → MatchReady w cells p f
+match_good : (w : PlainSetting) (cells : List Cell) (p : PlainPattern) (f : PatternBinds) (o : Option PatternBinds) → TookOr w cells (depths 0 p) [] o → o ≡ Some f → MatchReady w cells p f
 match_good w cells p f None h e = absurd (cc)
 match_good w cells p f (Some g) h e =
     let is : g ≡ f = cc in
-    subst (λ (x : Found). MatchReady w cells p x) is
+    subst (λ (x : PatternBinds). MatchReady w cells p x) is
     (record { bound = subst (λ (bs : Binds). Bound (depths 0 p) bs) h.is h.bound_to; ready = subst (λ (bs : Binds). AreReady w cells bs) h.is h.ready })
 
-pub match_ready : (w : PlainSetting) (cells : List Cell) (p : PlainPattern) (v : Value) (f : Found) → WholeWorld w cells → ValueReady w cells v → match_of w.frames cells p v ≡ Some f → MatchReady w cells p f
+pub match_ready : (w : PlainSetting) (cells : List Cell) (p : PlainPattern) (v : Value) (f : PatternBinds) → WholeWorld w cells → ValueReady w cells v → match_of w.frames cells p v ≡ Some f → MatchReady w cells p f
 match_ready w cells p v f world r e = match_good w cells p f (match_of w.frames cells p v) (matched_took w cells world w.frames p v (nothing 0) r) e

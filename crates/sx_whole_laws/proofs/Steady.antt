@@ -25,7 +25,7 @@ use Rattle.sx_eval.specs.Setting.{PlainSetting}
 use Rattle.sx_whole_laws.specs.Ready.{Variables, PatternVariables, Besides, OrThisDepth, BesidesPattern, FindsAll, FindsItems, Ready, SequenceReady, AllReady, InitsReady, CasesReady, ClausesReady, FoundFrom, BoundFrom, ReadyIn, AllReadyIn, InitsReadyIn, CasesReadyIn, ClausesReadyIn}
 use Rattle.sx_whole_laws.specs.WholeWorld.{CodeReady, ProcedureReady, ValueReady, ValuesReady, OptionReady, BindReady, BindsReady, CellReady, TextReady}
 use Rattle.sx_whole_laws.specs.Extends.{Stay, Extends}
-use Rattle.sx_whole_laws.specs.Grows.{Grows}
+use Rattle.sx_whole_laws.specs.Grows.{WorldGrowth}
 use Rattle.sx_whole_laws.proofs.Growth.{fits_still, variables_still, found_still, bound_still}
 
 -- Code is ready where more is found.
@@ -99,7 +99,7 @@ module _ (w v : PlainSetting) (stay : Stay w.codes v.codes) where
 
 -- Values, cells and texts, where cells have come, variables have got values, and what is read has come to hold more.
 
-module _ (w v : PlainSetting) (x : Extends w v) (old new : List Cell) (g : Grows old new) where
+module _ (w v : PlainSetting) (x : Extends w v) (old new : List Cell) (g : WorldGrowth old new) where
   from_later : (scope : Option Place) (l : Label) → FoundFrom w old scope l → FoundFrom v new scope l
   from_later scope l h = found_still old new g w.globals v.globals l (x.globals l) (suc (length old)) (suc (length new)) scope (omega (arith, g.longer)) h
 
@@ -184,7 +184,7 @@ extends_refl w = record { codes = λ number code h. h; globals = λ l h. h }
 
 -- The same where nothing else is read.
 
-module _ (w : PlainSetting) (old new : List Cell) (g : Grows old new) where
+module _ (w : PlainSetting) (old new : List Cell) (g : WorldGrowth old new) where
   pub from_still : (scope : Option Place) (l : Label) → FoundFrom w old scope l → FoundFrom w new scope l
   from_still scope l h = from_later w w (extends_refl w) old new g scope l h
 
@@ -223,7 +223,7 @@ module _ (w : PlainSetting) (old new : List Cell) (g : Grows old new) where
 
 -- What lies in a cell lies in it still.
 
-module _ (old new : List Cell) (g : Grows old new) where
+module _ (old new : List Cell) (g : WorldGrowth old new) where
   lies_still : (n : ℕ) (v : Value) → Lies old n v → Lies new n v
   lies_still n v h = record { fits = fits_still old new g v h.fits; below = h.below }
 

@@ -21,7 +21,7 @@ use Rattle.sx_value.specs.declared.value.Value.{Value}
 use Rattle.sx_value.specs.declared.value.Value.TheVariants as value
 use Rattle.sx_value.specs.declared.cell.Cell.{Cell}
 use Rattle.sx_value.specs.declared.cell.Cell.TheVariants as cell
-use Rattle.sx_pattern.specs.declared.columns.Found.{Found}
+use Rattle.sx_pattern.specs.declared.columns.PatternBinds.{PatternBinds}
 use Rattle.sx_prims.specs.Chains.{list_elements}
 use Rattle.sx_prims_laws.proofs.Taken.{ValueOr, ValuesOr, each_and, each_both, elements_hold}
 use Rattle.sx_eval.specs.Codes.{code_at}
@@ -29,10 +29,10 @@ use Rattle.sx_eval.specs.Instances.{match_of}
 use Rattle.sx_eval.specs.Procedures.{first_case, bindings, has_text, text_number, text_body, truth_of}
 use Rattle.sx_eval.specs.Setting.{PlainSetting}
 use Rattle.sx_eval.specs.Spread.{Call, apply_args, before_last, parted, with_elements, with_front, on_parts, spread_once, spread_on, spread_to, spread}
-use Rattle.sx_eval.specs.State.{State, Outcome, done, faulted, unfit, then_do, store, next_place, with_cell}
+use Rattle.sx_eval.specs.State.{WorldState, Outcome, done, faulted, unfit, then_do, store, next_place, with_cell}
 use Rattle.sx_eval.specs.Variables.{Entries, entry_in, parent_in, upwards, here_or_up, found, unset, assigned, all_assigned}
 use Rattle.sx_eval.specs.Meaning.{Evaluator, primitive_called, variable_read, variable_value, by_case, by_code, procedure_called, text_value_called, by_text, op_called, value_called, first_called, applied, operands, in_sequence, one_arm, two_arms, in_turn, at_once, by_letrec, fender_passed, output_given, fender_asked, on_match, tried, expressed, unrolled, evaluates, eval_of}
-use Rattle.sx_whole_laws.specs.Grows.{Grows}
+use Rattle.sx_whole_laws.specs.Grows.{WorldGrowth}
 use Rattle.sx_whole_laws.specs.PartsReady.{EndsWell, MatchReady}
 use Rattle.sx_whole_laws.specs.Ready.{Besides, BesidesPattern, FoundFrom, BoundFrom, Ready, ReadyIn, AllReadyIn, InitsReadyIn, CasesReadyIn, ClausesReadyIn}
 use Rattle.sx_whole_laws.specs.WholeWorld.{CodeReady, ValueReady, ValuesReady, OptionReady, CellReady, TextReady, WholeWorld, WholeEnding, NeverStuck, AppliedNeverStuck}
@@ -101,12 +101,12 @@ module _ (w : PlainSetting) (cells : List Cell) (world : WholeWorld w cells) whe
           or_ready w cells (entry_in l c) (upwards (found n w.globals cells l) (parent_in c)) (entry_ready w cells l c (world.values place.0 c e))
           (up_ready w cells (found n w.globals cells l) again (parent_in c))
 
-well_read : (w : PlainSetting) (l : Label) (s : State) (n : ℕ) (o : Option (Option Value)) → WholeWorld w s.cells → IsTrue (is_found o) → FoundReady w s.cells o → EndsWell w s.cells (variable_read w l s n o)
+well_read : (w : PlainSetting) (l : Label) (s : WorldState) (n : ℕ) (o : Option (Option Value)) → WholeWorld w s.cells → IsTrue (is_found o) → FoundReady w s.cells o → EndsWell w s.cells (variable_read w l s n o)
 well_read w l s n None world h r = absurd (cc)
 well_read w l s n (Some None) world h r = (grows_refl s.cells, world)
 well_read w l s n (Some (Some v)) world h r = (grows_refl s.cells, (world, r))
 
-well_variable : (w : PlainSetting) (l : Label) (scope : Place) (s : State) (n : ℕ) → WholeWorld w s.cells → FoundFrom w s.cells (Some scope) l → EndsWell w s.cells (variable_value w l scope s n)
+well_variable : (w : PlainSetting) (l : Label) (scope : Place) (s : WorldState) (n : ℕ) → WholeWorld w s.cells → FoundFrom w s.cells (Some scope) l → EndsWell w s.cells (variable_value w l scope s n)
 unfolding variable_value
 well_variable w l scope s n world h =
     well_read w l s n (found (suc (length s.cells)) w.globals s.cells l (Some scope)) world h (found_ready w s.cells world l (suc (length s.cells)) (Some scope))
@@ -152,7 +152,7 @@ args_are_rest (value.Syn t) vs = tt
 args_are_rest (value.Transformer p) vs = tt
 
 -- `apply`, where the calls to which it leads end well. So many turns are left.
-module _ (w : PlainSetting) (s : State) (world : WholeWorld w s.cells) (turns : ℕ) (again : Call)
+module _ (w : PlainSetting) (s : WorldState) (world : WholeWorld w s.cells) (turns : ℕ) (again : Call)
     (well : (f : Value) (vs : List Value) (m : ℕ) → m + length (f ∷ vs) < turns → ValuesReady w s.cells (f ∷ vs) → EndsWell w s.cells (again (f ∷ vs) m)) where
   well_elements : (x : Value) (xs : List Value) (n : ℕ) → n + length (x ∷ xs) < turns → ValuesReady w s.cells (x ∷ xs) → (o : Option (List Value)) → ValuesOr (ValueReady w s.cells) o
       → EndsWell w s.cells (with_elements (x ∷ xs) s again n o)
@@ -173,7 +173,7 @@ module _ (w : PlainSetting) (s : State) (world : WholeWorld w s.cells) (turns : 
   unfolding spread_once
   well_once args n less r = well_parts (length args) n less (parted args) (parted_well w s.cells args r)
 
-module _ (w : PlainSetting) (s : State) (world : WholeWorld w s.cells) (go : Call)
+module _ (w : PlainSetting) (s : WorldState) (world : WholeWorld w s.cells) (go : Call)
     (well : (f : Value) (vs : List Value) (m : ℕ) → ValuesReady w s.cells (f ∷ vs) → EndsWell w s.cells (go (f ∷ vs) m)) where
   well_to : (turns : ℕ) (f : Value) (vs : List Value) (n : ℕ) → n + length (f ∷ vs) < turns → ValuesReady w s.cells (f ∷ vs) → EndsWell w s.cells (spread_to turns s go (f ∷ vs) n)
   well_to zero f vs n less r = absurd (omega (arith, less))
@@ -192,13 +192,13 @@ module _ (w : PlainSetting) (s : State) (world : WholeWorld w s.cells) (go : Cal
 
 -- an evaluator that never meets cells that don't fit
 abbrev NeverStuckBy : PlainSetting → Evaluator → Type 0
-NeverStuckBy w E = (c : PlainCore) (scope : Place) (s : State) (n : ℕ) → WholeWorld w s.cells → HasScope s.cells scope → ReadyIn w s.cells (Some scope) c
+NeverStuckBy w E = (c : PlainCore) (scope : Place) (s : WorldState) (n : ℕ) → WholeWorld w s.cells → HasScope s.cells scope → ReadyIn w s.cells (Some scope) c
     → EndsWell w s.cells (E c scope s n)
 
 module _ (w : PlainSetting) (E : Evaluator) (ns : NeverStuckBy w E) (texts : TextsGive E) where
   -- Calls.
 
-  well_case : (parent : Place) (args : List Value) (s : State) (n : ℕ) (cs : PlainCases) → WholeWorld w s.cells → HasScope s.cells parent → CasesReadyIn w s.cells (Some parent) cs
+  well_case : (parent : Place) (args : List Value) (s : WorldState) (n : ℕ) (cs : PlainCases) → WholeWorld w s.cells → HasScope s.cells parent → CasesReadyIn w s.cells (Some parent) cs
       → ValuesReady w s.cells args → (x : Option (Formals × PlainCore)) → first_case cs (length args) ≡ x → EndsWell w s.cells (by_case w E parent args s n x)
   well_case parent args s n cs world has ready r None e = (grows_refl s.cells, world)
   well_case parent args s n cs world has ready r (Some x) e =
@@ -218,17 +218,17 @@ module _ (w : PlainSetting) (E : Evaluator) (ns : NeverStuckBy w E) (texts : Tex
       (besides_map ls F (FoundFrom w p.1 (Some parent)) (from_still w s.cells p.1 b.grows (Some parent)) l h))
       (λ l d h. scope_binds w p.1 p.0 (Some parent) l d (bound_from_still w s.cells p.1 b.grows (Some parent) l d h)) x.1 it.ready))
 
-  well_code : (parent : Place) (args : List Value) (s : State) (n : ℕ) → WholeWorld w s.cells → HasScope s.cells parent → ValuesReady w s.cells args
+  well_code : (parent : Place) (args : List Value) (s : WorldState) (n : ℕ) → WholeWorld w s.cells → HasScope s.cells parent → ValuesReady w s.cells args
       → (x : Option PlainCode) → CodeReady w s.cells parent x → EndsWell w s.cells (by_code w E parent args s n x)
   well_code parent args s n world has r None ready = absurd ready
   well_code parent args s n world has r (Some code) ready = well_case parent args s n code.cases world has ready r (first_case code.cases (length args)) refl
 
-  well_procedure : (number : CodeNo) (parent : Place) (args : List Value) (s : State) (n : ℕ) → WholeWorld w s.cells → ValueReady w s.cells (value.Closure number parent) → ValuesReady w s.cells args
+  well_procedure : (number : CodeNo) (parent : Place) (args : List Value) (s : WorldState) (n : ℕ) → WholeWorld w s.cells → ValueReady w s.cells (value.Closure number parent) → ValuesReady w s.cells args
       → EndsWell w s.cells (procedure_called w E number parent args s n)
   unfolding procedure_called
   well_procedure number parent args s n world f r = well_code parent args s n world f.fits r (code_at w.codes number) f.ready
 
-  well_text_value : (args : List Value) (v : Value) (s : State) (n : ℕ) → WholeWorld w s.cells → ValueReady w s.cells v → IsProcedure v → ValuesReady w s.cells args
+  well_text_value : (args : List Value) (v : Value) (s : WorldState) (n : ℕ) → WholeWorld w s.cells → ValueReady w s.cells v → IsProcedure v → ValuesReady w s.cells args
       → EndsWell w s.cells (text_value_called w E args v s n)
   well_text_value args (value.Closure number parent) s n world f is r = well_procedure number parent args s n world f r
   well_text_value args value.Unspecified s n world f is r = absurd is
@@ -247,7 +247,7 @@ module _ (w : PlainSetting) (E : Evaluator) (ns : NeverStuckBy w E) (texts : Tex
   well_given cells args (faulted f s n) h is r = h
   well_given cells args unfit h is r = h
 
-  well_text : (args : List Value) (s : State) (n : ℕ) → WholeWorld w s.cells → ValuesReady w s.cells args → (x : Option PlainCore) → TextReady w s.cells x → EndsWell w s.cells (by_text w E args s n x)
+  well_text : (args : List Value) (s : WorldState) (n : ℕ) → WholeWorld w s.cells → ValuesReady w s.cells args → (x : Option PlainCore) → TextReady w s.cells x → EndsWell w s.cells (by_text w E args s n x)
   well_text args s n world r None ready = absurd ready
   well_text args s n world r (Some body) ready =
       let c = cell.Scope [] None in
@@ -261,7 +261,7 @@ module _ (w : PlainSetting) (E : Evaluator) (ns : NeverStuckBy w E) (texts : Tex
       (scope_finds_all w s.cells [] None) (scope_binds w s.cells [] None) body ready.1))
       (texts body inner (store new s.names) n ready.0) (values_still w s.cells new (grows_added s.cells c) args r))
 
-  well_op : (op : Op) (args : List Value) (s : State) (n : ℕ) → WholeWorld w s.cells → ValuesReady w s.cells args → EndsWell w s.cells (op_called w E op args s n)
+  well_op : (op : Op) (args : List Value) (s : WorldState) (n : ℕ) → WholeWorld w s.cells → ValuesReady w s.cells args → EndsWell w s.cells (op_called w E op args s n)
   unfolding op_called
   well_op op args s n world r = by_test (has_text op.0) refl
     where
@@ -270,7 +270,7 @@ module _ (w : PlainSetting) (E : Evaluator) (ns : NeverStuckBy w E) (texts : Tex
       by_test true e = well_text args s n world r (text_body (code_at w.codes (text_number op.0))) (world.texts op.0 e)
       by_test false e = well_primitive w op.0 args s n world r
 
-  well_value : (f : Value) (args : List Value) (s : State) (n : ℕ) → WholeWorld w s.cells → ValuesReady w s.cells (f ∷ args) → EndsWell w s.cells (value_called w E f args s n)
+  well_value : (f : Value) (args : List Value) (s : WorldState) (n : ℕ) → WholeWorld w s.cells → ValuesReady w s.cells (f ∷ args) → EndsWell w s.cells (value_called w E f args s n)
   well_value (value.Closure number parent) args s n world r = well_procedure number parent args s n world r.0 r.1
   well_value (value.Prim op) args s n world r = well_op op args s n world r.1
   well_value value.Unspecified args s n world r = (grows_refl s.cells, world)
@@ -282,17 +282,17 @@ module _ (w : PlainSetting) (E : Evaluator) (ns : NeverStuckBy w E) (texts : Tex
   well_value (value.Syn t) args s n world r = (grows_refl s.cells, world)
   well_value (value.Transformer p) args s n world r = (grows_refl s.cells, world)
 
-  well_first : (s : State) → WholeWorld w s.cells → (f : Value) (args : List Value) (n : ℕ) → ValuesReady w s.cells (f ∷ args) → EndsWell w s.cells (first_called w E s (f ∷ args) n)
+  well_first : (s : WorldState) → WholeWorld w s.cells → (f : Value) (args : List Value) (n : ℕ) → ValuesReady w s.cells (f ∷ args) → EndsWell w s.cells (first_called w E s (f ∷ args) n)
   unfolding first_called
   well_first s world f args n r = well_value f args s n world r
 
-  pub well_applied : (f : Value) (args : List Value) (s : State) (n : ℕ) → WholeWorld w s.cells → ValuesReady w s.cells (f ∷ args) → EndsWell w s.cells (applied w E (f ∷ args) s n)
+  pub well_applied : (f : Value) (args : List Value) (s : WorldState) (n : ℕ) → WholeWorld w s.cells → ValuesReady w s.cells (f ∷ args) → EndsWell w s.cells (applied w E (f ∷ args) s n)
   unfolding applied
   well_applied f args s n world r = well_spread w s world (first_called w E s) (well_first s world) f args n r
 
   -- Parts in order.
 
-  well_operands : (cs : PlainCores) (scope : Place) (f : Value) (vs : List Value) (s : State) (n : ℕ) → WholeWorld w s.cells → HasScope s.cells scope → AllReadyIn w s.cells (Some scope) cs
+  well_operands : (cs : PlainCores) (scope : Place) (f : Value) (vs : List Value) (s : WorldState) (n : ℕ) → WholeWorld w s.cells → HasScope s.cells scope → AllReadyIn w s.cells (Some scope) cs
       → ValuesReady w s.cells (f ∷ vs) → EndsWell w s.cells (operands w E cs scope (f ∷ vs) s n)
   well_operands none scope f vs s n world has ready r = well_applied f vs s n world r
   well_operands (more c cs) scope f vs s n world has ready r =
@@ -300,7 +300,7 @@ module _ (w : PlainSetting) (E : Evaluator) (ns : NeverStuckBy w E) (texts : Tex
       (λ v t m g whole k. well_operands cs scope f (vs ++ v ∷ []) t m whole (variables_still s.cells t.cells g scope.0 has) (all_still w s.cells t.cells g (Some scope) cs ready.1)
       (each_and (ValueReady w t.cells) (f ∷ vs) v (values_still w s.cells t.cells g (f ∷ vs) r) k))
 
-  well_sequence : (c : PlainCore) (cs : PlainCores) (scope : Place) (s : State) (n : ℕ) → WholeWorld w s.cells → HasScope s.cells scope → ReadyIn w s.cells (Some scope) c
+  well_sequence : (c : PlainCore) (cs : PlainCores) (scope : Place) (s : WorldState) (n : ℕ) → WholeWorld w s.cells → HasScope s.cells scope → ReadyIn w s.cells (Some scope) c
       → AllReadyIn w s.cells (Some scope) cs → EndsWell w s.cells (in_sequence w E (more c cs) scope s n)
   well_sequence c none scope s n world has first ready = ns c scope s n world has first
   well_sequence c (more d cs) scope s n world has first ready =
@@ -309,15 +309,15 @@ module _ (w : PlainSetting) (E : Evaluator) (ns : NeverStuckBy w E) (texts : Tex
 
   -- `letrec`
 
-  well_in_turn : (is : PlainInits) (body : PlainCore) (scope : Place) (s : State) (n : ℕ) → WholeWorld w s.cells → HasScope s.cells scope → InitsReadyIn w s.cells (Some scope) is
+  well_in_turn : (is : PlainInits) (body : PlainCore) (scope : Place) (s : WorldState) (n : ℕ) → WholeWorld w s.cells → HasScope s.cells scope → InitsReadyIn w s.cells (Some scope) is
       → ReadyIn w s.cells (Some scope) body → EndsWell w s.cells (in_turn w E is body scope s n)
   well_in_turn no_init body scope s n world has ready last = ns body scope s n world has last
   well_in_turn (init l c is) body scope s n world has ready last =
       well_then w s.cells (E c scope s n) (λ v t. in_turn w E is body scope (store (assigned t.cells scope l v) t.names)) (ns c scope s n world has ready.0)
       (λ v t m g whole k. by_cells v t m g whole k (well_in_turn is body scope))
     where
-      by_cells : (v : Value) (t : State) (m : ℕ) → Grows s.cells t.cells → WholeWorld w t.cells → ValueReady w t.cells v
-          → ((u : State) (m : ℕ) → WholeWorld w u.cells → HasScope u.cells scope → InitsReadyIn w u.cells (Some scope) is → ReadyIn w u.cells (Some scope) body → EndsWell w u.cells (in_turn w E is body scope u m))
+      by_cells : (v : Value) (t : WorldState) (m : ℕ) → WorldGrowth s.cells t.cells → WholeWorld w t.cells → ValueReady w t.cells v
+          → ((u : WorldState) (m : ℕ) → WholeWorld w u.cells → HasScope u.cells scope → InitsReadyIn w u.cells (Some scope) is → ReadyIn w u.cells (Some scope) body → EndsWell w u.cells (in_turn w E is body scope u m))
           → EndsWell w t.cells (in_turn w E is body scope (store (assigned t.cells scope l v) t.names) m)
       by_cells v t m g whole k again =
           let cells = assigned t.cells scope l v in
@@ -326,7 +326,7 @@ module _ (w : PlainSetting) (E : Evaluator) (ns : NeverStuckBy w E) (texts : Tex
           (again (store cells t.names) m (world_assigned w t.cells scope l v whole k) (variables_still s.cells cells all scope.0 has)
           (inits_still w s.cells cells all (Some scope) is ready.1) (ready_still w s.cells cells all (Some scope) body last))
 
-  well_at_once : (is all : PlainInits) (body : PlainCore) (scope : Place) (vs : List Value) (s : State) (n : ℕ) → WholeWorld w s.cells → HasScope s.cells scope → InitsReadyIn w s.cells (Some scope) is
+  well_at_once : (is all : PlainInits) (body : PlainCore) (scope : Place) (vs : List Value) (s : WorldState) (n : ℕ) → WholeWorld w s.cells → HasScope s.cells scope → InitsReadyIn w s.cells (Some scope) is
       → ReadyIn w s.cells (Some scope) body → ValuesReady w s.cells vs → EndsWell w s.cells (at_once w E is all body scope vs s n)
   well_at_once no_init all body scope vs s n world has ready last r =
       let cells = all_assigned s.cells scope all vs in
@@ -338,12 +338,12 @@ module _ (w : PlainSetting) (E : Evaluator) (ns : NeverStuckBy w E) (texts : Tex
       (λ v t m g whole k. well_at_once is all body scope (vs ++ v ∷ []) t m whole (variables_still s.cells t.cells g scope.0 has) (inits_still w s.cells t.cells g (Some scope) is ready.1)
       (ready_still w s.cells t.cells g (Some scope) body last) (each_and (ValueReady w t.cells) vs v (values_still w s.cells t.cells g vs r) k))
 
-  well_by : (in_order : Bool) (is : PlainInits) (body : PlainCore) (scope : Place) (s : State) (n : ℕ) → WholeWorld w s.cells → HasScope s.cells scope → InitsReadyIn w s.cells (Some scope) is
+  well_by : (in_order : Bool) (is : PlainInits) (body : PlainCore) (scope : Place) (s : WorldState) (n : ℕ) → WholeWorld w s.cells → HasScope s.cells scope → InitsReadyIn w s.cells (Some scope) is
       → ReadyIn w s.cells (Some scope) body → EndsWell w s.cells (by_letrec w E in_order is body scope s n)
   well_by true is body scope s n world has ready last = well_in_turn is body scope s n world has ready last
   well_by false is body scope s n world has ready last = well_at_once is is body scope [] s n world has ready last tt
 
-  well_letrec : (in_order : Bool) (is : PlainInits) (body : PlainCore) (scope : Place) (s : State) (n : ℕ) → WholeWorld w s.cells → HasScope s.cells scope → ReadyIn w s.cells (Some scope) (letrec in_order is body)
+  well_letrec : (in_order : Bool) (is : PlainInits) (body : PlainCore) (scope : Place) (s : WorldState) (n : ℕ) → WholeWorld w s.cells → HasScope s.cells scope → ReadyIn w s.cells (Some scope) (letrec in_order is body)
       → EndsWell w s.cells (by_letrec w E in_order is body (next_place s) (with_cell (cell.Scope (unset is) (Some scope)) s) n)
   well_letrec in_order is body scope s n world has ready =
       let F = FoundFrom w s.cells (Some scope) in
@@ -362,7 +362,7 @@ module _ (w : PlainSetting) (E : Evaluator) (ns : NeverStuckBy w E) (texts : Tex
   -- `syntax-case`
 
   -- code that is ready round the cell of a match, with the variables of the pattern, is ready in it
-  in_match : (p : PlainPattern) (f : Found) (scope : Place) (cells : List Cell) (c : PlainCore) → MatchReady w cells p f
+  in_match : (p : PlainPattern) (f : PatternBinds) (scope : Place) (cells : List Cell) (c : PlainCore) → MatchReady w cells p f
       → Ready w (FoundFrom w cells (Some scope)) (BesidesPattern (depths 0 p) (BoundFrom cells (Some scope))) c
       → ReadyIn w (cells ++ cell.Binds f.binds (Some scope) ∷ []) (Some (record { 0 = length cells })) c
   in_match p f scope cells c it ready =
@@ -372,14 +372,14 @@ module _ (w : PlainSetting) (E : Evaluator) (ns : NeverStuckBy w E) (texts : Tex
       (pattern_finds w cells f.binds (Some scope)) (pattern_binds w cells f.binds (Some scope) (depths 0 p) it.bound) c ready
 
   -- in the cell of a match
-  well_inside : (p : PlainPattern) (f : Found) (scope : Place) (c : PlainCore) (s : State) (n : ℕ) → WholeWorld w s.cells → HasScope s.cells scope → MatchReady w s.cells p f
+  well_inside : (p : PlainPattern) (f : PatternBinds) (scope : Place) (c : PlainCore) (s : WorldState) (n : ℕ) → WholeWorld w s.cells → HasScope s.cells scope → MatchReady w s.cells p f
       → Ready w (FoundFrom w s.cells (Some scope)) (BesidesPattern (depths 0 p) (BoundFrom s.cells (Some scope))) c
       → EndsWell w (s.cells ++ cell.Binds f.binds (Some scope) ∷ []) (E c (next_place s) (with_cell (cell.Binds f.binds (Some scope)) s) n)
   well_inside p f scope c s n world has it ready =
       let b = cell.Binds f.binds (Some scope) in
       ns c (next_place s) (with_cell b s) n (binds_added w s.cells f.binds scope world it.ready has) (has_added s.cells b refl) (in_match p f scope s.cells c it ready)
 
-  well_tried : (cs : PlainClauses) (v : Value) (scope : Place) (s : State) (n : ℕ) → WholeWorld w s.cells → HasScope s.cells scope → ClausesReadyIn w s.cells (Some scope) cs → ValueReady w s.cells v
+  well_tried : (cs : PlainClauses) (v : Value) (scope : Place) (s : WorldState) (n : ℕ) → WholeWorld w s.cells → HasScope s.cells scope → ClausesReadyIn w s.cells (Some scope) cs → ValueReady w s.cells v
       → EndsWell w s.cells (tried w E cs v scope s n)
   unfolding tried
   well_tried no_clause v scope s n world has ready r = (grows_refl s.cells, world)
@@ -387,7 +387,7 @@ module _ (w : PlainSetting) (E : Evaluator) (ns : NeverStuckBy w E) (texts : Tex
       well_charged w 1 s n (λ m. on_match w E (tried w E cs v) (output_given w E output scope) scope s m (match_of w.frames s.cells p v)) world
       (λ m e. by_match m (match_of w.frames s.cells p v) refl (well_tried cs v scope s m world has ready.1 r))
     where
-      by_match : (m : ℕ) (o : Option Found) → match_of w.frames s.cells p v ≡ o → EndsWell w s.cells (tried w E cs v scope s m)
+      by_match : (m : ℕ) (o : Option PatternBinds) → match_of w.frames s.cells p v ≡ o → EndsWell w s.cells (tried w E cs v scope s m)
           → EndsWell w s.cells (on_match w E (tried w E cs v) (output_given w E output scope) scope s m o)
       by_match m None e next = next
       by_match m (Some f) e next =
@@ -399,8 +399,8 @@ module _ (w : PlainSetting) (E : Evaluator) (ns : NeverStuckBy w E) (texts : Tex
       well_charged w 1 s n (λ m. on_match w E (tried w E cs v) (fender_asked w E (tried w E cs v) fender output scope) scope s m (match_of w.frames s.cells p v)) world
       (λ m e. by_match m (match_of w.frames s.cells p v) refl (well_tried cs v))
     where
-      by_match : (m : ℕ) (o : Option Found) → match_of w.frames s.cells p v ≡ o
-          → ((place : Place) (t : State) (k : ℕ) → WholeWorld w t.cells → HasScope t.cells place → ClausesReadyIn w t.cells (Some place) cs → ValueReady w t.cells v → EndsWell w t.cells (tried w E cs v place t k))
+      by_match : (m : ℕ) (o : Option PatternBinds) → match_of w.frames s.cells p v ≡ o
+          → ((place : Place) (t : WorldState) (k : ℕ) → WholeWorld w t.cells → HasScope t.cells place → ClausesReadyIn w t.cells (Some place) cs → ValueReady w t.cells v → EndsWell w t.cells (tried w E cs v place t k))
           → EndsWell w s.cells (on_match w E (tried w E cs v) (fender_asked w E (tried w E cs v) fender output scope) scope s m o)
       by_match m None e next = next scope s m world has ready.1.1 r
       by_match m (Some f) e next =
@@ -421,7 +421,7 @@ module _ (w : PlainSetting) (E : Evaluator) (ns : NeverStuckBy w E) (texts : Tex
 
   -- Expressions.
 
-  well_expressed : (c : PlainCore) (scope : Place) (s : State) (n : ℕ) → WholeWorld w s.cells → HasScope s.cells scope → ReadyIn w s.cells (Some scope) c → EndsWell w s.cells (expressed w E c scope s n)
+  well_expressed : (c : PlainCore) (scope : Place) (s : WorldState) (n : ℕ) → WholeWorld w s.cells → HasScope s.cells scope → ReadyIn w s.cells (Some scope) c → EndsWell w s.cells (expressed w E c scope s n)
   well_expressed (quoted d) scope s n world has ready = well_quoted w d s n world
   well_expressed (variable l) scope s n world has ready = well_variable w l scope s n world ready
   well_expressed (primitive op) scope s n world has ready = (grows_refl s.cells, (world, record { fits = tt; ready = tt }))
@@ -467,7 +467,7 @@ module _ (w : PlainSetting) where
   unfolding eval_of
   texts_eval_of c scope s n h = texts_give w n c scope s n h
 
-  well_call : (f : Value) (args : List Value) (s : State) (n : ℕ) → WholeWorld w s.cells → ValuesReady w s.cells (f ∷ args) → EndsWell w s.cells (applied w (eval_of w) (f ∷ args) s n)
+  well_call : (f : Value) (args : List Value) (s : WorldState) (n : ℕ) → WholeWorld w s.cells → ValuesReady w s.cells (f ∷ args) → EndsWell w s.cells (applied w (eval_of w) (f ∷ args) s n)
   well_call f args s n world r = well_applied w (eval_of w) well_eval_of texts_eval_of f args s n world r
 
 pub whole_ending : (w : PlainSetting) (cells : List Cell) (o : Outcome) → EndsWell w cells o → WholeEnding w o

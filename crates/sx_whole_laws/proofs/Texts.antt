@@ -15,7 +15,7 @@ use Rattle.sx_value.specs.declared.cell.Cell.{Cell}
 use Rattle.sx_value.specs.declared.cell.Cell.TheVariants as cell
 use Rattle.sx_eval.specs.Meaning.{Evaluator, variable_read, variable_value, in_turn, at_once, by_letrec, evaluates}
 use Rattle.sx_eval.specs.Setting.{PlainSetting}
-use Rattle.sx_eval.specs.State.{State, Outcome, done, faulted, unfit, Go, then_do, store, next_place, with_cell}
+use Rattle.sx_eval.specs.State.{WorldState, Outcome, done, faulted, unfit, Go, then_do, store, next_place, with_cell}
 use Rattle.sx_eval.specs.Variables.{entry_in, here_or_up, found, unset, cell_with, assigned_in, assigned, all_assigned}
 use Rattle.sx_whole_laws.specs.WholeWorld.{GivesProcedure}
 use Rattle.sx_whole_laws.proofs.Worlds.{length_added}
@@ -31,40 +31,40 @@ GivesClosure (faulted f s n) = Unit {0}
 GivesClosure unfit = Unit {0}
 
 abbrev pub TextsGive : Evaluator → Type 0
-TextsGive E = (c : PlainCore) (scope : Place) (s : State) (n : ℕ) → GivesProcedure c → GivesClosure (E c scope s n)
+TextsGive E = (c : PlainCore) (scope : Place) (s : WorldState) (n : ℕ) → GivesProcedure c → GivesClosure (E c scope s n)
 
 -- Bodies of `letrec`.
 
-gives_then : (o : Outcome) (g : Go) → ((v : Value) (s : State) (n : ℕ) → GivesClosure (g v s n)) → GivesClosure (then_do o g)
+gives_then : (o : Outcome) (g : Go) → ((v : Value) (s : WorldState) (n : ℕ) → GivesClosure (g v s n)) → GivesClosure (then_do o g)
 gives_then (done v s n) g k = k v s n
 gives_then (faulted f s n) g k = tt
 gives_then unfit g k = tt
 
-module _ (w : PlainSetting) (E : Evaluator) (body : PlainCore) (gives : (scope : Place) (s : State) (n : ℕ) → GivesClosure (E body scope s n)) where
-  turn_gives : (is : PlainInits) (scope : Place) (s : State) (n : ℕ) → GivesClosure (in_turn w E is body scope s n)
+module _ (w : PlainSetting) (E : Evaluator) (body : PlainCore) (gives : (scope : Place) (s : WorldState) (n : ℕ) → GivesClosure (E body scope s n)) where
+  turn_gives : (is : PlainInits) (scope : Place) (s : WorldState) (n : ℕ) → GivesClosure (in_turn w E is body scope s n)
   turn_gives no_init scope s n = gives scope s n
   turn_gives (init l c is) scope s n =
       gives_then (E c scope s n) (λ v t. in_turn w E is body scope (store (assigned t.cells scope l v) t.names)) (λ v t m. turn_gives is scope (store (assigned t.cells scope l v) t.names) m)
 
-  once_gives : (is all : PlainInits) (scope : Place) (vs : List Value) (s : State) (n : ℕ) → GivesClosure (at_once w E is all body scope vs s n)
+  once_gives : (is all : PlainInits) (scope : Place) (vs : List Value) (s : WorldState) (n : ℕ) → GivesClosure (at_once w E is all body scope vs s n)
   once_gives no_init all scope vs s n = gives scope (store (all_assigned s.cells scope all vs) s.names) n
   once_gives (init l c is) all scope vs s n =
       gives_then (E c scope s n) (λ v. at_once w E is all body scope (vs ++ v ∷ [])) (λ v t m. once_gives is all scope (vs ++ v ∷ []) t m)
 
-  letrec_gives : (in_order : Bool) (is : PlainInits) (scope : Place) (s : State) (n : ℕ) → GivesClosure (by_letrec w E in_order is body scope s n)
+  letrec_gives : (in_order : Bool) (is : PlainInits) (scope : Place) (s : WorldState) (n : ℕ) → GivesClosure (by_letrec w E in_order is body scope s n)
   letrec_gives true is scope s n = turn_gives is scope s n
   letrec_gives false is scope s n = once_gives is is scope [] s n
 
 -- One procedure that the body names.
 
 -- a procedure, in the state that there was
-abbrev GivesHere : State → Outcome → Type 0
+abbrev GivesHere : WorldState → Outcome → Type 0
 GivesHere s (done v t n) = IsProcedure v × (s ≡ t)
 GivesHere s (faulted f t n) = Unit {0}
 GivesHere s unfit = Unit {0}
 
-here_then : (s : State) (o : Outcome) (g : Go) → GivesHere s o → ((v : Value) (n : ℕ) → IsProcedure v → GivesClosure (g v s n)) → GivesClosure (then_do o g)
-here_then s (done v t n) g h k = subst (λ (u : State). GivesClosure (g v u n)) h.1 (k v n h.0)
+here_then : (s : WorldState) (o : Outcome) (g : Go) → GivesHere s o → ((v : Value) (n : ℕ) → IsProcedure v → GivesClosure (g v s n)) → GivesClosure (then_do o g)
+here_then s (done v t n) g h k = subst (λ (u : WorldState). GivesClosure (g v u n)) h.1 (k v n h.0)
 here_then s (faulted f t n) g h k = tt
 here_then s unfit g h k = tt
 
@@ -92,26 +92,26 @@ only_one globals cells scope l m v n e =
     ∙ own_set l m v (found n globals new m (Some scope)) (same_label l l) ((label_decides l l).1 refl)
     ∙ own_read v (found n globals new m (Some scope)) (same_label m l) ((label_decides m l).1 (sym e))
 
-read_gives : (w : PlainSetting) (l : Label) (s : State) (n : ℕ) (o : Option (Option Value)) (v : Value) → IsProcedure v → o ≡ Some (Some v) → GivesClosure (variable_read w l s n o)
+read_gives : (w : PlainSetting) (l : Label) (s : WorldState) (n : ℕ) (o : Option (Option Value)) (v : Value) → IsProcedure v → o ≡ Some (Some v) → GivesClosure (variable_read w l s n o)
 read_gives w l s n None v h e = tt
 read_gives w l s n (Some None) v h e = tt
 read_gives w l s n (Some (Some x)) v h e =
     let is : x ≡ v = cc in
     subst (λ (y : Value). IsProcedure y) (sym is) h
 
-variable_gives : (w : PlainSetting) (m : Label) (inner : Place) (s : State) (n : ℕ) (v : Value) → IsProcedure v → found (suc (length s.cells)) w.globals s.cells m (Some inner) ≡ Some (Some v)
+variable_gives : (w : PlainSetting) (m : Label) (inner : Place) (s : WorldState) (n : ℕ) (v : Value) → IsProcedure v → found (suc (length s.cells)) w.globals s.cells m (Some inner) ≡ Some (Some v)
     → GivesClosure (variable_value w m inner s n)
 unfolding variable_value
 variable_gives w m inner s n v h e = read_gives w m s n (found (suc (length s.cells)) w.globals s.cells m (Some inner)) v h e
 
 module _ (w : PlainSetting) where
-  procedure_here : (depth : ℕ) (number : CodeNo) (cs : PlainCases) (plain : Bool) (scope : Place) (s : State) (n : ℕ) → GivesHere s (evaluates w depth (procedure number cs plain) scope s n)
+  procedure_here : (depth : ℕ) (number : CodeNo) (cs : PlainCases) (plain : Bool) (scope : Place) (s : WorldState) (n : ℕ) → GivesHere s (evaluates w depth (procedure number cs plain) scope s n)
   unfolding evaluates
   procedure_here zero number cs plain scope s n = tt
   procedure_here (suc depth) number cs plain scope s zero = tt
   procedure_here (suc depth) number cs plain scope s (suc n) = (tt, refl)
 
-  named_gives : (depth : ℕ) (m : Label) (inner : Place) (s : State) (n : ℕ) (v : Value) → IsProcedure v → found (suc (length s.cells)) w.globals s.cells m (Some inner) ≡ Some (Some v)
+  named_gives : (depth : ℕ) (m : Label) (inner : Place) (s : WorldState) (n : ℕ) (v : Value) → IsProcedure v → found (suc (length s.cells)) w.globals s.cells m (Some inner) ≡ Some (Some v)
       → GivesClosure (evaluates w depth (variable m) inner s n)
   unfolding evaluates
   named_gives zero m inner s n v h e = tt
@@ -119,7 +119,7 @@ module _ (w : PlainSetting) where
   named_gives (suc depth) m inner s (suc n) v h e = variable_gives w m inner s n v h e
 
   -- the one variable of a `letrec`, whose value is a procedure
-  bound_gives : (depth : ℕ) (in_order : Bool) (l m : Label) (number : CodeNo) (cs : PlainCases) (plain : Bool) (scope : Place) (s : State) (n : ℕ) → l ≡ m
+  bound_gives : (depth : ℕ) (in_order : Bool) (l m : Label) (number : CodeNo) (cs : PlainCases) (plain : Bool) (scope : Place) (s : WorldState) (n : ℕ) → l ≡ m
       → GivesClosure (by_letrec w (evaluates w depth) in_order (init l (procedure number cs plain) no_init) (variable m) (next_place s) (with_cell (cell.Scope ((l, None) ∷ []) (Some scope)) s) n)
   bound_gives depth true l m number cs plain scope s n e =
       let new = with_cell (cell.Scope ((l, None) ∷ []) (Some scope)) s in

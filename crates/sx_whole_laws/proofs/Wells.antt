@@ -8,8 +8,8 @@ use Rattle.sx_value.specs.ToSyntax.{fuel_spent}
 use Rattle.sx_value.specs.declared.value.Value.{Value}
 use Rattle.sx_value.specs.declared.cell.Cell.{Cell}
 use Rattle.sx_eval.specs.Setting.{PlainSetting}
-use Rattle.sx_eval.specs.State.{State, Outcome, done, faulted, unfit, Go, then_do, charged}
-use Rattle.sx_whole_laws.specs.Grows.{Grows}
+use Rattle.sx_eval.specs.State.{WorldState, Outcome, done, faulted, unfit, Go, then_do, charged}
+use Rattle.sx_whole_laws.specs.Grows.{WorldGrowth}
 use Rattle.sx_whole_laws.specs.PartsReady.{EndsWell}
 use Rattle.sx_whole_laws.specs.WholeWorld.{ValueReady, WholeWorld}
 use Rattle.sx_whole_laws.proofs.Growth.{grows_refl, grows_then}
@@ -17,14 +17,14 @@ use Rattle.sx_whole_laws.proofs.Growth.{grows_refl, grows_then}
 abbrev pub HasScope : List Cell → Place → Type 0
 HasScope cells scope = IsTrue (has_variables (slice_get cells scope.0))
 
-pub well_later : (w : PlainSetting) (x y : List Cell) (o : Outcome) → Grows x y → EndsWell w y o → EndsWell w x o
+pub well_later : (w : PlainSetting) (x y : List Cell) (o : Outcome) → WorldGrowth x y → EndsWell w y o → EndsWell w x o
 well_later w x y (done v s n) k h = (grows_then x y s.cells k h.0, h.1)
 well_later w x y (faulted f s n) k h = (grows_then x y s.cells k h.0, h.1)
 well_later w x y unfit k h = h
 
 -- what comes of a value ends well, where the world then is whole and the value ready
 abbrev pub WellAfter : PlainSetting → List Cell → Go → Type 0
-WellAfter w cells g = (v : Value) (s : State) (n : ℕ) → Grows cells s.cells → WholeWorld w s.cells → ValueReady w s.cells v → EndsWell w s.cells (g v s n)
+WellAfter w cells g = (v : Value) (s : WorldState) (n : ℕ) → WorldGrowth cells s.cells → WholeWorld w s.cells → ValueReady w s.cells v → EndsWell w s.cells (g v s n)
 
 pub well_then : (w : PlainSetting) (cells : List Cell) (o : Outcome) (g : Go) → EndsWell w cells o → WellAfter w cells g → EndsWell w cells (then_do o g)
 well_then w cells (done v s n) g h k = well_later w cells s.cells (g v s n) h.0 (k v s n h.0 h.1.0 h.1.1)
@@ -38,7 +38,7 @@ well_if w cells false o p h k = k
 left_of : (n cost : ℕ) → nat_lt n cost ≡ false → (n - cost) + cost ≡ n
 left_of n cost h = grind (arith, nat_tests)
 
-pub well_charged : (w : PlainSetting) (cost : ℕ) (s : State) (n : ℕ) (g : ℕ → Outcome) → WholeWorld w s.cells → ((m : ℕ) → m + cost ≡ n → EndsWell w s.cells (g m))
+pub well_charged : (w : PlainSetting) (cost : ℕ) (s : WorldState) (n : ℕ) (g : ℕ → Outcome) → WholeWorld w s.cells → ((m : ℕ) → m + cost ≡ n → EndsWell w s.cells (g m))
     → EndsWell w s.cells (charged cost s n g)
 well_charged w cost s n g world k = by_test (nat_lt n cost) refl
   where

@@ -30,7 +30,7 @@ use Rattle.sx_eval.specs.Setting.{PlainSetting}
 use Rattle.sx_eval.specs.Variables.{Entries, entry_in, bind_in, parent_in, upwards, here_or_up, found, bind_found, unset, set_entry, cell_with, assigned_in, assigned, all_assigned}
 use Rattle.sx_whole_laws.specs.Ready.{HasDepth, is_one_of, Besides, OrThisDepth, BesidesPattern, BoundTo, FoundFrom, BoundFrom, Ready, CasesReady}
 use Rattle.sx_whole_laws.specs.WholeWorld.{ValueReady, ValuesReady, OptionReady, BindReady, BindsReady, CellReady, WholeWorld}
-use Rattle.sx_whole_laws.specs.Grows.{Same, Grows}
+use Rattle.sx_whole_laws.specs.Grows.{Same, WorldGrowth}
 use Rattle.sx_whole_laws.specs.PartsReady.{Bound}
 use Rattle.sx_whole_laws.proofs.Growth.{grows_refl, grows_then, grows_kept, grows_set, grows_assigned, same_with, found_still, bound_still}
 use Rattle.sx_whole_laws.proofs.Steady.{value_still, values_still, cell_still, globals_still, text_still, cell_lies_still}
@@ -43,7 +43,7 @@ added_or [] c d (suc n) e = absurd (cc)
 added_or (b ∷ bs) c d zero e = inl e
 added_or (b ∷ bs) c d (suc n) e = added_or bs c d n e
 
-pub grows_added : (cells : List Cell) (c : Cell) → Grows cells (cells ++ c ∷ [])
+pub grows_added : (cells : List Cell) (c : Cell) → WorldGrowth cells (cells ++ c ∷ [])
 grows_added cells c = grows_kept cells (cells ++ c ∷ []) (take-added cells (c ∷ []))
 
 pub length_added : (cells : List Cell) (c : Cell) → length (cells ++ c ∷ []) ≡ suc (length cells)
@@ -138,7 +138,7 @@ world_assigned w cells place l v world r = by_cell (slice_get cells place.0) ref
         world_set w cells place.0 c (cell_with l v c) world e (same_with l v c)
         (lies_with cells place.0 l v c r.fits (world.whole.lies place.0 c e)) (ready_with w cells l v c r (world.values place.0 c e))
 
-pub grows_all_assigned : (cells : List Cell) (place : Place) (is : PlainInits) (vs : List Value) → Grows cells (all_assigned cells place is vs)
+pub grows_all_assigned : (cells : List Cell) (place : Place) (is : PlainInits) (vs : List Value) → WorldGrowth cells (all_assigned cells place is vs)
 grows_all_assigned cells place no_init vs = grows_refl cells
 grows_all_assigned cells place (init l c is) [] = grows_refl cells
 grows_all_assigned cells place (init l c is) (v ∷ vs) =
@@ -198,7 +198,7 @@ has_added cells c h = added_found has_variables cells c h
 -- Lists.
 
 pub record Stored (w : PlainSetting) (old : List Cell) (p : Value × List Cell) : Type 0 where
-  pub grows : Grows old p.1
+  pub grows : WorldGrowth old p.1
   pub world : WholeWorld w p.1
   pub ready : ValueReady w p.1 p.0
 
@@ -229,7 +229,7 @@ bound_ready w cells (l ∷ ls) (v ∷ vs) r = (r.0, bound_ready w cells ls vs r.
 
 -- the variables of a call with the cells then
 pub record Bindings (w : PlainSetting) (old : List Cell) (p : Entries × List Cell) : Type 0 where
-  pub grows : Grows old p.1
+  pub grows : WorldGrowth old p.1
   pub world : WholeWorld w p.1
   pub ready : Each (λ (e : Label × Option Value). OptionReady w p.1 e.1) p.0
 

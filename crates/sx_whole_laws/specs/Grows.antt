@@ -30,6 +30,6 @@ pub record StillAt (new : List Cell) (n : ℕ) (c : Cell) : Type 0 where
   pub there : slice_get new n ≡ Some cell
   pub same : Same c cell
 
-pub record Grows (old new : List Cell) : Type 0 where
+pub record WorldGrowth (old new : List Cell) : Type 0 where
   pub longer : length old ≤ length new
   pub still : (n : ℕ) (c : Cell) → slice_get old n ≡ Some c → StillAt new n c

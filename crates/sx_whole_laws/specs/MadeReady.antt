@@ -4,7 +4,7 @@ use Rattle.std.specs.List.{flat_map}
 use Rattle.sx_base.specs.declared.name.CodeNo.{CodeNo}
 use Rattle.sx_base.specs.declared.name.Label.{Label}
 use Rattle.sx_core.specs.Core.{PlainCore}
-use Rattle.sx_core.specs.declared.record.LibRecord.{LibRecord}
+use Rattle.sx_core.specs.declared.record.CompiledLibrary.{CompiledLibrary}
 use Rattle.sx_core_laws.specs.Words.{Each, Once}
 use Rattle.sx_core_laws.specs.Parts.{code_numbers}
 use Rattle.sx_core_laws.specs.Scope.{Closed}
@@ -34,6 +34,6 @@ WellMadeNeverStuck = (w : World) (ls : List Label) (c : PlainCore) (n : ℕ) →
 -- A record as expansion gives it: its lines are closed under such variables and its own, each is well made, and no two of its
 -- codes have one number.
 abbrev pub RecordsNeverStuck : Type 0
-RecordsNeverStuck = (w : World) (ls : List Label) (r : LibRecord) (n : ℕ) → IsWhole w → AreGlobals w ls → LinesClosed (ls ++ defined r) r → Each (IsWellMade []) (line_cores r)
+RecordsNeverStuck = (w : World) (ls : List Label) (r : CompiledLibrary) (n : ℕ) → IsWhole w → AreGlobals w ls → LinesClosed (ls ++ defined r) r → Each (IsWellMade []) (line_cores r)
     → Once (flat_map code_numbers (line_cores r)) → AreNew (codes_of w) (flat_map code_numbers (line_cores r))
     → LibraryEnding (setting_for_lines w r.run) (defined r) (length w.store.cells.list) (library_evaluated w r.run n)

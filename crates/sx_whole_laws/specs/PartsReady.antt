@@ -6,17 +6,17 @@ use Rattle.sx_core_laws.specs.Templates.{Depths, depths}
 use Rattle.sx_value.specs.Bind.{PlainBind}
 use Rattle.sx_value.specs.Cells.{Each}
 use Rattle.sx_value.specs.declared.cell.Cell.{Cell}
-use Rattle.sx_pattern.specs.declared.columns.Found.{Found}
+use Rattle.sx_pattern.specs.declared.columns.PatternBinds.{PatternBinds}
 use Rattle.sx_eval.specs.Setting.{PlainSetting}
 use Rattle.sx_eval.specs.State.{Outcome, done, faulted, unfit}
-use Rattle.sx_whole_laws.specs.Grows.{Grows}
+use Rattle.sx_whole_laws.specs.Grows.{WorldGrowth}
 use Rattle.sx_whole_laws.specs.Ready.{HasDepth}
 use Rattle.sx_whole_laws.specs.WholeWorld.{ValueReady, BindReady, WholeWorld}
 
 -- a value or a fault in a world that is whole still
 abbrev pub EndsWell : PlainSetting → List Cell → Outcome → Type 0
-EndsWell w cells (done v s n) = Grows cells s.cells × (WholeWorld w s.cells × ValueReady w s.cells v)
-EndsWell w cells (faulted f s n) = Grows cells s.cells × WholeWorld w s.cells
+EndsWell w cells (done v s n) = WorldGrowth cells s.cells × (WholeWorld w s.cells × ValueReady w s.cells v)
+EndsWell w cells (faulted f s n) = WorldGrowth cells s.cells × WholeWorld w s.cells
 EndsWell w cells unfit = ⊥
 
 -- the binds of a pattern: its variables, each with a bind of its depth
@@ -26,6 +26,6 @@ Bound [] (b ∷ bs) = ⊥
 Bound (d ∷ ds) [] = ⊥
 Bound (d ∷ ds) (b ∷ bs) = (d.0 ≡ b.0) × (HasDepth d.1 b.1 × Bound ds bs)
 
-pub record MatchReady (w : PlainSetting) (cells : List Cell) (p : PlainPattern) (f : Found) : Type 0 where
+pub record MatchReady (w : PlainSetting) (cells : List Cell) (p : PlainPattern) (f : PatternBinds) : Type 0 where
   pub bound : Bound (depths 0 p) f.binds
   pub ready : Each (λ (b : Label × PlainBind). BindReady w cells b.1) f.binds

@@ -1,10 +1,10 @@
--- Whole worlds, in which no evaluation meets cells that don't fit.
+-- WholeCells worlds, in which no evaluation meets cells that don't fit.
 use Rattle.std.specs.Prelude.{◌≡◌, ℕ, true, List, ◌∷◌, Option, None, Some, slice_get, IsTrue}
 use Rattle.sx_base.specs.declared.name.Label.{Label}
 use Rattle.sx_region.specs.declared.region.Place.{Place}
 use Rattle.sx_core.specs.Core.{PlainCore, PlainCode, procedure, letrec, variable, no_init, init}
 use Rattle.sx_value.specs.Bind.{PlainBind, one, many, PlainBinds, none, more}
-use Rattle.sx_value.specs.Cells.{Whole, FitsIn, Each, has_variables}
+use Rattle.sx_value.specs.Cells.{WholeCells, FitsIn, Each, has_variables}
 use Rattle.sx_value.specs.declared.value.Value.{Value}
 use Rattle.sx_value.specs.declared.value.Value.TheVariants as value
 use Rattle.sx_value.specs.declared.cell.Cell.{Cell}
@@ -13,7 +13,7 @@ use Rattle.sx_eval.specs.Codes.{code_at}
 use Rattle.sx_eval.specs.Meaning.{eval_of, applied}
 use Rattle.sx_eval.specs.Procedures.{has_text, text_number, text_body}
 use Rattle.sx_eval.specs.Setting.{PlainSetting}
-use Rattle.sx_eval.specs.State.{State, Outcome, done, faulted, unfit}
+use Rattle.sx_eval.specs.State.{WorldState, Outcome, done, faulted, unfit}
 use Rattle.sx_whole_laws.specs.Ready.{ReadyIn, CasesReadyIn}
 
 -- the body of a text gives a procedure: it is one, or names one that it binds
@@ -69,7 +69,7 @@ module _ (w : PlainSetting) (cells : List Cell) where
 
 -- A world is whole where its cells are, its values are ready, and so are the texts of the ops that have one.
 pub record WholeWorld (w : PlainSetting) (cells : List Cell) : Type 0 where
-  pub whole : Whole cells
+  pub whole : WholeCells cells
   pub values : (n : ℕ) (c : Cell) → slice_get cells n ≡ Some c → CellReady w cells c
   pub globals : Each (λ (e : Label × Value). ValueReady w cells e.1) w.globals
   pub texts : (op : ℕ) → has_text op ≡ true → TextReady w cells (text_body (code_at w.codes (text_number op)))
@@ -82,10 +82,10 @@ WholeEnding w unfit = ⊥
 
 -- In a whole world code that is ready comes to a value or a fault, and leaves the world whole.
 abbrev pub NeverStuck : Type 0
-NeverStuck = (w : PlainSetting) (c : PlainCore) (scope : Place) (s : State) (n : ℕ) → WholeWorld w s.cells
+NeverStuck = (w : PlainSetting) (c : PlainCore) (scope : Place) (s : WorldState) (n : ℕ) → WholeWorld w s.cells
     → IsTrue (has_variables (slice_get s.cells scope.0)) → ReadyIn w s.cells (Some scope) c
     → WholeEnding w (eval_of w c scope s n)
 
 abbrev pub AppliedNeverStuck : Type 0
-AppliedNeverStuck = (w : PlainSetting) (v : Value) (vs : List Value) (s : State) (n : ℕ) → WholeWorld w s.cells → ValuesReady w s.cells (v ∷ vs)
+AppliedNeverStuck = (w : PlainSetting) (v : Value) (vs : List Value) (s : WorldState) (n : ℕ) → WholeWorld w s.cells → ValuesReady w s.cells (v ∷ vs)
     → WholeEnding w (applied w (eval_of w) (v ∷ vs) s n)

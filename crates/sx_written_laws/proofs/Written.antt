@@ -13,12 +13,12 @@ use Rattle.sx_core_grammar.specs.Lines as lines
 use Rattle.sx_core_grammar.specs.Lines.{SpellsLine}
 use Rattle.sx_core_grammar.specs.Names.{IsCalled, IsGenerated, AreGenerated}
 use Rattle.sx_core_grammar.specs.Spells as s
-use Rattle.sx_core_grammar.specs.Spells.{Spells, SpellsAll, SpellsInits, SpellsCases}
+use Rattle.sx_core_grammar.specs.Spells.{SpellsCode, SpellsAllCode, SpellsInits, SpellsCases}
 use Rattle.sx_core_laws.specs.Words as words
-use Rattle.sx_core_text.specs.CoreText.{Names, name_of}
-use Rattle.sx_reference_laws.specs.Noted.{Told, mentioned}
+use Rattle.sx_core_text.specs.CoreText.{VariableNames, name_of}
+use Rattle.sx_reference_laws.specs.Noted.{NotedLine, mentioned}
 use Rattle.sx_reference_laws.specs.Records.{line_mentions, IsRightLine}
-use Rattle.sx_reference_laws.specs.Whole.{IsRight}
+use Rattle.sx_reference_laws.specs.Whole.{IsRightReference}
 use Rattle.sx_standing.specs.State.{State}
 use Rattle.sx_value.specs.Cells.{Each}
 use Rattle.sx_written_laws.specs.Written.{written, all_written, inits_written, cases_written, line_written, MentionsAreWritten, WrittenAreGenerated, ReferencesAreWritten}
@@ -27,7 +27,7 @@ map-append : {A B : Type 0} (f : A → B) (xs ys : List A) → map f (xs ++ ys) 
 map-append f [] ys = refl
 map-append f (x ∷ xs) ys = ap (λ zs. f x ∷ zs) (map-append f xs ys)
 
-module _ (names : Names) where
+module _ (names : VariableNames) where
   abbrev named : List Label → List (List ℕ)
   named ls = map (name_of names) ls
 
@@ -39,7 +39,7 @@ module _ (names : Names) where
   joined xs ys ls ms h k = (λ i. h i ++ k i) ∙ sym (map-append (name_of names) ls ms)
 
   mutual
-    is-written : {c : PlainCore} {d : PlainDatum} (p : Spells names c d) → written p ≡ named (mentions c)
+    is-written : {c : PlainCore} {d : PlainDatum} (p : SpellsCode names c d) → written p ≡ named (mentions c)
     is-written (s.constant d h) = refl
     is-written (s.quotation d h) = refl
     is-written (s.reference {l} {x} h) = ap (λ y. y ∷ []) (called l x h)
@@ -54,7 +54,7 @@ module _ (names : Names) where
     is-written (s.letrec {is} {c} ordered ps p) = joined (inits_written ps) (written p) (init_mentions is) (mentions c) (inits-are-written ps) (is-written p)
     is-written (s.application {c} {cs} p ps) = joined (written p) (all_written ps) (mentions c) (all_mentions cs) (is-written p) (all-are-written ps)
 
-    all-are-written : {cs : PlainCores} {e : PlainDatum} (ps : SpellsAll names cs e) → all_written ps ≡ named (all_mentions cs)
+    all-are-written : {cs : PlainCores} {e : PlainDatum} (ps : SpellsAllCode names cs e) → all_written ps ≡ named (all_mentions cs)
     all-are-written s.no_more = refl
     all-are-written (s.more {c} {cs} p ps) = joined (written p) (all_written ps) (mentions c) (all_mentions cs) (is-written p) (all-are-written ps)
 
@@ -78,7 +78,7 @@ module _ (names : Names) where
 
   module _ (good : AreGenerated names) (of : (l : Label) (x : List ℕ) → IsCalled names l x → IsGenerated x) where
     mutual
-      generated : {c : PlainCore} {d : PlainDatum} (p : Spells names c d) → words.Each IsGenerated (written p)
+      generated : {c : PlainCore} {d : PlainDatum} (p : SpellsCode names c d) → words.Each IsGenerated (written p)
       generated (s.constant d h) = tt
       generated (s.quotation d h) = tt
       generated (s.reference {l} {x} h) = (of l x h, tt)
@@ -92,7 +92,7 @@ module _ (names : Names) where
       generated (s.letrec ordered ps p) = both-each IsGenerated (inits_written ps) (written p) (inits-generated ps) (generated p)
       generated (s.application p ps) = both-each IsGenerated (written p) (all_written ps) (generated p) (all-generated ps)
 
-      all-generated : {cs : PlainCores} {e : PlainDatum} (ps : SpellsAll names cs e) → words.Each IsGenerated (all_written ps)
+      all-generated : {cs : PlainCores} {e : PlainDatum} (ps : SpellsAllCode names cs e) → words.Each IsGenerated (all_written ps)
       all-generated s.no_more = tt
       all-generated (s.more p ps) = both-each IsGenerated (written p) (all_written ps) (generated p) (all-generated ps)
 
@@ -119,8 +119,8 @@ looked-up P same (r ∷ rows) x h e = by (same r.0) (λ k. looked-up P same rows
 pub written-generated : WrittenAreGenerated
 written-generated names c d p good = generated names good (λ l x h. looked-up IsGenerated (same_label l) names x good h) p
 
-told-written : (names : Names) (libs : List LibName) (own : LibName) (u : State) (xs : List Told) → Each (IsRightLine libs own u) xs
-    → Each (λ x. ((d : PlainDatum) (p : SpellsLine names x.line d) → line_written p ≡ map (name_of names) (mentioned x.noted.references)) × Each (IsRight libs own u) x.noted.references) xs
+told-written : (names : VariableNames) (libs : List LibName) (own : LibName) (u : State) (xs : List NotedLine) → Each (IsRightLine libs own u) xs
+    → Each (λ x. ((d : PlainDatum) (p : SpellsLine names x.line d) → line_written p ≡ map (name_of names) (mentioned x.noted.references)) × Each (IsRightReference libs own u) x.noted.references) xs
 told-written names libs own u [] h = tt
 told-written names libs own u (x ∷ xs) h = (((λ d p. line-is-written names p ∙ ap (map (name_of names)) h.0.mentions), h.0.right), told-written names libs own u xs h.1)
 

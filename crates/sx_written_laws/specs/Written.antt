@@ -5,25 +5,25 @@ use Rattle.sx_base.specs.declared.library.LibName.{LibName}
 use Rattle.sx_tree.specs.Tree.{Tree}
 use Rattle.sx_core.specs.Core.{PlainCore, PlainCores, PlainInits, PlainCases}
 use Rattle.sx_core.specs.References.{mentions}
-use Rattle.sx_core.specs.declared.record.LibRecord.{LibRecord}
+use Rattle.sx_core.specs.declared.record.CompiledLibrary.{CompiledLibrary}
 use Rattle.sx_core.specs.declared.record.Line.{Line}
 use Rattle.sx_core_grammar.specs.Lines as lines
 use Rattle.sx_core_grammar.specs.Lines.{SpellsLine}
 use Rattle.sx_core_grammar.specs.Names.{IsGenerated, AreGenerated}
 use Rattle.sx_core_grammar.specs.Spells as s
-use Rattle.sx_core_grammar.specs.Spells.{Spells, SpellsAll, SpellsInits, SpellsCases}
+use Rattle.sx_core_grammar.specs.Spells.{SpellsCode, SpellsAllCode, SpellsInits, SpellsCases}
 use Rattle.sx_core_laws.specs.Words as words
-use Rattle.sx_core_text.specs.CoreText.{Names, name_of}
+use Rattle.sx_core_text.specs.CoreText.{VariableNames, name_of}
 use Rattle.sx_expand.specs.declared.top.TopAt.{TopAt}
 use Rattle.sx_reference_laws.specs.Noted.{mentioned}
 use Rattle.sx_reference_laws.specs.Records.{RunIsRight}
-use Rattle.sx_reference_laws.specs.Whole.{IsRight}
+use Rattle.sx_reference_laws.specs.Whole.{IsRightReference}
 use Rattle.sx_standing.specs.State.{State}
 use Rattle.sx_value.specs.Cells.{Each}
 
-module _ {names : Names} where
+module _ {names : VariableNames} where
   abbrev mutual
-    pub written : {c : PlainCore} {d : PlainDatum} → Spells names c d → List (List ℕ)
+    pub written : {c : PlainCore} {d : PlainDatum} → SpellsCode names c d → List (List ℕ)
     written (s.constant d h) = []
     written (s.quotation d h) = []
     written (s.reference {l} {x} h) = x ∷ []
@@ -37,7 +37,7 @@ module _ {names : Names} where
     written (s.letrec ordered ps p) = inits_written ps ++ written p
     written (s.application p ps) = written p ++ all_written ps
 
-    pub all_written : {cs : PlainCores} {e : PlainDatum} → SpellsAll names cs e → List (List ℕ)
+    pub all_written : {cs : PlainCores} {e : PlainDatum} → SpellsAllCode names cs e → List (List ℕ)
     all_written s.no_more = []
     all_written (s.more p ps) = written p ++ all_written ps
 
@@ -55,14 +55,14 @@ module _ {names : Names} where
 
 -- They are the names of the labels that the code mentions, and generated ones.
 abbrev pub MentionsAreWritten : Type 0
-MentionsAreWritten = (names : Names) (c : PlainCore) (d : PlainDatum) (p : Spells names c d) → written p ≡ map (name_of names) (mentions c)
+MentionsAreWritten = (names : VariableNames) (c : PlainCore) (d : PlainDatum) (p : SpellsCode names c d) → written p ≡ map (name_of names) (mentions c)
 
 abbrev pub WrittenAreGenerated : Type 0
-WrittenAreGenerated = (names : Names) (c : PlainCore) (d : PlainDatum) (p : Spells names c d) → AreGenerated names → words.Each IsGenerated (written p)
+WrittenAreGenerated = (names : VariableNames) (c : PlainCore) (d : PlainDatum) (p : SpellsCode names c d) → AreGenerated names → words.Each IsGenerated (written p)
 
 -- In each line of a record that is hygienic, whatever names it is written with, they are the names of the labels that the identifiers stood for which became
 -- these references, one for each and in their order.
 abbrev pub ReferencesAreWritten : Type 0
-ReferencesAreWritten = (names : Names) (libs : List LibName) (own : LibName) (records : List LibRecord) (start : State) (at : TopAt) (exports : List (List ℕ × Tree)) (forms : List Tree) (r : LibRecord)
+ReferencesAreWritten = (names : VariableNames) (libs : List LibName) (own : LibName) (records : List CompiledLibrary) (start : State) (at : TopAt) (exports : List (List ℕ × Tree)) (forms : List Tree) (r : CompiledLibrary)
     → (h : RunIsRight libs own records start at exports forms r)
-    → Each (λ x. ((d : PlainDatum) (p : SpellsLine names x.line d) → line_written p ≡ map (name_of names) (mentioned x.noted.references)) × Each (IsRight libs own h.last) x.noted.references) h.told
+    → Each (λ x. ((d : PlainDatum) (p : SpellsLine names x.line d) → line_written p ≡ map (name_of names) (mentioned x.noted.references)) × Each (IsRightReference libs own h.last) x.noted.references) h.told

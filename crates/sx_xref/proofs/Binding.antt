@@ -13,7 +13,7 @@ use Rattle.sx_core.specs.declared.link.LinkKind.{LinkKind}
 use Rattle.sx_core.specs.declared.link.LinkKind.TheVariants as kinds
 use Rattle.sx_import.proofs.TableLemmas.{or_else}
 use Rattle.sx_xref.specs.Binders.{Binders, bound_at, with_place, with_binder, with_binders, place_or_nowhere, aim_by, row_by}
-use Rattle.sx_xref.specs.Links.{is_binder, binds, binder, place_of, leads_to}
+use Rattle.sx_xref.specs.Links.{is_binder, binds, binder, target_of, leads_to}
 use Rattle.sx_xref.specs.Map.{row_among, rows_among}
 use Rattle.sx_xref.specs.Rows.{Files, at_of, aim_of}
 use Rattle.sx_xref.specs.declared.rows.At.{At}
@@ -90,7 +90,7 @@ all_binders files (k ∷ ks) bs l =
 
 -- ---- the rows of links
 
-found_aim : (files : Files) (o : Option Link) → place_or_nowhere (found_at files o) ≡ aim_of files (place_of o)
+found_aim : (files : Files) (o : Option Link) → place_or_nowhere (found_at files o) ≡ aim_of files (target_of o)
 found_aim files None = refl
 found_aim files (Some k) = refl
 

@@ -8,12 +8,12 @@ use Rattle.sx_import.proofs.TableLemmas.{or_else, value-append}
 use Rattle.sx_import.specs.Table.{same_text, value_of, put_first}
 use Rattle.sx_load.specs.declared.found.Source.{Source}
 use Rattle.sx_xref.specs.Text.{held_at, or_held, or_none, place_in, lines_at}
-use Rattle.sx_xref.specs.declared.marks.Lines.{Lines}
+use Rattle.sx_xref.specs.declared.marks.MarkedSource.{MarkedSource}
 
 abbrev pub Rows : Type 0
-Rows = List (List ℕ × Lines)
+Rows = List (List ℕ × MarkedSource)
 
-abbrev pub bytes_of : Lines → List ℕ
+abbrev pub bytes_of : MarkedSource → List ℕ
 bytes_of l = l.source.now
 
 or_nothing : (o : Option (List ℕ)) → or_held o None ≡ o
@@ -25,11 +25,11 @@ or_assoc None b c = refl
 or_assoc (Some bytes) b c = refl
 
 -- the bytes of a file that is found, or else of a later one
-or_bytes : (a b : Option Lines) → option_map bytes_of (or_else a b) ≡ or_held (option_map bytes_of a) (option_map bytes_of b)
+or_bytes : (a b : Option MarkedSource) → option_map bytes_of (or_else a b) ≡ or_held (option_map bytes_of a) (option_map bytes_of b)
 or_bytes None b = refl
 or_bytes (Some l) b = refl
 
-kept_some : (o : Option Lines) (later : Option (List ℕ)) → is_some o ≡ true → option_map bytes_of o ≡ or_held (option_map bytes_of o) later
+kept_some : (o : Option MarkedSource) (later : Option (List ℕ)) → is_some o ≡ true → option_map bytes_of o ≡ or_held (option_map bytes_of o) later
 kept_some None later h = absurd (true≢false (sym h))
 kept_some (Some l) later h = refl
 
@@ -45,7 +45,7 @@ same_turned a b = by (same_text a b) (same_text b a) refl refl
     by true false h k = absurd (true≢false (sym ((texts_decides b a).1 (sym (text_is a b h))) ∙ k))
     by false true h k = absurd (true≢false (sym ((texts_decides a b).1 (sym (text_is b a k))) ∙ h))
 
-module _ (rows : Rows) (source : Source) (lines : Lines) (path : List ℕ) where
+module _ (rows : Rows) (source : Source) (lines : MarkedSource) (path : List ℕ) where
   -- the source's path is that of a file already
   there : is_some (value_of source.path rows) ≡ true → lines_at rows path ≡ or_held (lines_at rows path) (held_at path source)
   there h = by (same_text source.path path) refl
@@ -55,9 +55,9 @@ module _ (rows : Rows) (source : Source) (lines : Lines) (path : List ℕ) where
       by true e = kept_some (value_of path rows) source.held (ap (λ p. is_some (value_of p rows)) (sym (text_is source.path path e)) ∙ h)
 
   one : source.held ≡ Some (bytes_of lines) → lines_at ((source.path, lines) ∷ []) path ≡ held_at path source
-  one e = ap (λ b. option_map bytes_of (cond {A = Option Lines} b (Some lines) None)) (same_turned path source.path) ∙ by (same_text source.path path)
+  one e = ap (λ b. option_map bytes_of (cond {A = Option MarkedSource} b (Some lines) None)) (same_turned path source.path) ∙ by (same_text source.path path)
     where
-      by : (b : Bool) → option_map bytes_of (cond {A = Option Lines} b (Some lines) None) ≡ cond b source.held None
+      by : (b : Bool) → option_map bytes_of (cond {A = Option MarkedSource} b (Some lines) None) ≡ cond b source.held None
       by true = sym e
       by false = refl
 

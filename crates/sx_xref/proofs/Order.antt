@@ -28,7 +28,7 @@ use Rattle.sx_xref.specs.declared.pair.Pair.{Pair}
 use Rattle.sx_xref.specs.declared.rows.Aim.{Aim}
 use Rattle.sx_xref.specs.declared.rows.Aim.TheVariants as aim
 use Rattle.sx_xref.specs.declared.rows.At.{At}
-use Rattle.sx_xref.specs.declared.rows.Row.{Row}
+use Rattle.sx_xref.specs.declared.rows.LinkRow.{LinkRow}
 
 -- ---- the place of a file while files are added
 
@@ -174,7 +174,7 @@ AimBefore (aim.Prim o) (aim.Place b) = ⊥
 AimBefore (aim.Prim o) aim.Nowhere = ⊥
 AimBefore (aim.Prim o) (aim.Prim q) = o.0 < q.0
 
-abbrev RowBefore : Row → Row → Type 0
+abbrev RowBefore : LinkRow → LinkRow → Type 0
 RowBefore r q = AtBefore r.at q.at ⊎ ((r.at ≡ q.at) × AimBefore r.aim q.aim)
 
 compare-less : (a b : ℕ) → nat_cmp a b ≡ Less → a < b
@@ -255,7 +255,7 @@ aim_cmp-less (aim.Prim o) (aim.Place b) h = absurd (cc)
 aim_cmp-less (aim.Prim o) aim.Nowhere h = absurd (cc)
 aim_cmp-less (aim.Prim o) (aim.Prim q) h = compare-less o.0 q.0 h
 
-row-less : (r q : Row) → row_cmp r q ≡ Less → RowBefore r q
+row-less : (r q : LinkRow) → row_cmp r q ≡ Less → RowBefore r q
 row-less r q h = by (at_cmp r.at q.at) refl h
   where
     by : (c : Ordering) → at_cmp r.at q.at ≡ c → ordering_then c (aim_cmp r.aim q.aim) ≡ Less → RowBefore r q
@@ -265,12 +265,12 @@ row-less r q h = by (at_cmp r.at q.at) refl h
 
 -- ---- rows that rise, place by place
 
-above-at : (x : Row) (rows : List Row) (j : ℕ) (q : Row) → AllByRecursion (λ y. row_cmp x y ≡ Less) rows → slice_get rows j ≡ Some q → row_cmp x q ≡ Less
+above-at : (x : LinkRow) (rows : List LinkRow) (j : ℕ) (q : LinkRow) → AllByRecursion (λ y. row_cmp x y ≡ Less) rows → slice_get rows j ≡ Some q → row_cmp x q ≡ Less
 above-at x [] j q a h = absurd (cc)
 above-at x (y ∷ ys) zero q a h = subst (λ z. row_cmp x z ≡ Less) (some-is y q h) a.0
 above-at x (y ∷ ys) (suc j) q a h = above-at x ys j q a.1 h
 
-rising-at : (rows : List Row) (i j : ℕ) (r q : Row) → Rising rows → i < j → slice_get rows i ≡ Some r → slice_get rows j ≡ Some q → row_cmp r q ≡ Less
+rising-at : (rows : List LinkRow) (i j : ℕ) (r q : LinkRow) → Rising rows → i < j → slice_get rows i ≡ Some r → slice_get rows j ≡ Some q → row_cmp r q ≡ Less
 unfolding IsStrictlySortedBy
 rising-at [] i j r q s l h k = absurd (cc)
 rising-at (x ∷ xs) zero zero r q s l h k = absurd (omega (arith, l))
@@ -298,7 +298,7 @@ at-contained (y ∷ ys) (suc i) x h = contains-later y x ys (at-contained ys i x
 
 -- a place of the map: the row there, the identifier of which it is, and its pair
 record Stands (links : List Link) (i : ℕ) (p : Pair) : Type 0 where
-  row : Row
+  row : LinkRow
   at : slice_get (ranked (rows_among (files_of links) links links)) i ≡ Some row
   link : Link
   there : Contains links link

@@ -8,7 +8,7 @@ use Rattle.bstr.specs.Utf8.{decoded}
 use Rattle.sx_base.proofs.Chars.{decoded-some}
 use Rattle.sx_base.proofs.Places.{turn}
 use Rattle.sx_xref.specs.Marks.{Leads, IsPlaced, ArePlaced, first_mark, next_mark, kept, or_first, mark_before}
-use Rattle.sx_xref.specs.declared.marks.Mark.{Mark}
+use Rattle.sx_xref.specs.declared.marks.SourceMark.{SourceMark}
 
 -- ---- pieces
 
@@ -73,15 +73,15 @@ any (suc k) (suc j) bytes left at fits h g = by (left == 0) refl (any k j (drop 
 
 -- ---- from mark to mark
 
-behind : (m : Mark) (size : ℕ) (ends : Bool) → (next_mark m size ends).before ≡ m.before + size
+behind : (m : SourceMark) (size : ℕ) (ends : Bool) → (next_mark m size ends).before ≡ m.before + size
 behind m size true = refl
 behind m size false = refl
 
-counted : (m : Mark) (size : ℕ) (ends : Bool) → ((next_mark m size ends).line, (next_mark m size ends).column) ≡ moved (m.line, m.column) ends
+counted : (m : SourceMark) (size : ℕ) (ends : Bool) → ((next_mark m size ends).line, (next_mark m size ends).column) ≡ moved (m.line, m.column) ends
 counted m size true = refl
 counted m size false = refl
 
-pub leads_on : (source : List ℕ) (offset : ℕ) (m : Mark) (size : ℕ) (ends : Bool) → m.before < offset → offset ≤ length source
+pub leads_on : (source : List ℕ) (offset : ℕ) (m : SourceMark) (size : ℕ) (ends : Bool) → m.before < offset → offset ≤ length source
     → ends ≡ (piece (drop m.before source) (offset - m.before)).ends → size ≡ (piece (drop m.before source) (offset - m.before)).size
     → Leads source offset m → Leads source offset (next_mark m size ends)
 leads_on source offset m size ends below within is_ends is_size leads =
@@ -104,7 +104,7 @@ leads_on source offset m size ends below within is_ends is_size leads =
     ∙ lead
 
 -- behind a piece that is whole, every further place is counted
-pub placed_on : (source : List ℕ) (m : Mark) (size : ℕ) (ends : Bool) → m.before < length source
+pub placed_on : (source : List ℕ) (m : SourceMark) (size : ℕ) (ends : Bool) → m.before < length source
     → ends ≡ (piece (drop m.before source) (length (drop m.before source))).ends → size ≡ (piece (drop m.before source) (length (drop m.before source))).size
     → IsPlaced source m → IsPlaced source (next_mark m size ends)
 placed_on source m size ends within is_ends is_size placed = λ offset far below.
@@ -127,20 +127,20 @@ pub first_placed : (source : List ℕ) → IsPlaced source first_mark
 first_placed source = λ offset far below. ap (λ n. place_from n source n (1, 1)) (no_less offset)
 
 -- the place is counted
-pub arrives : (source : List ℕ) (offset : ℕ) (m : Mark) → offset ≤ m.before → Leads source offset m → (m.line, m.column) ≡ place source offset
+pub arrives : (source : List ℕ) (offset : ℕ) (m : SourceMark) → offset ≤ m.before → Leads source offset m → (m.line, m.column) ≡ place source offset
 arrives source offset m past leads =
     let none : offset - m.before ≡ 0 = omega arith in
     sym (ap (λ n. place_from n (drop m.before source) n (m.line, m.column)) none ∙ done 0 (drop m.before source) (m.line, m.column)) ∙ leads
 
 -- ---- many marks
 
-at_end : (ms : List Mark) (m x : Mark) (k : ℕ) → slice_get (ms ++ m ∷ []) k ≡ Some x → (P : Mark → Type 0) → ((j : ℕ) → slice_get ms j ≡ Some x → P x) → P m → P x
+at_end : (ms : List SourceMark) (m x : SourceMark) (k : ℕ) → slice_get (ms ++ m ∷ []) k ≡ Some x → (P : SourceMark → Type 0) → ((j : ℕ) → slice_get ms j ≡ Some x → P x) → P m → P x
 at_end [] m x zero at P old new = subst P (same_Some m x at) new
 at_end [] m x (suc k) at P old new = absurd (none-some x at)
 at_end (n ∷ ms) m x zero at P old new = old 0 at
 at_end (n ∷ ms) m x (suc k) at P old new = at_end ms m x k at P (λ j. old (suc j)) new
 
-pub one_more : (source : List ℕ) (marks : List Mark) (m : Mark) (next : ℕ) → ArePlaced source marks → m.before ≤ length source → IsPlaced source m → ArePlaced source (kept marks m next)
+pub one_more : (source : List ℕ) (marks : List SourceMark) (m : SourceMark) (next : ℕ) → ArePlaced source marks → m.before ≤ length source → IsPlaced source m → ArePlaced source (kept marks m next)
 one_more source marks m next all within placed = by (nat_le (length marks) (next / 64))
   where
     by : (b : Bool) → ArePlaced source (cond b (marks ++ m ∷ []) marks)
@@ -150,30 +150,30 @@ one_more source marks m next all within placed = by (nat_le (length marks) (next
 pub none_placed : (source : List ℕ) → ArePlaced source []
 none_placed source = λ k m at. absurd (none-some m at)
 
-abbrev IsBefore : List ℕ → ℕ → Mark → Type 0
+abbrev IsBefore : List ℕ → ℕ → SourceMark → Type 0
 IsBefore source offset m = (m.before ≤ length source) × (offset ≤ length source) × Leads source offset m
 
-pub found_before : (source : List ℕ) (marks : List Mark) (offset : ℕ) → offset ≤ length source → ArePlaced source marks → IsBefore source offset (mark_before marks offset)
+pub found_before : (source : List ℕ) (marks : List SourceMark) (offset : ℕ) → offset ≤ length source → ArePlaced source marks → IsBefore source offset (mark_before marks offset)
 found_before source marks offset within all = by (slice_get marks (offset / 64)) refl
   where
     first : IsBefore source offset first_mark
     first = (omega arith, within, first_placed source offset (omega arith) within)
 
-    test : (m : Mark) (b : Bool) → nat_le m.before offset ≡ b → (m.before ≤ length source) × IsPlaced source m → IsBefore source offset (cond b m first_mark)
+    test : (m : SourceMark) (b : Bool) → nat_le m.before offset ≡ b → (m.before ≤ length source) × IsPlaced source m → IsBefore source offset (cond b m first_mark)
     test m true e p = let below : m.before ≤ offset = grind (arith, nat_tests) in (p.0, within, p.1 offset below within)
     test m false e p = first
 
-    by : (o : Option Mark) → slice_get marks (offset / 64) ≡ o → IsBefore source offset (or_first o offset)
+    by : (o : Option SourceMark) → slice_get marks (offset / 64) ≡ o → IsBefore source offset (or_first o offset)
     by None at = first
     by (Some m) at = test m (nat_le m.before offset) refl (all (offset / 64) m at)
 
 -- ---- the turns of the loops
 
-pub turns_over : (source rest after : List ℕ) (marks more : List Mark) (m next : Mark) (size : ℕ) (ends : Bool) → rest ≡ drop m.before source → m.before ≤ length source → IsPlaced source m → ArePlaced source marks
+pub turns_over : (source rest after : List ℕ) (marks more : List SourceMark) (m next : SourceMark) (size : ℕ) (ends : Bool) → rest ≡ drop m.before source → m.before ≤ length source → IsPlaced source m → ArePlaced source marks
     → ends ≡ (piece rest (length rest)).ends → size ≡ (piece rest (length rest)).size → 0 < size → size ≤ length rest → next ≡ next_mark m size ends → more ≡ kept marks m next.before → after ≡ drop size rest
     → (after ≡ drop next.before source) × (next.before ≤ length source) × IsPlaced source next × ArePlaced source more
 turns_over source rest after marks more m next size ends is_rest within placed all is_ends is_size pos fits is_next is_more is_after =
-    let before : next.before ≡ m.before + size = ap (λ (x : Mark). x.before) is_next ∙ behind m size ends in
+    let before : next.before ≡ m.before + size = ap (λ (x : SourceMark). x.before) is_next ∙ behind m size ends in
     let cut : length rest ≡ length source - m.before = ap length is_rest ∙ length-drop m.before source in
     let below : m.before < length source = omega (arith, cut, pos, fits) in
     let reached : next.before ≤ length source = subst (λ n. n ≤ length source) (sym before) (omega (arith, cut, fits, within)) in (
@@ -183,11 +183,11 @@ turns_over source rest after marks more m next size ends is_rest within placed a
       subst (ArePlaced source) (sym is_more) (one_more source marks m next.before all within placed),
     )
 
-pub walks_on : (source rest : List ℕ) (offset : ℕ) (m next : Mark) (size : ℕ) (ends : Bool) → rest ≡ drop m.before source → m.before < offset → offset ≤ length source
+pub walks_on : (source rest : List ℕ) (offset : ℕ) (m next : SourceMark) (size : ℕ) (ends : Bool) → rest ≡ drop m.before source → m.before < offset → offset ≤ length source
     → ends ≡ (piece rest (offset - m.before)).ends → size ≡ (piece rest (offset - m.before)).size → size ≤ length rest → next ≡ next_mark m size ends → Leads source offset m
     → (next.before ≤ length source) × Leads source offset next
 walks_on source rest offset m next size ends is_rest below within is_ends is_size fits is_next leads =
-    let before : next.before ≡ m.before + size = ap (λ (x : Mark). x.before) is_next ∙ behind m size ends in
+    let before : next.before ≡ m.before + size = ap (λ (x : SourceMark). x.before) is_next ∙ behind m size ends in
     let cut : length rest ≡ length source - m.before = ap length is_rest ∙ length-drop m.before source in (
       subst (λ n. n ≤ length source) (sym before) (omega (arith, cut, fits, below, within)),
       subst (Leads source offset) (sym is_next) (leads_on source offset m size ends below within (is_ends ∙ ap (λ bytes. (piece bytes (offset - m.before)).ends) is_rest) (is_size ∙ ap (λ bytes. (piece bytes (offset - m.before)).size) is_rest) leads),

@@ -21,13 +21,13 @@ use Rattle.sx_import.specs.Table.{same_text, value_of, put_first}
 use Rattle.sx_xref.proofs.Binding.{same_is}
 use Rattle.sx_xref.proofs.FileLemmas.{text_is}
 use Rattle.sx_xref.proofs.Ranking.{tie, same_itself, among_ranked}
-use Rattle.sx_xref.specs.Links.{is_binder, binds, binder, place_of, leads_to, pair_of}
+use Rattle.sx_xref.specs.Links.{is_binder, binds, binder, target_of, leads_to, pair_of}
 use Rattle.sx_xref.specs.Map.{binding_map, rows_among, row_among}
 use Rattle.sx_xref.specs.Ranked.{ranked, row_cmp, same_row, among}
 use Rattle.sx_xref.specs.Relation.{IsVariable, Binds, IsBinder, LeadsTo, to_binder, to_nothing, to_primitive, Relates, MapIsExact}
 use Rattle.sx_xref.specs.Rows.{Files, with_files, files_of, number_of, or_first, file_at, at_of, aim_of, row_of, span_at, target_at, pair_at}
 use Rattle.sx_xref.specs.declared.pair.Pair.{Pair}
-use Rattle.sx_xref.specs.declared.rows.Row.{Row}
+use Rattle.sx_xref.specs.declared.rows.LinkRow.{LinkRow}
 
 -- ---- elements
 
@@ -135,7 +135,7 @@ first-is (k ∷ ks) behind b l is none = by (binds l k) refl (first-is ks behind
 pub leads : (links : List Link) (k : Link) → LeadsTo links k (leads_to links k.label k.kind)
 leads links k = by k.kind refl
   where
-    place : IsVariable k.kind → (o : Option Link) → Found links k.label o → LeadsTo links k (place_of o)
+    place : IsVariable k.kind → (o : Option Link) → Found links k.label o → LeadsTo links k (target_of o)
     place v None f = to_nothing v f
     place v (Some b) f = to_binder b v f
 
@@ -144,7 +144,7 @@ leads links k = by k.kind refl
     by kinds.Refer e = place (subst IsVariable (sym e) tt) (binder links k.label) (binder-found links k.label)
     by (kinds.Prim o) e = to_primitive o e
 
-variable-leads : (links : List Link) (l : Label) (kind : LinkKind) → IsVariable kind → leads_to links l kind ≡ place_of (binder links l)
+variable-leads : (links : List Link) (l : Label) (kind : LinkKind) → IsVariable kind → leads_to links l kind ≡ target_of (binder links l)
 variable-leads links l kinds.Bind v = refl
 variable-leads links l kinds.Refer v = refl
 variable-leads links l (kinds.Prim o) v = absurd v
@@ -152,8 +152,8 @@ variable-leads links l (kinds.Prim o) v = absurd v
 led : (links : List Link) (k : Link) (t : Target) → LeadsTo links k t → leads_to links k.label k.kind ≡ t
 led links k _ (to_binder b v is) =
     variable-leads links k.label k.kind v
-    ∙ ap (λ ks. place_of (binder ks k.label)) is.there ∙ ap place_of (first-is is.before is.behind b k.label is.binds is.first)
-led links k _ (to_nothing v none) = variable-leads links k.label k.kind v ∙ ap place_of (none-is links k.label none)
+    ∙ ap (λ ks. target_of (binder ks k.label)) is.there ∙ ap target_of (first-is is.before is.behind b k.label is.binds is.first)
+led links k _ (to_nothing v none) = variable-leads links k.label k.kind v ∙ ap target_of (none-is links k.label none)
 led links k _ (to_primitive o e) = ap (leads_to links k.label) e
 
 -- ---- files by their numbers
@@ -268,7 +268,7 @@ link-back links k there =
 
 -- ---- rows in order are the same rows
 
-pub row-is : (r x : Row) → same_row r x ≡ true → r ≡ x
+pub row-is : (r x : LinkRow) → same_row r x ≡ true → r ≡ x
 row-is r x h = tie r x (equal (row_cmp r x) h)
   where
     equal : (o : Ordering) → is_eq o ≡ true → o ≡ Equal
@@ -276,7 +276,7 @@ row-is r x h = tie r x (equal (row_cmp r x) h)
     equal Equal h = refl
     equal Greater h = absurd (true≢false (sym h))
 
-pub among-has : (r : Row) (rows : List Row) → Contains rows r → among r rows ≡ true
+pub among-has : (r : LinkRow) (rows : List LinkRow) → Contains rows r → among r rows ≡ true
 among-has r [] h = absurd (contains-none r h)
 among-has r (x ∷ xs) h = by (contains-cases x r xs h) (among-has r xs)
   where
@@ -288,7 +288,7 @@ among-has r (x ∷ xs) h = by (contains-cases x r xs h) (among-has r xs)
     by (inl e) on = ap (λ b. b || among r xs) (ap (same_row r) e ∙ same_itself r)
     by (inr there) on = ap (λ b. same_row r x || b) (on there) ∙ or-true (same_row r x)
 
-pub has-among : (r : Row) (rows : List Row) → among r rows ≡ true → Contains rows r
+pub has-among : (r : LinkRow) (rows : List LinkRow) → among r rows ≡ true → Contains rows r
 has-among r [] h = absurd (true≢false (sym h))
 has-among r (x ∷ xs) h = by (same_row r x) refl h (has-among r xs)
   where

@@ -11,7 +11,7 @@ use Rattle.sx_xref.specs.Rows.{Files, at_of}
 use Rattle.sx_xref.specs.declared.rows.Aim.{Aim}
 use Rattle.sx_xref.specs.declared.rows.Aim.TheVariants as aim
 use Rattle.sx_xref.specs.declared.rows.At.{At}
-use Rattle.sx_xref.specs.declared.rows.Row.{Row}
+use Rattle.sx_xref.specs.declared.rows.LinkRow.{LinkRow}
 
 abbrev pub Binders : Type 0
 Binders = List (Label × At)
@@ -43,5 +43,5 @@ aim_by binders l kinds.Refer = binder_at binders l
 aim_by binders l (kinds.Prim o) = aim.Prim o
 
 -- the row of a link, by a table
-abbrev pub row_by : Files → Binders → Link → Row
+abbrev pub row_by : Files → Binders → Link → LinkRow
 row_by files binders k = record { at = at_of files k.span; aim = aim_by binders k.label k.kind }

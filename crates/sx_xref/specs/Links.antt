@@ -23,13 +23,13 @@ binds l k = is_binder k.kind && same_label l k.label
 abbrev pub binder : List Link → Label → Option Link
 binder links l = find (binds l) links
 
-abbrev pub place_of : Option Link → Target
-place_of None = target.Nowhere
-place_of (Some k) = target.Place k.span
+abbrev pub target_of : Option Link → Target
+target_of None = target.Nowhere
+target_of (Some k) = target.Place k.span
 
 abbrev pub leads_to : List Link → Label → LinkKind → Target
-leads_to links l kinds.Bind = place_of (binder links l)
-leads_to links l kinds.Refer = place_of (binder links l)
+leads_to links l kinds.Bind = target_of (binder links l)
+leads_to links l kinds.Refer = target_of (binder links l)
 leads_to links l (kinds.Prim o) = target.Prim o
 
 -- an identifier, and what it leads to among these links

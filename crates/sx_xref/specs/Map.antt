@@ -5,15 +5,15 @@ use Rattle.sx_xref.specs.Links.{pair_of}
 use Rattle.sx_xref.specs.Ranked.{ranked}
 use Rattle.sx_xref.specs.Rows.{Files, files_of, row_of, pair_at}
 use Rattle.sx_xref.specs.declared.pair.Pair.{Pair}
-use Rattle.sx_xref.specs.declared.rows.Row.{Row}
+use Rattle.sx_xref.specs.declared.rows.LinkRow.{LinkRow}
 
-abbrev pub row_among : Files → List Link → Link → Row
+abbrev pub row_among : Files → List Link → Link → LinkRow
 row_among files links k = row_of files (pair_of links k)
 
-abbrev pub rows_among : Files → List Link → List Link → List Row
+abbrev pub rows_among : Files → List Link → List Link → List LinkRow
 rows_among files links some = map (row_among files links) some
 
-abbrev pub ranked_pairs : Files → List Row → List Pair
+abbrev pub ranked_pairs : Files → List LinkRow → List Pair
 ranked_pairs files rows = map (pair_at files) (ranked rows)
 
 -- what each identifier leads to, each pair once: by file in the order of first links, by `from`, by `to`, and then by

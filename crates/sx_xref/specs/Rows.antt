@@ -10,7 +10,7 @@ use Rattle.sx_xref.specs.declared.pair.Pair.{Pair}
 use Rattle.sx_xref.specs.declared.rows.Aim.{Aim}
 use Rattle.sx_xref.specs.declared.rows.Aim.TheVariants as aim
 use Rattle.sx_xref.specs.declared.rows.At.{At}
-use Rattle.sx_xref.specs.declared.rows.Row.{Row}
+use Rattle.sx_xref.specs.declared.rows.LinkRow.{LinkRow}
 
 abbrev pub Files : Type 0
 Files = List (List ℕ × Unit {0})
@@ -45,7 +45,7 @@ aim_of files (target.Place span) = aim.Place (at_of files span)
 aim_of files target.Nowhere = aim.Nowhere
 aim_of files (target.Prim o) = aim.Prim o
 
-abbrev pub row_of : Files → Pair → Row
+abbrev pub row_of : Files → Pair → LinkRow
 row_of files p = record { at = at_of files p.span; aim = aim_of files p.target }
 
 abbrev pub span_at : Files → At → Span
@@ -56,5 +56,5 @@ target_at files (aim.Place at) = target.Place (span_at files at)
 target_at files aim.Nowhere = target.Nowhere
 target_at files (aim.Prim o) = target.Prim o
 
-abbrev pub pair_at : Files → Row → Pair
+abbrev pub pair_at : Files → LinkRow → Pair
 pair_at files r = record { span = span_at files r.at; target = target_at files r.aim }

@@ -9,7 +9,7 @@ use Rattle.sx_core.specs.declared.link.Target.{Target}
 use Rattle.sx_core.specs.declared.link.Target.TheVariants as target
 use Rattle.sx_import.specs.Table.{same_text, value_of}
 use Rattle.sx_load.specs.declared.found.Source.{Source}
-use Rattle.sx_xref.specs.declared.marks.Lines.{Lines}
+use Rattle.sx_xref.specs.declared.marks.MarkedSource.{MarkedSource}
 use Rattle.sx_xref.specs.declared.pair.Pair.{Pair}
 
 -- the bytes of files, by their paths
@@ -61,8 +61,8 @@ xref_text sources pairs = lines (held_in sources) pairs
 
 -- A table of the files that were there.
 
-abbrev pub lines_at : List (List ℕ × Lines) → Bytes
-lines_at files path = option_map (λ (l : Lines). l.source.now) (value_of path files)
+abbrev pub lines_at : List (List ℕ × MarkedSource) → Bytes
+lines_at files path = option_map (λ (l : MarkedSource). l.source.now) (value_of path files)
 
-abbrev pub AreLines : List Source → List (List ℕ × Lines) → Type 0
+abbrev pub AreLines : List Source → List (List ℕ × MarkedSource) → Type 0
 AreLines sources files = (path : List ℕ) → lines_at files path ≡ held_in sources path

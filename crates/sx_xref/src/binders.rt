@@ -11,7 +11,7 @@ use std::alloc::Global;
 use sx_base::memory::Memory;
 use sx_base::name::Label;
 use sx_core::link::{Link, LinkKind};
-use sx_import::table::Table;
+use sx_import::table::NameTable;
 
 fn is_binder(kind: &LinkKind) -> bool
     ensures { result ≡ is_binder kind.now }
@@ -33,7 +33,7 @@ fn put_place(binders: &mut IndexMap<Label, At>, label: Label, at: At) -> Result<
 /// Takes the span of a link for its label, unless the label has one. Only links that bind count.
 fn put_binder(
     binders: &mut IndexMap<Label, At>,
-    files: &Table<()>,
+    files: &NameTable<()>,
     link: &Link,
 ) -> Result<(), Memory>
     ensures { OnOk result (binders.new.entries ≡ with_binder files.now binders.old.entries link.now) }
@@ -48,7 +48,7 @@ fn put_binder(
 /// Where each label is bound first.
 pub(crate) fn binders_of(
     alloc: Global,
-    files: &Table<()>,
+    files: &NameTable<()>,
     links: &[Link],
 ) -> Result<IndexMap<Label, At>, Memory>
     ensures { IfOk result (λ b. b.entries ≡ with_binders files.now [] links.now) }

@@ -9,13 +9,13 @@ use sx_base::memory::Memory;
 use sx_base::span::Span;
 use sx_base::symbol::Symbol;
 use sx_core::link::Link;
-use sx_import::table::Table;
+use sx_import::table::NameTable;
 
 /// The files of links, each once in the order of first links.
-pub(crate) fn files_of(alloc: Global, links: &[Link]) -> Result<Table<()>, Memory>
+pub(crate) fn files_of(alloc: Global, links: &[Link]) -> Result<NameTable<()>, Memory>
     ensures { IfOk result (λ fs. fs ≡ files_of links.now) }
 {
-    let mut files = Table::new(alloc);
+    let mut files = NameTable::new(alloc);
     for link in links {
         let file = link.span.file.share()?;
         files.put_first(file, ())?;
@@ -23,7 +23,7 @@ pub(crate) fn files_of(alloc: Global, links: &[Link]) -> Result<Table<()>, Memor
     Ok(files)
 }
 
-fn number_of(files: &Table<()>, file: &Symbol) -> usize
+fn number_of(files: &NameTable<()>, file: &Symbol) -> usize
     ensures { result ≡ number_of files.now file.now }
 {
     match files.place_of(file) {
@@ -32,7 +32,7 @@ fn number_of(files: &Table<()>, file: &Symbol) -> usize
     }
 }
 
-fn file_at(alloc: Global, files: &Table<()>, number: usize) -> Result<Symbol, Memory>
+fn file_at(alloc: Global, files: &NameTable<()>, number: usize) -> Result<Symbol, Memory>
     ensures { IfOk result (λ f. f ≡ file_at files.now number) }
 {
     match files.at(number) {
@@ -42,7 +42,7 @@ fn file_at(alloc: Global, files: &Table<()>, number: usize) -> Result<Symbol, Me
 }
 
 /// A span, in a file by its number.
-pub(crate) fn at_of(files: &Table<()>, span: &Span) -> At
+pub(crate) fn at_of(files: &NameTable<()>, span: &Span) -> At
     ensures { result ≡ at_of files.now span.now }
 {
     At {
@@ -53,7 +53,7 @@ pub(crate) fn at_of(files: &Table<()>, span: &Span) -> At
 }
 
 /// A span, in a file by its name.
-pub(crate) fn span_at(alloc: Global, files: &Table<()>, at: At) -> Result<Span, Memory>
+pub(crate) fn span_at(alloc: Global, files: &NameTable<()>, at: At) -> Result<Span, Memory>
     ensures { IfOk result (λ s. s ≡ span_at files.now at) }
 {
     let file = file_at(alloc, files, at.file)?;

@@ -9,19 +9,19 @@ use crate::binders::{aim, binders_of};
 use crate::files::{at_of, files_of, span_at};
 use crate::pair::Pair;
 use crate::ranked::ranked;
-use crate::rows::{Aim, At, Row};
+use crate::rows::{Aim, At, LinkRow};
 use indexmap::IndexMap;
 use std::alloc::Global;
 use sx_base::items::Items;
 use sx_base::memory::Memory;
 use sx_base::name::Label;
 use sx_core::link::{Link, Target};
-use sx_import::table::Table;
+use sx_import::table::NameTable;
 
-fn row_of(files: &Table<()>, binders: &IndexMap<Label, At>, link: &Link) -> Row
+fn row_of(files: &NameTable<()>, binders: &IndexMap<Label, At>, link: &Link) -> LinkRow
     ensures { result ≡ row_by files.now binders.now.entries link.now }
 {
-    Row {
+    LinkRow {
         at: at_of(files, &link.span),
         aim: aim(binders, link),
     }
@@ -29,10 +29,10 @@ fn row_of(files: &Table<()>, binders: &IndexMap<Label, At>, link: &Link) -> Row
 
 fn rows_of(
     alloc: Global,
-    files: &Table<()>,
+    files: &NameTable<()>,
     binders: &IndexMap<Label, At>,
     links: &[Link],
-) -> Result<Items<Row>, Memory>
+) -> Result<Items<LinkRow>, Memory>
     ensures { IfOk result (λ rows. rows ≡ map (row_by files.now binders.now.entries) links.now) }
 {
     let mut rows = Items::new(alloc);
@@ -42,7 +42,7 @@ fn rows_of(
     Ok(rows)
 }
 
-fn target_at(alloc: Global, files: &Table<()>, aim: Aim) -> Result<Target, Memory>
+fn target_at(alloc: Global, files: &NameTable<()>, aim: Aim) -> Result<Target, Memory>
     ensures { IfOk result (λ t. t ≡ target_at files.now aim) }
 {
     match aim {
@@ -52,7 +52,7 @@ fn target_at(alloc: Global, files: &Table<()>, aim: Aim) -> Result<Target, Memor
     }
 }
 
-fn pair_at(alloc: Global, files: &Table<()>, row: Row) -> Result<Pair, Memory>
+fn pair_at(alloc: Global, files: &NameTable<()>, row: LinkRow) -> Result<Pair, Memory>
     ensures { IfOk result (λ p. p ≡ pair_at files.now row) }
 {
     let span = span_at(alloc, files, row.at)?;
@@ -60,7 +60,7 @@ fn pair_at(alloc: Global, files: &Table<()>, row: Row) -> Result<Pair, Memory>
     Ok(Pair { span, target })
 }
 
-fn pairs_at(alloc: Global, files: &Table<()>, rows: &[Row]) -> Result<Items<Pair>, Memory>
+fn pairs_at(alloc: Global, files: &NameTable<()>, rows: &[LinkRow]) -> Result<Items<Pair>, Memory>
     ensures { IfOk result (λ ps. ps ≡ map (pair_at files.now) rows.now) }
 {
     let mut pairs = Items::new(alloc);

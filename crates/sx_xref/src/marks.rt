@@ -1,4 +1,4 @@
-//! Lines and columns of a file, found from marks along it.
+//! MarkedSource and columns of a file, found from marks along it.
 
 ghost use Rattle.std.specs.Prelude.{◌≡◌, ◌<◌, ◌≤◌, length, min, IfOk, OnOk};
 ghost use Rattle.sx_base.specs.Place.{place, piece, char_size};
@@ -14,7 +14,7 @@ const STRIDE: usize = 64;
 
 /// A place in a file: how many bytes lie before it, its line and its column, both from 1.
 #[derive(Clone, Copy)]
-pub struct Mark {
+pub struct SourceMark {
     pub before: usize,
     pub line: u64,
     pub column: u64,
@@ -59,10 +59,10 @@ fn next_piece(bytes: &[u8], left: usize) -> Piece
 }
 
 /// The start of a file.
-fn first_mark() -> Mark
+fn first_mark() -> SourceMark
     ensures { result ≡ first_mark }
 {
-    Mark {
+    SourceMark {
         before: 0,
         line: 1,
         column: 1,
@@ -70,7 +70,7 @@ fn first_mark() -> Mark
 }
 
 /// The mark behind a piece. Numbers past the greatest are refused as want of memory is.
-fn moved(mark: Mark, piece: Piece) -> Result<Mark, Memory>
+fn moved(mark: SourceMark, piece: Piece) -> Result<SourceMark, Memory>
     ensures { IfOk result (λ m. m ≡ next_mark mark piece.size piece.ends) }
 {
     let Some(before) = mark.before.checked_add(piece.size) else {
@@ -80,7 +80,7 @@ fn moved(mark: Mark, piece: Piece) -> Result<Mark, Memory>
         let Some(line) = mark.line.checked_add(1) else {
             return Err(Memory);
         };
-        return Ok(Mark {
+        return Ok(SourceMark {
             before,
             line,
             column: 1,
@@ -89,7 +89,7 @@ fn moved(mark: Mark, piece: Piece) -> Result<Mark, Memory>
     let Some(column) = mark.column.checked_add(1) else {
         return Err(Memory);
     };
-    Ok(Mark {
+    Ok(SourceMark {
         before,
         line: mark.line,
         column,
@@ -97,7 +97,7 @@ fn moved(mark: Mark, piece: Piece) -> Result<Mark, Memory>
 }
 
 /// A mark at the end, if the next one would stand too far behind the last.
-fn keep(marks: &mut Items<Mark>, mark: Mark, next: usize) -> Result<(), Memory>
+fn keep(marks: &mut Items<SourceMark>, mark: SourceMark, next: usize) -> Result<(), Memory>
     ensures { OnOk result (marks.new ≡ kept marks.old mark next) }
 {
     if marks.as_slice().len() <= next / STRIDE {
@@ -108,7 +108,7 @@ fn keep(marks: &mut Items<Mark>, mark: Mark, next: usize) -> Result<(), Memory>
 }
 
 /// Marks along a file.
-fn marks_of(alloc: Global, source: &[u8]) -> Result<Items<Mark>, Memory>
+fn marks_of(alloc: Global, source: &[u8]) -> Result<Items<SourceMark>, Memory>
     ensures { IfOk result (λ ms. ArePlaced source.now ms) }
 {
     let mut marks = Items::new(alloc);
@@ -126,7 +126,7 @@ fn marks_of(alloc: Global, source: &[u8]) -> Result<Items<Mark>, Memory>
 }
 
 /// The line and the column of an offset, from a mark before it.
-fn walk(source: &[u8], mark: Mark, offset: usize) -> Result<(u64, u64), Memory>
+fn walk(source: &[u8], mark: SourceMark, offset: usize) -> Result<(u64, u64), Memory>
     requires { (mark.before ≤ length source.now) × (offset ≤ length source.now) × Leads source.now offset mark }
     ensures { IfOk result (λ at. at ≡ place source.now offset) }
 {
@@ -141,22 +141,22 @@ fn walk(source: &[u8], mark: Mark, offset: usize) -> Result<(u64, u64), Memory>
 
 /// The bytes of a file, with marks along them.
 #[derive(Drop)]
-pub struct Lines<'a> {
+pub struct MarkedSource<'a> {
     pub source: &'a [u8],
-    marks: Items<Mark>,
+    marks: Items<SourceMark>,
     ghost placed: { ArePlaced source.now marks },
 }
 
-impl<'a> Lines<'a> {
-    pub fn new(alloc: Global, source: &'a [u8]) -> Result<Lines<'a>, Memory>
+impl<'a> MarkedSource<'a> {
+    pub fn new(alloc: Global, source: &'a [u8]) -> Result<MarkedSource<'a>, Memory>
         ensures { IfOk result (λ l. l.source.now ≡ source.now) }
     {
         let marks = marks_of(alloc, source)?;
-        Ok(Lines { source, marks })
+        Ok(MarkedSource { source, marks })
     }
 
     /// The last mark that stands so far before an offset that it is found by a division; else the start.
-    fn mark_before(&self, offset: usize) -> Mark
+    fn mark_before(&self, offset: usize) -> SourceMark
         ensures { result ≡ mark_before self.now.marks offset }
     {
         let marks = self.marks.as_slice();

@@ -3,11 +3,11 @@
 ghost use Rattle.std.specs.Prelude.{◌≡◌};
 ghost use Rattle.sx_xref.specs.Ranked.{ranked};
 
-use crate::rows::Row;
+use crate::rows::LinkRow;
 use sx_base::items::Items;
 
 /// Rows in order, each once. It takes no memory.
-pub(crate) fn ranked(rows: Items<Row>) -> Items<Row>
+pub(crate) fn ranked(rows: Items<LinkRow>) -> Items<LinkRow>
     ensures { result ≡ ranked rows }
 {
     let mut list = rows.into_vec();

@@ -20,7 +20,7 @@ pub enum Aim {
 
 /// A pair: rows compare by their identifiers, and then by their targets.
 #[derive(Clone, Copy, PartialEq, Eq, PartialOrd, Ord)]
-pub struct Row {
+pub struct LinkRow {
     pub at: At,
     pub aim: Aim,
 }

@@ -4,7 +4,7 @@ ghost use Rattle.std.specs.Prelude.{◌≡◌, ◌++◌, IfOk, OnOk};
 ghost use Rattle.std.specs.String.{string_bytes};
 ghost use Rattle.sx_xref.specs.Text.{AreLines, held_at, lines_at, or_held, name_of, place_shown, target_shown, line, lines, xref_text, or_none, place_in};
 
-use crate::marks::Lines;
+use crate::marks::MarkedSource;
 use crate::pair::Pair;
 use std::alloc::{AllocError, Global};
 use std::fmt::Write;
@@ -14,13 +14,13 @@ use sx_base::op::{NAME_COUNT, Op, op_text};
 use sx_base::span::Span;
 use sx_base::symbol::Symbol;
 use sx_core::link::Target;
-use sx_import::table::Table;
+use sx_import::table::NameTable;
 use sx_load::found::Source;
 
 /// A file with marks along it, if it was there; the first with its path stays.
 fn put_file<'a>(
     alloc: Global,
-    files: &mut Table<Lines<'a>>,
+    files: &mut NameTable<MarkedSource<'a>>,
     source: &'a Source,
 ) -> Result<(), Memory>
     ensures { OnOk result ((path : _) → lines_at files.new path ≡ or_held (lines_at files.old path) (held_at path source.now)) }
@@ -28,23 +28,23 @@ fn put_file<'a>(
     let Some(bytes) = &source.held else {
         return Ok(());
     };
-    let lines = Lines::new(alloc, bytes.as_slice())?;
+    let lines = MarkedSource::new(alloc, bytes.as_slice())?;
     let path = source.path.share()?;
     files.put_first(path, lines)?;
     Ok(())
 }
 
-fn files_of<'a>(alloc: Global, sources: &'a [Source]) -> Result<Table<Lines<'a>>, Memory>
+fn files_of<'a>(alloc: Global, sources: &'a [Source]) -> Result<NameTable<MarkedSource<'a>>, Memory>
     ensures { IfOk result (λ files. AreLines sources.now files) }
 {
-    let mut files = Table::new(alloc);
+    let mut files = NameTable::new(alloc);
     for source in sources {
         put_file(alloc, &mut files, source)?;
     }
     Ok(files)
 }
 
-fn place_in(files: &Table<Lines>, span: &Span) -> Result<(u64, u64), Memory>
+fn place_in(files: &NameTable<MarkedSource>, span: &Span) -> Result<(u64, u64), Memory>
     ensures { IfOk result (λ at. at ≡ place_in (or_none (lines_at files.now span.now.file)) span.now.from) }
 {
     match files.get(&span.file) {
@@ -53,7 +53,7 @@ fn place_in(files: &Table<Lines>, span: &Span) -> Result<(u64, u64), Memory>
     }
 }
 
-fn put_place(out: &mut String, files: &Table<Lines>, span: &Span) -> Result<(), Memory>
+fn put_place(out: &mut String, files: &NameTable<MarkedSource>, span: &Span) -> Result<(), Memory>
     ensures { OnOk result (string_bytes out.new ≡ string_bytes out.old ++ place_shown (lines_at files.now) span.now) }
 {
     let (row, column) = place_in(files, span)?;
@@ -69,7 +69,7 @@ fn name_of(op: Op) -> &'static str
     if op.0 < NAME_COUNT { op_text(&op) } else { "" }
 }
 
-fn put_target(out: &mut String, files: &Table<Lines>, target: &Target) -> Result<(), Memory>
+fn put_target(out: &mut String, files: &NameTable<MarkedSource>, target: &Target) -> Result<(), Memory>
     ensures { OnOk result (string_bytes out.new ≡ string_bytes out.old ++ target_shown (lines_at files.now) target.now) }
 {
     match target {
@@ -79,7 +79,7 @@ fn put_target(out: &mut String, files: &Table<Lines>, target: &Target) -> Result
     }
 }
 
-fn put_line(out: &mut String, files: &Table<Lines>, pair: &Pair) -> Result<(), Memory>
+fn put_line(out: &mut String, files: &NameTable<MarkedSource>, pair: &Pair) -> Result<(), Memory>
     ensures { OnOk result (string_bytes out.new ≡ string_bytes out.old ++ line (lines_at files.now) pair.now) }
 {
     put_place(out, files, &pair.span)?;
@@ -89,7 +89,7 @@ fn put_line(out: &mut String, files: &Table<Lines>, pair: &Pair) -> Result<(), M
     Ok(())
 }
 
-fn put_lines(out: &mut String, files: &Table<Lines>, map: &[Pair]) -> Result<(), Memory>
+fn put_lines(out: &mut String, files: &NameTable<MarkedSource>, map: &[Pair]) -> Result<(), Memory>
     ensures { OnOk result (string_bytes out.new ≡ string_bytes out.old ++ lines (lines_at files.now) map.now) }
 {
     for pair in map {

@@ -4,7 +4,7 @@ use Rattle.std.proofs.lemmas.List.{map-id}
 use Rattle.sx_base.proofs.Loops.{each_on, each_stops, each_done, gather_on, gather_stops, gather_done}
 use Rattle.sx_expand.specs.Body.{finish_one}
 use Rattle.sx_expand.specs.Expression.{inside, one_case, one_init, pattern_clause}
-use Rattle.sx_expand.specs.Keywords.{keyword_in}
+use Rattle.sx_expand.specs.Keywords.{expand_transformer_in}
 use Rattle.sx_expand.specs.Quasi.{part_core}
 use Rattle.sx_expand.proofs.+form.Goals as goal
 
@@ -83,20 +83,20 @@ body::splice-loop-form-preserved g t c =
 pub body::splice-returns : goal.body::splice-returns
 body::splice-returns g t c = gather_done (λ x. x) ((inside (g.M.Transformers.records c.args.at.now.means.now) c.args.at.now.room).item c.args.at.now.body.now c.args.at.now.depth) c.args.forms.now c.loop-form.form-index c.loop-form.taken c.loop-form.state _ c.loop-form-test.false c.loop-form.invariant
 
-pub keywords::all_keywords-loop-one-init : goal.keywords::all_keywords-loop-one-init
-keywords::all_keywords-loop-one-init g t c = rw (map-id c.args.bound.now) refl
+pub keywords::expand_transformers-loop-one-init : goal.keywords::expand_transformers-loop-one-init
+keywords::expand_transformers-loop-one-init g t c = rw (map-id c.args.bound.now) refl
 
-pub keywords::all_keywords-returns-in_err-keyword_in : goal.keywords::all_keywords-returns-in_err-keyword_in
-keywords::all_keywords-returns-in_err-keyword_in g t c =
+pub keywords::expand_transformers-returns-in_err-expand_transformer_in : goal.keywords::expand_transformers-returns-in_err-expand_transformer_in
+keywords::expand_transformers-returns-in_err-expand_transformer_in g t c =
     let p = err_from_is_err_and c.from_residual.result c.from_residual.ensures.1 in
-    rw (p.1, p.2) (gather_stops (λ x. x) (keyword_in (inside (g.M.Transformers.records c.args.at.now.means.now) c.args.at.now.room) c.args.at.now.place.now c.args.at.now.level c.args.at.now.depth c.args.scope.now.recursive c.args.scope.now.frame.now) c.args.bound.now c.loop-one.one-index c.one-item.result tt c.loop-one.state _ c.in_err-keyword_in.field-0.0 c.loop-one-test.true c.one-item.is c.in_err-keyword_in.ensures c.loop-one.invariant)
+    rw (p.1, p.2) (gather_stops (λ x. x) (expand_transformer_in (inside (g.M.Transformers.records c.args.at.now.means.now) c.args.at.now.room) c.args.at.now.place.now c.args.at.now.level c.args.at.now.depth c.args.scope.now.recursive c.args.scope.now.frame.now) c.args.bound.now c.loop-one.one-index c.one-item.result tt c.loop-one.state _ c.in_err-expand_transformer_in.field-0.0 c.loop-one-test.true c.one-item.is c.in_err-expand_transformer_in.ensures c.loop-one.invariant)
 
-pub keywords::all_keywords-loop-one-preserved : goal.keywords::all_keywords-loop-one-preserved
-keywords::all_keywords-loop-one-preserved g t c =
-    gather_on (λ x. x) (keyword_in (inside (g.M.Transformers.records c.args.at.now.means.now) c.args.at.now.room) c.args.at.now.place.now c.args.at.now.level c.args.at.now.depth c.args.scope.now.recursive c.args.scope.now.frame.now) c.args.bound.now c.loop-one.one-index c.one-item.result tt c.loop-one.state _ tt c.keyword_in.new.state c.loop-one-test.true c.one-item.is c.in_ok-keyword_in.ensures c.loop-one.invariant
+pub keywords::expand_transformers-loop-one-preserved : goal.keywords::expand_transformers-loop-one-preserved
+keywords::expand_transformers-loop-one-preserved g t c =
+    gather_on (λ x. x) (expand_transformer_in (inside (g.M.Transformers.records c.args.at.now.means.now) c.args.at.now.room) c.args.at.now.place.now c.args.at.now.level c.args.at.now.depth c.args.scope.now.recursive c.args.scope.now.frame.now) c.args.bound.now c.loop-one.one-index c.one-item.result tt c.loop-one.state _ tt c.expand_transformer_in.new.state c.loop-one-test.true c.one-item.is c.in_ok-expand_transformer_in.ensures c.loop-one.invariant
 
-pub keywords::all_keywords-returns : goal.keywords::all_keywords-returns
-keywords::all_keywords-returns g t c = gather_done (λ x. x) (keyword_in (inside (g.M.Transformers.records c.args.at.now.means.now) c.args.at.now.room) c.args.at.now.place.now c.args.at.now.level c.args.at.now.depth c.args.scope.now.recursive c.args.scope.now.frame.now) c.args.bound.now c.loop-one.one-index tt c.loop-one.state _ c.loop-one-test.false c.loop-one.invariant
+pub keywords::expand_transformers-returns : goal.keywords::expand_transformers-returns
+keywords::expand_transformers-returns g t c = gather_done (λ x. x) (expand_transformer_in (inside (g.M.Transformers.records c.args.at.now.means.now) c.args.at.now.room) c.args.at.now.place.now c.args.at.now.level c.args.at.now.depth c.args.scope.now.recursive c.args.scope.now.frame.now) c.args.bound.now c.loop-one.one-index tt c.loop-one.state _ c.loop-one-test.false c.loop-one.invariant
 
 pub patterns::all_clauses-loop-case-init : goal.patterns::all_clauses-loop-case-init
 patterns::all_clauses-loop-case-init g t c = rw (c.new-done.ensures.items, map-id c.args.cases.now) refl

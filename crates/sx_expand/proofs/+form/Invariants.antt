@@ -2,7 +2,7 @@ use Rattle.std.proofs.Common.{◌≡◌, ◌+◌, ◌*◌, drop, map}
 use Rattle.sx_base.specs.Act.{each, gather}
 use Rattle.sx_expand.specs.Body.{splice, finish_one, finish_all}
 use Rattle.sx_expand.specs.Expression.{inside, in_order, one_case, all_cases, one_init, all_inits, pattern_clause, all_clauses}
-use Rattle.sx_expand.specs.Keywords.{keyword_in, all_keywords}
+use Rattle.sx_expand.specs.Keywords.{expand_transformer_in, expand_transformers}
 use Rattle.sx_expand.specs.Quasi.{part_core, parts_in_order}
 use Rattle.sx_expand.proofs.+form.Given as goal
 
@@ -102,14 +102,14 @@ decreases-body::item_at g l = 32 * l.at.now.room + 8
 abbrev pub decreases-body::perform_item : goal.decreases-body::perform_item
 decreases-body::perform_item g l = 32 * l.at.now.room + 7
 
-abbrev pub decreases-keywords::keyword : goal.decreases-keywords::keyword
-decreases-keywords::keyword g l = 32 * l.at.now.room + 2
+abbrev pub decreases-keywords::expand_transformer : goal.decreases-keywords::expand_transformer
+decreases-keywords::expand_transformer g l = 32 * l.at.now.room + 2
 
-abbrev pub decreases-keywords::keyword_in : goal.decreases-keywords::keyword_in
-decreases-keywords::keyword_in g l = 32 * l.at.now.room + 3
+abbrev pub decreases-keywords::expand_transformer_in : goal.decreases-keywords::expand_transformer_in
+decreases-keywords::expand_transformer_in g l = 32 * l.at.now.room + 3
 
-abbrev pub decreases-keywords::all_keywords : goal.decreases-keywords::all_keywords
-decreases-keywords::all_keywords g l = 32 * l.at.now.room + 4
+abbrev pub decreases-keywords::expand_transformers : goal.decreases-keywords::expand_transformers
+decreases-keywords::expand_transformers g l = 32 * l.at.now.room + 4
 
 abbrev pub decreases-keywords::keywords : goal.decreases-keywords::keywords
 decreases-keywords::keywords g l = 32 * l.at.now.room + 5
@@ -135,8 +135,8 @@ decreases-patterns::all_clauses g l = 32 * l.at.now.room + 6
 abbrev pub decreases-patterns::syntax_case : goal.decreases-patterns::syntax_case
 decreases-patterns::syntax_case g l = 32 * l.at.now.room + 7
 
-abbrev pub invariant-keywords::all_keywords-loop-one : goal.invariant-keywords::all_keywords-loop-one
-invariant-keywords::all_keywords-loop-one g l = gather (keyword_in (inside (g.M.Transformers.records l.at.means.now) l.at.room) l.at.place.now l.at.level l.at.depth l.scope.recursive l.scope.frame.now) tt (map (λ b. b) (drop l.one-index l.bound)) l.state ≡ all_keywords (inside (g.M.Transformers.records l.at.means.now) l.at.room) l.at.place.now l.at.level l.at.depth l.scope.recursive l.scope.frame.now l.bound l.fn.state
+abbrev pub invariant-keywords::expand_transformers-loop-one : goal.invariant-keywords::expand_transformers-loop-one
+invariant-keywords::expand_transformers-loop-one g l = gather (expand_transformer_in (inside (g.M.Transformers.records l.at.means.now) l.at.room) l.at.place.now l.at.level l.at.depth l.scope.recursive l.scope.frame.now) tt (map (λ b. b) (drop l.one-index l.bound)) l.state ≡ expand_transformers (inside (g.M.Transformers.records l.at.means.now) l.at.room) l.at.place.now l.at.level l.at.depth l.scope.recursive l.scope.frame.now l.bound l.fn.state
 
 abbrev pub invariant-patterns::all_clauses-loop-case : goal.invariant-patterns::all_clauses-loop-case
 invariant-patterns::all_clauses-loop-case g l = each (pattern_clause (inside (g.M.Transformers.records l.at.means.now) l.at.room) l.at.place.now l.at.level l.at.depth l.literals) l.done.items (map (λ c. c) (drop l.case-index l.cases)) l.state ≡ all_clauses (inside (g.M.Transformers.records l.at.means.now) l.at.room) l.at.place.now l.at.level l.at.depth l.literals l.cases l.fn.state

@@ -5,8 +5,8 @@ use Rattle.sx_base.specs.DatumView.{is_some_list}
 use Rattle.sx_tree.specs.Leaves.{strip}
 use Rattle.sx_syntax.specs.Kept.{Parts}
 use Rattle.sx_syntax.specs.KeptView.{view_of, whole_of, InShape, IsPair, IsVector}
-use Rattle.sx_syntax.specs.declared.kept.Node.{Node}
-use Rattle.sx_syntax.specs.declared.kept.Shape.TheVariants as shape
+use Rattle.sx_syntax.specs.declared.kept.SyntaxNode.{SyntaxNode}
+use Rattle.sx_syntax.specs.declared.kept.TreeShape.TheVariants as shape
 use Rattle.sx_syntax.proofs.NodeLemmas.{weight_node}
 use Rattle.sx_syntax.proofs.ListLemmas.{rest_pair, elements_pair, elements_rest, rest_less}
 use Rattle.sx_syntax.proofs.StripLemmas.{strip_node, strip_more, some_more}
@@ -14,25 +14,25 @@ use Rattle.sx_syntax.proofs.+strip.Goals as goal
 
 pub kept::Kept::strip-strip_list-requires : goal.kept::Kept::strip-strip_list-requires
 kept::Kept::strip-strip_list-requires t c =
-    let here : IsPair c.in-Pair.field-0 c.in-Pair.first c.in-Pair.rest = subst InShape c.in-Pair.is (subst (λ (n : Node). InShape n.shape) (sym c.deref-node.ensures) c.self.invariant) in
-    (omega (arith, weight_node (whole_of c.self.inside.wrap c.deref-node.result.now) c.args.self.now (ap (λ (x : Node). view_of (whole_of c.self.inside.wrap x)) c.deref-node.ensures ∙ c.self.view_is) (shape.Pair c.in-Pair.field-0 c.in-Pair.first c.in-Pair.rest) c.in-Pair.is), here.rest)
+    let here : IsPair c.in-Pair.field-0 c.in-Pair.first c.in-Pair.rest = subst InShape c.in-Pair.is (subst (λ (n : SyntaxNode). InShape n.shape) (sym c.deref-node.ensures) c.self.invariant) in
+    (omega (arith, weight_node (whole_of c.self.inside.wrap c.deref-node.result.now) c.args.self.now (ap (λ (x : SyntaxNode). view_of (whole_of c.self.inside.wrap x)) c.deref-node.ensures ∙ c.self.view_is) (shape.Pair c.in-Pair.field-0 c.in-Pair.first c.in-Pair.rest) c.in-Pair.is), here.rest)
 
 pub kept::Kept::strip-returns-in-Pair : goal.kept::Kept::strip-returns-in-Pair
 kept::Kept::strip-returns-in-Pair t c =
     IfOk-weaker c.strip_list.result _ _
     (λ d h. h ∙ ap (λ s. datum.pair s (strip c.in-Pair.first) (strip c.in-Pair.rest)) c.in_ok-span.ensures
-    ∙ strip_node (whole_of c.self.inside.wrap c.deref-node.result.now) c.args.self.now (ap (λ (x : Node). view_of (whole_of c.self.inside.wrap x)) c.deref-node.ensures ∙ c.self.view_is) (shape.Pair c.in-Pair.field-0 c.in-Pair.first c.in-Pair.rest) c.in-Pair.is)
+    ∙ strip_node (whole_of c.self.inside.wrap c.deref-node.result.now) c.args.self.now (ap (λ (x : SyntaxNode). view_of (whole_of c.self.inside.wrap x)) c.deref-node.ensures ∙ c.self.view_is) (shape.Pair c.in-Pair.field-0 c.in-Pair.first c.in-Pair.rest) c.in-Pair.is)
     c.strip_list.ensures
 
 pub kept::Kept::strip-strip_elements-requires : goal.kept::Kept::strip-strip_elements-requires
 kept::Kept::strip-strip_elements-requires t c =
-    let here : IsVector c.in-Vector.field-0 c.in-Vector.elements = subst InShape c.in-Vector.is (subst (λ (n : Node). InShape n.shape) (sym c.deref-node.ensures) c.self.invariant) in
-    (omega (arith, weight_node (whole_of c.self.inside.wrap c.deref-node.result.now) c.args.self.now (ap (λ (x : Node). view_of (whole_of c.self.inside.wrap x)) c.deref-node.ensures ∙ c.self.view_is) (shape.Vector c.in-Vector.field-0 c.in-Vector.elements) c.in-Vector.is), here.elements)
+    let here : IsVector c.in-Vector.field-0 c.in-Vector.elements = subst InShape c.in-Vector.is (subst (λ (n : SyntaxNode). InShape n.shape) (sym c.deref-node.ensures) c.self.invariant) in
+    (omega (arith, weight_node (whole_of c.self.inside.wrap c.deref-node.result.now) c.args.self.now (ap (λ (x : SyntaxNode). view_of (whole_of c.self.inside.wrap x)) c.deref-node.ensures ∙ c.self.view_is) (shape.Vector c.in-Vector.field-0 c.in-Vector.elements) c.in-Vector.is), here.elements)
 
 pub kept::Kept::strip-returns-in_ok-items-in-Vector : goal.kept::Kept::strip-returns-in_ok-items-in-Vector
 kept::Kept::strip-returns-in_ok-items-in-Vector t c =
     ap (λ xs. datum.vector c.in_ok-span.span (datum.chain xs datum.nil)) c.shrink_to_fit.ensures.items ∙ ap (datum.vector c.in_ok-span.span) c.in_ok-items-in-Vector.ensures ∙ ap (λ s. datum.vector s (strip c.in-Vector.elements)) c.in_ok-span.ensures
-    ∙ strip_node (whole_of c.self.inside.wrap c.deref-node.result.now) c.args.self.now (ap (λ (x : Node). view_of (whole_of c.self.inside.wrap x)) c.deref-node.ensures ∙ c.self.view_is) (shape.Vector c.in-Vector.field-0 c.in-Vector.elements) c.in-Vector.is
+    ∙ strip_node (whole_of c.self.inside.wrap c.deref-node.result.now) c.args.self.now (ap (λ (x : SyntaxNode). view_of (whole_of c.self.inside.wrap x)) c.deref-node.ensures ∙ c.self.view_is) (shape.Vector c.in-Vector.field-0 c.in-Vector.elements) c.in-Vector.is
 
 pub strip::strip_along-loop-left-preserved : goal.strip::strip_along-loop-left-preserved
 strip::strip_along-loop-left-preserved t c =

@@ -5,36 +5,36 @@ use Rattle.sx_tree.specs.Changes.{changed}
 use Rattle.sx_tree.specs.Measures.{Fits}
 use Rattle.sx_syntax.specs.Kept.{IsElements, Parts}
 use Rattle.sx_syntax.specs.KeptView.{view_of, whole_of, InShape, IsVector}
-use Rattle.sx_syntax.specs.declared.kept.Node.{Node}
-use Rattle.sx_syntax.specs.declared.kept.Shape.TheVariants as shape
+use Rattle.sx_syntax.specs.declared.kept.SyntaxNode.{SyntaxNode}
+use Rattle.sx_syntax.specs.declared.kept.TreeShape.TheVariants as shape
 use Rattle.sx_syntax.proofs.NodeLemmas.{tree_node, weight_node, unspanned_node}
 use Rattle.sx_syntax.proofs.ListLemmas.{unspanned_elements, unspanned_fits, first_more, rest_less}
 use Rattle.sx_syntax.proofs.+unspanned.Goals as goal
 
 pub kept::Kept::unspanned_end-returns-in-Atom : goal.kept::Kept::unspanned_end-returns-in-Atom
 kept::Kept::unspanned_end-returns-in-Atom t c =
-    let same = tree_node (whole_of c.self.inside.wrap c.deref-node.result.now) c.args.self.now (ap (λ (x : Node). view_of (whole_of c.self.inside.wrap x)) c.deref-node.ensures ∙ c.self.view_is) (shape.Atom c.in-Atom.field-0) c.in-Atom.is in
+    let same = tree_node (whole_of c.self.inside.wrap c.deref-node.result.now) c.args.self.now (ap (λ (x : SyntaxNode). view_of (whole_of c.self.inside.wrap x)) c.deref-node.ensures ∙ c.self.view_is) (shape.Atom c.in-Atom.field-0) c.in-Atom.is in
     IfOk-weaker c.bare.result _ _ (λ k h. h ∙ ap (spanned None) (sym same) ∙ ap unspanned same) c.bare.ensures
 
 pub kept::Kept::unspanned_end-returns-in-Leaf : goal.kept::Kept::unspanned_end-returns-in-Leaf
 kept::Kept::unspanned_end-returns-in-Leaf t c =
-    let same = tree_node (whole_of c.self.inside.wrap c.deref-node.result.now) c.args.self.now (ap (λ (x : Node). view_of (whole_of c.self.inside.wrap x)) c.deref-node.ensures ∙ c.self.view_is) (shape.Leaf c.in-Leaf.field-0 c.in-Leaf.field-1) c.in-Leaf.is in
+    let same = tree_node (whole_of c.self.inside.wrap c.deref-node.result.now) c.args.self.now (ap (λ (x : SyntaxNode). view_of (whole_of c.self.inside.wrap x)) c.deref-node.ensures ∙ c.self.view_is) (shape.Leaf c.in-Leaf.field-0 c.in-Leaf.field-1) c.in-Leaf.is in
     IfOk-weaker c.bare-in-Leaf.result _ _ (λ k h. h ∙ ap (spanned None) (sym same) ∙ ap unspanned same) c.bare-in-Leaf.ensures
 
 pub kept::Kept::unspanned_end-unspanned-requires : goal.kept::Kept::unspanned_end-unspanned-requires
 kept::Kept::unspanned_end-unspanned-requires t c =
-    (omega (arith, weight_node (whole_of c.self.inside.wrap c.deref-node.result.now) c.args.self.now (ap (λ (x : Node). view_of (whole_of c.self.inside.wrap x)) c.deref-node.ensures ∙ c.self.view_is) (shape.Vector c.in-Vector.field-0 c.in-Vector.elements) c.in-Vector.is), tt)
+    (omega (arith, weight_node (whole_of c.self.inside.wrap c.deref-node.result.now) c.args.self.now (ap (λ (x : SyntaxNode). view_of (whole_of c.self.inside.wrap x)) c.deref-node.ensures ∙ c.self.view_is) (shape.Vector c.in-Vector.field-0 c.in-Vector.elements) c.in-Vector.is), tt)
 
 pub kept::Kept::unspanned_end-into_vector-requires : goal.kept::Kept::unspanned_end-into_vector-requires
 kept::Kept::unspanned_end-into_vector-requires t c =
-    let here : IsVector c.in-Vector.field-0 c.in-Vector.elements = subst InShape c.in-Vector.is (subst (λ (n : Node). InShape n.shape) (sym c.deref-node.ensures) c.self.invariant) in
+    let here : IsVector c.in-Vector.field-0 c.in-Vector.elements = subst InShape c.in-Vector.is (subst (λ (n : SyntaxNode). InShape n.shape) (sym c.deref-node.ensures) c.self.invariant) in
     subst IsElements (sym c.in_ok-list-in-Vector.ensures) (unspanned_elements c.in-Vector.elements here.elements)
 
 pub kept::Kept::unspanned_end-returns-in_ok-vector-in-Vector : goal.kept::Kept::unspanned_end-returns-in_ok-vector-in-Vector
 kept::Kept::unspanned_end-returns-in_ok-vector-in-Vector t c =
     IfOk-weaker c.under.result _ _
     (λ k h. h ∙ ap (changed c.self.inside.wrap) (c.in_ok-vector-in-Vector.ensures ∙ ap (vector None) c.in_ok-list-in-Vector.ensures)
-    ∙ unspanned_node (whole_of c.self.inside.wrap c.deref-node.result.now) c.args.self.now (ap (λ (x : Node). view_of (whole_of c.self.inside.wrap x)) c.deref-node.ensures ∙ c.self.view_is) (shape.Vector c.in-Vector.field-0 c.in-Vector.elements) c.in-Vector.is)
+    ∙ unspanned_node (whole_of c.self.inside.wrap c.deref-node.result.now) c.args.self.now (ap (λ (x : SyntaxNode). view_of (whole_of c.self.inside.wrap x)) c.deref-node.ensures ∙ c.self.view_is) (shape.Vector c.in-Vector.field-0 c.in-Vector.elements) c.in-Vector.is)
     c.under.ensures
 
 pub unspanned::unspanned_along-returns-in_default-clause-fits : goal.unspanned::unspanned_along-returns-in_default-clause-fits

@@ -1,6 +1,6 @@
 use Rattle.std.proofs.Common.{◌≡◌, drop}
 use Rattle.sx_check_grammar.specs.Scan.{scanned}
-use Rattle.sx_check_grammar.specs.declared.names.Place.TheVariants.{Begin}
+use Rattle.sx_check_grammar.specs.declared.names.NamePlace.TheVariants.{Begin}
 use Rattle.sx_check_grammar.proofs.names.is_name.Given as goal
 
 abbrev pub invariant-loop-byte : goal.invariant-loop-byte

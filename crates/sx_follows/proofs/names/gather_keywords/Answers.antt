@@ -5,12 +5,12 @@ use Rattle.sx_core.specs.declared.binding.Binding.{Binding}
 use Rattle.sx_core_laws.specs.Follows.{keyword_of}
 use Rattle.sx_core_laws.specs.Parts.{parts}
 use Rattle.sx_well_made.proofs.Lists.{noted_on}
-use Rattle.sx_follows.specs.Pieces.{keyword_in, parts_in}
+use Rattle.sx_follows.specs.Pieces.{expand_transformer_in, parts_in}
 use Rattle.sx_follows.proofs.CodeLemmas.{keyword_parts_more}
 use Rattle.sx_follows.proofs.names.gather_keywords.Goals as goal
 
 pub loop-row-preserved : goal.loop-row-preserved
 loop-row-preserved c =
-    noted_on (λ (bs : List (Label × Binding)). flat_map parts (flat_map keyword_of bs)) (λ (b : Label × Binding). parts_in (keyword_in b.1)) keyword_parts_more
+    noted_on (λ (bs : List (Label × Binding)). flat_map parts (flat_map keyword_of bs)) (λ (b : Label × Binding). parts_in (expand_transformer_in b.1)) keyword_parts_more
     c.args.bindings.now c.loop-row.row-index c.row-item.result
     c.loop-row.all c.gather_keyword.new.all _ c.loop-row-test.true c.row-item.is c.in_ok-gather_keyword.ensures c.loop-row.invariant

@@ -3,7 +3,7 @@ use Rattle.std.proofs.lemmas.Result.{err_from_is_err_and}
 use Rattle.sx_tree.specs.Tree.{chain, nil}
 use Rattle.sx_tree.specs.Measures.{size}
 use Rattle.sx_syntax.specs.Opens.{Opens}
-use Rattle.sx_syntax.specs.declared.syn.Opened.TheVariants as opened
+use Rattle.sx_syntax.specs.declared.syn.OpenedTree.TheVariants as opened
 use Rattle.sx_pattern.specs.Compile.{seen}
 use Rattle.sx_pattern.proofs.Levels.{pattern_pair, pattern_vector}
 use Rattle.sx_pattern.proofs.Sizes.{elements_within, tail_smaller, first_smaller, rest_within, behind_fewer, behind_within}

@@ -1,11 +1,11 @@
 use Rattle.std.proofs.Common.{◌≡◌, ◌∙◌, sym, ap, length, arith}
 use Rattle.std.specs.Prelude.{◌-◌}
 use Rattle.sx_syntax.specs.Opens.{Opens}
-use Rattle.sx_syntax.specs.declared.syn.Opened.TheVariants as opened
+use Rattle.sx_syntax.specs.declared.syn.OpenedTree.TheVariants as opened
 use Rattle.sx_shapes.specs.Lists.{elements}
 use Rattle.sx_quasi.specs.Words.{word_of}
 use Rattle.sx_quasi.specs.QuasiSyntax.{seen, escapes}
-use Rattle.sx_quasi.specs.declared.word.Word.{Word}
+use Rattle.sx_quasi.specs.declared.word.QuasiWord.{QuasiWord}
 use Rattle.sx_quasi.specs.declared.word.Family.TheVariants as family
 use Rattle.sx_quasi.proofs.InsertLevels.{made_vector, found_flat, found_split}
 use Rattle.sx_quasi.proofs.Sizes.{tree_size, some_size, list_within, vector_within, some_list, split_size, split_long, last_some}
@@ -42,7 +42,7 @@ list_at-returns t c =
     let are : c.as_slice-forms.result.now ≡ elements c.args.form.now = c.as_slice-forms.ensures ∙ c.in_ok-parts.ensures.0 in
     rw (found_flat (seen c.args.context.now) c.args.level c.args.inserts.now c.args.form.now c.requires c.as_slice-forms.result.now c.in_ok-parts.parts.tail c.in_ok-ends.ends
     are c.in_ok-parts.ensures.1 c.in_ok-ends.ensures
-    (c.if-escapes.ensures ∙ ap (λ (x : Word). escapes x c.in_ok-ends.ends c.as_slice-forms.result.now) c.in_ok-head.ensures) (sym c.if-branch.false ∙ c.in_ok-splits.ensures))
+    (c.if-escapes.ensures ∙ ap (λ (x : QuasiWord). escapes x c.in_ok-ends.ends c.as_slice-forms.result.now) c.in_ok-head.ensures) (sym c.if-branch.false ∙ c.in_ok-splits.ensures))
     c.flat_list.ensures
 
 pub list_at-split_list-requires : goal.list_at-split_list-requires
@@ -59,7 +59,7 @@ list_at-returns-then-branch t c =
     rw (
       found_split (seen c.args.context.now) c.args.level c.args.inserts.now c.args.form.now c.requires c.as_slice-forms.result.now c.in_ok-parts.parts.tail c.in_ok-ends.ends
           are c.in_ok-parts.ensures.1 c.in_ok-ends.ensures c.in_ok-rest.rest
-          (c.if-escapes.ensures ∙ ap (λ (x : Word). escapes x c.in_ok-ends.ends c.as_slice-forms.result.now) c.in_ok-head.ensures) (sym c.if-branch.true ∙ c.in_ok-splits.ensures) c.in_ok-rest.ensures,
+          (c.if-escapes.ensures ∙ ap (λ (x : QuasiWord). escapes x c.in_ok-ends.ends c.as_slice-forms.result.now) c.in_ok-head.ensures) (sym c.if-branch.true ∙ c.in_ok-splits.ensures) c.in_ok-rest.ensures,
       ← c.split_at.ensures.front,
       ← c.split_at.ensures.back,
     )

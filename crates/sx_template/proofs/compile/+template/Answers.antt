@@ -1,9 +1,9 @@
 use Rattle.std.proofs.Common.{◌≡◌, ◌∷◌, ◌∙◌, Ok, Some, drop, ap, sym, arith}
 use Rattle.std.proofs.lemmas.Result.{err_from_is_err_and}
 use Rattle.sx_syntax.specs.Opens.{Opens}
-use Rattle.sx_syntax.specs.declared.syn.Opened.TheVariants as opened
+use Rattle.sx_syntax.specs.declared.syn.OpenedTree.TheVariants as opened
 use Rattle.sx_pattern.proofs.Sizes.{first_smaller, rest_within}
-use Rattle.sx_template.specs.Compile.{Context, seen, escaped_form, first_label, forms_walked}
+use Rattle.sx_template.specs.Compile.{TemplateScope, seen, escaped_form, first_label, forms_walked}
 use Rattle.sx_template.proofs.Labels.{dots_within, behind_within}
 use Rattle.sx_template.proofs.Levels.{made_leaf, made_vector, escaped_gives, escaped_stops}
 use Rattle.sx_template.proofs.Walks.{forms_on, forms_stop}
@@ -17,7 +17,7 @@ elements-item-requires t c =
 
 pub list_template-returns-in-Some : goal.list_template-returns-in-Some
 list_template-returns-in-Some t c =
-    let context : Context = seen c.args.context.now in
+    let context : TemplateScope = seen c.args.context.now in
     let found : Some c.in-Some.inner.now ≡ escaped_form c.in_ok-first.first c.args.escaped c.as_slice-2.result.now c.in_ok-ends.ends = rw c.in-Some.is at c.escaped_form.ensures in
     escaped_gives context c.args.escaped c.args.under c.args.form.now c.requires c.in-Some.inner.now c.in_ok-first.first c.as_slice-2.result.now c.in_ok-parts.parts.tail c.in_ok-ends.ends c.in_ok-made.made
     (c.in_ok-first.ensures ∙ ap (first_label c.args.context.now.frames.now) (c.as_slice.ensures ∙ sym c.as_slice-2.ensures)) (c.as_slice-2.ensures ∙ c.in_ok-parts.ensures.0) c.in_ok-parts.ensures.1 c.in_ok-ends.ensures found c.in_ok-made.ensures
@@ -25,7 +25,7 @@ list_template-returns-in-Some t c =
 
 pub list_template-returns-in_err-made : goal.list_template-returns-in_err-made
 list_template-returns-in_err-made t c =
-    let context : Context = seen c.args.context.now in
+    let context : TemplateScope = seen c.args.context.now in
     let p = err_from_is_err_and c.from_residual-in_err-made.result c.from_residual-in_err-made.ensures.1 in
     let found : Some c.in-Some.inner.now ≡ escaped_form c.in_ok-first.first c.args.escaped c.as_slice-2.result.now c.in_ok-ends.ends = rw c.in-Some.is at c.escaped_form.ensures in
     rw (p.1, p.2)
@@ -34,13 +34,13 @@ list_template-returns-in_err-made t c =
 
 pub template-returns-in-Symbol : goal.template-returns-in-Symbol
 template-returns-in-Symbol t c =
-    let context : Context = seen c.args.context.now in
+    let context : TemplateScope = seen c.args.context.now in
     let o : Opens (opened.Symbol c.in-Symbol.symbol) c.args.form.now = rw c.in-Symbol.is at c.in_ok-open.ensures in
     rw (made_leaf context c.args.escaped c.args.under c.in-Symbol.symbol c.args.form.now o) c.leaf_made.ensures
 
 pub template-returns-in-Vector : goal.template-returns-in-Vector
 template-returns-in-Vector t c =
-    let context : Context = seen c.args.context.now in
+    let context : TemplateScope = seen c.args.context.now in
     let o : Opens (opened.Vector c.in-Vector.forms) c.args.form.now = rw c.in-Vector.is at c.in_ok-open.ensures in
     rw (made_vector context c.args.escaped c.args.under c.in-Vector.forms c.args.form.now o, ← c.deref.ensures.value) c.vector_template.ensures
 
@@ -49,7 +49,7 @@ elements-split_at-requires t c = omega (arith, c.in_ok-count.ensures.count, dots
 
 pub elements-returns-in_err-made : goal.elements-returns-in_err-made
 elements-returns-in_err-made t c =
-    let context : Context = seen c.args.context.now in
+    let context : TemplateScope = seen c.args.context.now in
     let e : c.loop-form.left.now ≡ c.in-Some.form.now ∷ c.in-Some.behind.now = c.in-Some.ensures.cases.0 in
     let p = err_from_is_err_and c.from_residual-in_err-made.result c.from_residual-in_err-made.ensures.1 in
     rw (p.1, p.2)
@@ -58,7 +58,7 @@ elements-returns-in_err-made t c =
 
 pub elements-loop-form-preserved : goal.elements-loop-form-preserved
 elements-loop-form-preserved t c =
-    let context : Context = seen c.args.context.now in
+    let context : TemplateScope = seen c.args.context.now in
     let e : c.loop-form.left.now ≡ c.in-Some.form.now ∷ c.in-Some.behind.now = c.in-Some.ensures.cases.0 in
     let rest = rest_within c.loop-form.left.now c.in-Some.form.now c.in-Some.behind.now e in
     record {

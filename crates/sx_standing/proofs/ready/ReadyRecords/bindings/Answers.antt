@@ -1,5 +1,5 @@
 use Rattle.std.proofs.Common.{List, Option, IfSome, ap, subst, ◌∙◌}
-use Rattle.sx_core.specs.declared.record.LibRecord.{LibRecord}
+use Rattle.sx_core.specs.declared.record.CompiledLibrary.{CompiledLibrary}
 use Rattle.sx_standing.specs.Ready.{AreReady, needed_records}
 use Rattle.sx_standing.specs.Start.{bindings_of}
 use Rattle.sx_standing.specs.declared.ready.Tables.{Tables}
@@ -12,4 +12,4 @@ returns c =
     let rs = c.self.inside.records.items in
     let ready = subst (λ (o : Option Tables). IfSome o (λ t. AreReady rs t.frames.value t.bindings.value)) c.in-Some.is c.self.invariant in
     c.over.ensures.bindings ∙ bindings-ready ms rs c.in_ok-shared.shared.value (c.in_ok-shared.ensures.cases ∙ ready.1)
-    ∙ ap (λ (xs : List LibRecord). bindings_of (needed_records ms xs)) c.self.view_is
+    ∙ ap (λ (xs : List CompiledLibrary). bindings_of (needed_records ms xs)) c.self.view_is

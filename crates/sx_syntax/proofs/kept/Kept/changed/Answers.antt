@@ -1,6 +1,6 @@
 use Rattle.std.proofs.Common.{◌≡◌, ◌∙◌, ap, refl, ◌∷◌, []}
 use Rattle.sx_syntax.specs.KeptView.{view_of, whole_of}
-use Rattle.sx_syntax.specs.declared.kept.Node.{Node}
+use Rattle.sx_syntax.specs.declared.kept.SyntaxNode.{SyntaxNode}
 use Rattle.sx_syntax.proofs.NodeLemmas.{under_node}
 use Rattle.sx_syntax.proofs.kept.Kept.changed.Goals as goal
 
@@ -8,5 +8,5 @@ pub returns : goal.returns
 returns c =
     let n = whole_of c.self.inside.wrap c.self.inside.node.value in
     let same : c.in_ok-node.node.value ≡ c.self.inside.node.value = c.in_ok-node.ensures.cases in
-    ap (λ (x : Node). view_of (whole_of c.in_ok-wrap.wrap x)) same
+    ap (λ (x : SyntaxNode). view_of (whole_of c.in_ok-wrap.wrap x)) same
     ∙ under_node n c.args.self.now c.self.view_is c.in_ok-wrap.wrap (c.args.change ∷ []) n.span n.shape c.in_ok-wrap.ensures refl refl

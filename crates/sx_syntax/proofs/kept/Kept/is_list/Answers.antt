@@ -1,18 +1,18 @@
 use Rattle.std.proofs.Common.{ap, ◌∙◌}
 use Rattle.sx_syntax.specs.KeptView.{view_of, whole_of}
-use Rattle.sx_syntax.specs.declared.kept.Node.{Node}
-use Rattle.sx_syntax.specs.declared.kept.Shape.TheVariants as shape
+use Rattle.sx_syntax.specs.declared.kept.SyntaxNode.{SyntaxNode}
+use Rattle.sx_syntax.specs.declared.kept.TreeShape.TheVariants as shape
 use Rattle.sx_syntax.proofs.NodeLemmas.{list_node}
 use Rattle.sx_syntax.proofs.kept.Kept.is_list.Goals as goal
 
 pub returns-in-Atom : goal.returns-in-Atom
-returns-in-Atom c = c.is_nil.ensures ∙ list_node (whole_of c.self.inside.wrap c.deref-node.result.now) c.args.self.now (ap (λ (x : Node). view_of (whole_of c.self.inside.wrap x)) c.deref-node.ensures ∙ c.self.view_is) (shape.Atom c.in-Atom.atom) c.in-Atom.is
+returns-in-Atom c = c.is_nil.ensures ∙ list_node (whole_of c.self.inside.wrap c.deref-node.result.now) c.args.self.now (ap (λ (x : SyntaxNode). view_of (whole_of c.self.inside.wrap x)) c.deref-node.ensures ∙ c.self.view_is) (shape.Atom c.in-Atom.atom) c.in-Atom.is
 
 pub returns-in-Leaf : goal.returns-in-Leaf
-returns-in-Leaf c = list_node (whole_of c.self.inside.wrap c.deref-node.result.now) c.args.self.now (ap (λ (x : Node). view_of (whole_of c.self.inside.wrap x)) c.deref-node.ensures ∙ c.self.view_is) (shape.Leaf c.in-Leaf.field-0 c.in-Leaf.field-1) c.in-Leaf.is
+returns-in-Leaf c = list_node (whole_of c.self.inside.wrap c.deref-node.result.now) c.args.self.now (ap (λ (x : SyntaxNode). view_of (whole_of c.self.inside.wrap x)) c.deref-node.ensures ∙ c.self.view_is) (shape.Leaf c.in-Leaf.field-0 c.in-Leaf.field-1) c.in-Leaf.is
 
 pub returns-in-Pair : goal.returns-in-Pair
-returns-in-Pair c = list_node (whole_of c.self.inside.wrap c.deref-node.result.now) c.args.self.now (ap (λ (x : Node). view_of (whole_of c.self.inside.wrap x)) c.deref-node.ensures ∙ c.self.view_is) (shape.Pair c.in-Pair.field-0 c.in-Pair.field-1 c.in-Pair.field-2) c.in-Pair.is
+returns-in-Pair c = list_node (whole_of c.self.inside.wrap c.deref-node.result.now) c.args.self.now (ap (λ (x : SyntaxNode). view_of (whole_of c.self.inside.wrap x)) c.deref-node.ensures ∙ c.self.view_is) (shape.Pair c.in-Pair.field-0 c.in-Pair.field-1 c.in-Pair.field-2) c.in-Pair.is
 
 pub returns-in-Vector : goal.returns-in-Vector
-returns-in-Vector c = list_node (whole_of c.self.inside.wrap c.deref-node.result.now) c.args.self.now (ap (λ (x : Node). view_of (whole_of c.self.inside.wrap x)) c.deref-node.ensures ∙ c.self.view_is) (shape.Vector c.in-Vector.field-0 c.in-Vector.field-1) c.in-Vector.is
+returns-in-Vector c = list_node (whole_of c.self.inside.wrap c.deref-node.result.now) c.args.self.now (ap (λ (x : SyntaxNode). view_of (whole_of c.self.inside.wrap x)) c.deref-node.ensures ∙ c.self.view_is) (shape.Vector c.in-Vector.field-0 c.in-Vector.field-1) c.in-Vector.is

@@ -1,11 +1,11 @@
 use Rattle.std.proofs.Common.{◌∙◌, ◌++◌, ◌∷◌, [], ap, sym}
 use Rattle.sx_tree.specs.Context.{blank, act, acts}
 use Rattle.sx_tree.proofs.ContextLaws.{acts-more}
-use Rattle.sx_syntax.specs.declared.wrap.Link.{Link}
+use Rattle.sx_syntax.specs.declared.wrap.ChangeLink.{ChangeLink}
 use Rattle.sx_syntax.proofs.wrap.Wrap.linked.Goals as goal
 
 pub invariant_of-result : goal.invariant_of-result
 invariant_of-result c =
     let made = c.in_ok-link.ensures.ok in
-    ap (λ (l : Link). l.made) made ∙ c.requires ∙ ap (λ xs. act c.args.change (acts xs blank)) (sym c.in_ok-before.ensures)
-    ∙ sym (acts-more c.in_ok-before.before c.args.change blank) ∙ sym (ap (λ (l : Link). acts (l.before ++ l.change ∷ []) blank) made)
+    ap (λ (l : ChangeLink). l.made) made ∙ c.requires ∙ ap (λ xs. act c.args.change (acts xs blank)) (sym c.in_ok-before.ensures)
+    ∙ sym (acts-more c.in_ok-before.before c.args.change blank) ∙ sym (ap (λ (l : ChangeLink). acts (l.before ++ l.change ∷ []) blank) made)

@@ -4,7 +4,7 @@ use Rattle.sx_tree.specs.Context.{act, acts}
 use Rattle.sx_tree.specs.declared.change.Change.TheVariants.{Enter}
 use Rattle.sx_tree.proofs.ContextLaws.{acts-more}
 use Rattle.sx_syntax.specs.Wrap.{pending}
-use Rattle.sx_syntax.specs.declared.wrap.Link.{Link}
+use Rattle.sx_syntax.specs.declared.wrap.ChangeLink.{ChangeLink}
 use Rattle.sx_syntax.proofs.WrapLemmas.{acts-cancelled}
 use Rattle.sx_syntax.proofs.wrap.Wrap.with.Goals as goal
 
@@ -13,7 +13,7 @@ returns-then-same c =
     let link = c.deref-link.result.now in
     let same = c.same.ensures.0 c.if-same.true in
     let whole : c.args.self.now ≡ link.before ++ Enter c.in-Leave.mark ∷ [] =
-    sym c.self.view_is ∙ ap pending c.in-Some.is ∙ ap (λ (l : Link). l.before ++ l.change ∷ []) (sym c.deref-link.ensures)
+    sym c.self.view_is ∙ ap pending c.in-Some.is ∙ ap (λ (l : ChangeLink). l.before ++ l.change ∷ []) (sym c.deref-link.ensures)
     ∙ ap (λ x. link.before ++ x ∷ []) (c.in-Enter.is ∙ ap Enter same) in
     IfOk-weaker c.share.result _ _
     (λ w h s. ap (λ xs. acts xs s) h ∙ acts-cancelled c.args.self.now link.before c.in-Leave.mark c.in-Leave.field-1 s whole ∙ ap (λ x. act x (acts c.args.self.now s)) (sym c.in-Leave.is))
