@@ -131,25 +131,25 @@ def pieces(names):
     """Each piece: its file below crates/, a pattern whose first group stands before it and whose last stands behind, and its text."""
     code, spec = is_keyword(names)
     derived = names.derived()
-    yield 'sx_base/src/op/names.rt', r'(`UNDERSCORE`\.\n)(.*)(\Z)', constants(names)
-    yield 'sx_base/src/op.rt', r'(pub const NAME_COUNT: u16 = )(\d+)(;)', str(len(names.rows))
-    yield 'sx_base/src/op.rt', r'(pub const OP_NAMES: [^=]* = \[\n)(.*?)(\];)', ''.join(f'    "{text}",\n' for text in names.texts)
-    yield 'sx_base/src/op.rt', r'(let n = self\.0;\n)(.*?)(\n    \})', code
-    yield ('sx_base/specs/OpNames.antt', r'(op_rows =\n)(.*?)(\n\n|\Z)',
+    yield 'base_data/src/op/names.rt', r'(`UNDERSCORE`\.\n)(.*)(\Z)', constants(names)
+    yield 'base_data/src/op.rt', r'(pub const NAME_COUNT: u16 = )(\d+)(;)', str(len(names.rows))
+    yield 'base_data/src/op.rt', r'(pub const OP_NAMES: [^=]* = \[\n)(.*?)(\];)', ''.join(f'    "{text}",\n' for text in names.texts)
+    yield 'base_data/src/op.rt', r'(let n = self\.0;\n)(.*?)(\n    \})', code
+    yield ('base_data/specs/OpNames.antt', r'(op_rows =\n)(.*?)(\n\n|\Z)',
            ' ∷\n'.join(f'    (names.{c}, codes "{t}")' for c, t in zip(names.constants, names.texts)) + ' ∷ []')
-    yield 'sx_base/specs/Op.antt', r'(is_keyword n =\n)(.*?)(\n\n|\n\Z)', '    ' + spec
+    yield 'base_data/specs/Op.antt', r'(is_keyword n =\n)(.*?)(\n\n|\n\Z)', '    ' + spec
     for name, (first, last) in run_constants(names).items():
         end = names.before(last + 1, None)
-        yield ('sx_builtin/src/library.rt', rf'(const {name}: Run = Run \{{\n)(.*?)(\n\}};)',
+        yield ('load_builtin/src/library.rt', rf'(const {name}: Run = Run \{{\n)(.*?)(\n\}};)',
                f'    from: names::{names.constants[first]},\n    to: ' + (f'names::{end},' if end else 'NAME_COUNT,'))
-    yield 'sx_builtin/specs/Libraries.antt', r'(library_runs : Library → List Run\n)(.*?)(\n\n)', library_runs(names)
-    yield ('sx_builtin/src/exports.rt', r'(pub const DERIVED: )(.*?)(;\n\n)', f'[Option<u16>; {len(derived)}] = [\n'
+    yield 'load_builtin/specs/Libraries.antt', r'(library_runs : Library → List Run\n)(.*?)(\n\n)', library_runs(names)
+    yield ('load_builtin/src/exports.rt', r'(pub const DERIVED: )(.*?)(;\n\n)', f'[Option<u16>; {len(derived)}] = [\n'
            + ''.join('    None,\n' if n is None else f'    Some(names::{names.constants[n]}),\n' for n in derived) + ']')
-    yield ('sx_builtin/specs/Exports.antt', r'(derived =\n)(.*?)(\n\n)',
+    yield ('load_builtin/specs/Exports.antt', r'(derived =\n)(.*?)(\n\n)',
            '    ' + ' ∷ '.join('None' if n is None else f'Some names.{names.constants[n]}' for n in derived) + ' ∷ []')
     for table in TABLES:
         count, items = primitives(names, table)
-        yield (f'sx_prims/src/primitive/{table}.rt', rf'(pub const {table.upper()}: )(.*?)(;\n*\Z)', f'[Primitive; {count}] = [\n{items}\n]')
+        yield (f'eval_prims/src/primitive/{table}.rt', rf'(pub const {table.upper()}: )(.*?)(;\n*\Z)', f'[Primitive; {count}] = [\n{items}\n]')
 
 
 def plain(text):

@@ -1,16 +1,16 @@
 //! `core-check`: whether a file is a core text.
 //!
 //! The program takes the path of a file and writes `yes`, or `no` and why not, as `no: line 2`; `docs/USING.md` has all answers.
-//! What it promises stands in `sx_check`, which it calls over the system's files and streams.
+//! What it promises stands in `check_verdict`, which it calls over the system's files and streams.
 #![tactic(auto)]
 
 use std::alloc::Global;
 use std::io::ErrorKind;
 use std::process::ExitCode;
 use std::{env, io};
-use sx_check::run::check_run;
-use sx_check::status::CheckStatus;
-use sx_outside::{HostFiles, HostSink};
+use check_verdict::run::check_run;
+use check_verdict::status::CheckStatus;
+use base_outside::{HostFiles, HostSink};
 
 fn arguments(rt: &HostRuntime, alloc: Global) -> io::Result<Vec<String>> {
     let mut words = Vec::new(alloc);

@@ -11,7 +11,7 @@
 //!
 //! and a program at fault gets the line of its first fault, as `p.sps:1:25: 21 Unbound: x`.
 //!
-//! What a run promises stands in `sx_run`. This crate stands topmost: `system` calls it over the system's files and
+//! What a run promises stands in `run_top`. This crate stands topmost: `system` calls it over the system's files and
 //! streams, with all primitives.
 #![tactic(auto)]
 
@@ -22,7 +22,7 @@ use std::alloc::Global;
 use std::io::ErrorKind;
 use std::process::ExitCode;
 use std::{env, io};
-use sx_run::status::Status;
+use run_top::status::Status;
 
 fn arguments(rt: &HostRuntime, alloc: Global) -> io::Result<Vec<String>> {
     let mut words = Vec::new(alloc);

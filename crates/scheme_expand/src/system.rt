@@ -5,32 +5,32 @@ ghost use Rattle.std.specs.Prelude.{◌≡◌, ◌<◌};
 use std::alloc::Global;
 use std::marker::Brand;
 use std::sync::ledger::{Blank, Book, Ledger};
-use sx_base::memory::Memory;
-use sx_base::steps::Steps;
-use sx_expand::tally::Tally;
-use sx_fuel::fuel::{Counted, Fuel};
-use sx_ops::basics::basics;
-use sx_ops::characters::characters;
-use sx_ops::data::{data, trees};
-use sx_ops::equality::equality;
-use sx_ops::lists::{appended, gathered, indexed, lists};
-use sx_ops::numbers::numbers;
-use sx_ops::parts::{parts, unpacked};
-use sx_ops::raised::raising;
-use sx_ops::strings::{number_strings, string_comparisons, strings};
-use sx_ops::syntax::{identifiers, temporaries};
-use sx_outside::{HostFiles, HostSink, HostStore};
-use sx_prims::rows::{
+use base_data::memory::Memory;
+use base_data::steps::Steps;
+use expand_forms::tally::Tally;
+use base_fuel::fuel::{Counted, Fuel};
+use eval_ops::basics::basics;
+use eval_ops::characters::characters;
+use eval_ops::data::{data, trees};
+use eval_ops::equality::equality;
+use eval_ops::lists::{appended, gathered, indexed, lists};
+use eval_ops::numbers::numbers;
+use eval_ops::parts::{parts, unpacked};
+use eval_ops::raised::raising;
+use eval_ops::strings::{number_strings, string_comparisons, strings};
+use eval_ops::syntax::{identifiers, temporaries};
+use base_outside::{HostFiles, HostSink, HostStore};
+use eval_prims::rows::{
     APPENDED, BASICS, CHARACTERS, DATA, EQUALITY, GATHERED, IDENTIFIERS, INDEXED, LISTS,
     NUMBER_STRINGS, NUMBERS, PARTS, RAISING, STRING_COMPARISONS, STRINGS, TEMPORARIES, TREES,
     UNPACKED,
 };
-use sx_prims::table::{PrimRow, PrimTable};
-use sx_run::inputs::Inputs;
-use sx_run::status::Status;
-use sx_run::top;
-use sx_run::top::Outside;
-use sx_standing::means::Counts;
+use eval_prims::table::{PrimRow, PrimTable};
+use run_top::inputs::Inputs;
+use run_top::status::Status;
+use run_top::top;
+use run_top::top::Outside;
+use expand_standing::means::Counts;
 
 // At most so many libraries are expanded in one run.
 const MOST_EXPANSIONS: u64 = 1_000_000_000;

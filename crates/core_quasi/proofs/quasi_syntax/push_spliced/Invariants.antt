@@ -1,0 +1,9 @@
+use Rattle.std.proofs.Common.{◌≡◌, length}
+use Rattle.core_quasi.specs.QuasiSyntax.{spliced}
+use Rattle.core_quasi.proofs.quasi_syntax.push_spliced.Given as goal
+
+abbrev pub invariant-loop-form : goal.invariant-loop-form
+invariant-loop-form l = spliced l.dots l.trees l.left l.inserts ≡ spliced l.dots l.initial.trees l.forms l.initial.inserts
+
+abbrev pub decreases-loop-form : goal.decreases-loop-form
+decreases-loop-form l = length l.left

@@ -1,0 +1,8 @@
+use Rattle.std.proofs.Common.{◌≡◌, ◌-◌}
+use Rattle.base_bytes.specs.Codec.{some_get}
+use Rattle.core_codec.specs.Records as spell
+use Rattle.base_bytes.proofs.Loop.{with_front}
+use Rattle.core_record_bytes.proofs.lines.some_lines.Given as goal
+
+abbrev pub invariant-loop : goal.invariant-loop
+invariant-loop l = with_front l.list.value.items (some_get (spell.line).get (l.count - l.counter) l.rest) ≡ some_get (spell.line).get l.count l.bytes

@@ -1,0 +1,159 @@
+//! Rows of frames as bytes.
+
+ghost use Rattle.std.specs.Prelude.{◌≡◌, IfOk, OnOk, option_map};
+ghost use Rattle.base_bytes.specs.Codec.{checked, listed, some_get};
+ghost use Rattle.base_bytes.specs.Puts.{Puts, PutsIf};
+ghost use Rattle.core_codec.specs.Contexts.{frame_row};
+ghost use Rattle.core_codec.specs.Records as spell;
+
+use std::alloc::Global;
+use std::cmp::Ordering;
+use base_data::memory::Memory;
+use base_data::name::{FrameNo, Label};
+use base_data::symbol::Symbol;
+use base_bytes::libraries::RecentLibraries;
+use base_bytes::numbers::{put_u64, u64_at};
+use base_bytes::spelled::Spelled;
+use stx_tree::frame_row::FrameRow;
+use core_tree_bytes::contexts::{marks_at, put_marks};
+
+#[tactic(auto, unfolding(core_codec::specs::Contexts::frame_row))]
+fn put_row(out: &mut Vec<u8>, alloc: Global, row: &FrameRow) -> Result<(), Memory>
+    ensures { OnOk result (Puts frame_row row.now out.old.items out.new.items) }
+{
+    row.frame.put(out)?;
+    row.symbol.put(out)?;
+    put_marks(out, alloc, &row.marks)?;
+    row.label.put(out)
+}
+
+#[tactic(auto, unfolding(core_codec::specs::Contexts::frame_row))]
+fn row_at<'a>(
+    libraries: &mut RecentLibraries,
+    bytes: &'a [u8],
+) -> Result<Option<(FrameRow, &'a [u8])>, Memory>
+    ensures { IfOk result (λ o. option_map (λ x. (x.0, x.1.now)) o ≡ frame_row.get bytes.now) }
+{
+    let Some((frame, rest)) = FrameNo::at(libraries, bytes)? else {
+        return Ok(None);
+    };
+    let Some((symbol, rest)) = Symbol::at(libraries, rest)? else {
+        return Ok(None);
+    };
+    let Some((marks, rest)) = marks_at(libraries, rest)? else {
+        return Ok(None);
+    };
+    let Some((label, rest)) = Label::at(libraries, rest)? else {
+        return Ok(None);
+    };
+    let row = FrameRow {
+        frame,
+        symbol,
+        marks,
+        label,
+    };
+    Ok(Some((row, rest)))
+}
+
+/// Whether no row's frame comes before that of the row before it.
+fn rows_rise(rows: &[FrameRow]) -> bool
+    ensures { result ≡ spell.rows_rise rows.now }
+{
+    match rows {
+        [] => true,
+        [first, rest @ ..] => rows_rise_on(&first.frame, rest),
+    }
+}
+
+fn is_at_most(ordering: Ordering) -> bool
+    ensures { result ≡ spell.is_at_most ordering }
+{
+    match ordering {
+        Ordering::Less => true,
+        Ordering::Equal => true,
+        Ordering::Greater => false,
+    }
+}
+
+fn rows_rise_on(frame: &FrameNo, rows: &[FrameRow]) -> bool
+    ensures { result ≡ spell.rows_rise_on frame.now rows.now }
+{
+    let mut before = frame;
+    let mut left = rows;
+    while let [next, rest @ ..] = left {
+        if !is_at_most(before.0.cmp(&next.frame.0)) {
+            return false;
+        }
+        before = &next.frame;
+        left = rest;
+    }
+    true
+}
+
+/// Adds rows, which rise by their frames.
+pub(crate) fn put_rows(out: &mut Vec<u8>, alloc: Global, rows: &[FrameRow]) -> Result<bool, Memory>
+    ensures { IfOk result (λ b. PutsIf (checked spell.rows_rise (listed frame_row)) rows.now out.old.items out.new.items b) }
+{
+    if !rows_rise(rows) {
+        return Ok(false);
+    }
+    put_all(out, alloc, rows)?;
+    Ok(true)
+}
+
+fn put_all(out: &mut Vec<u8>, alloc: Global, rows: &[FrameRow]) -> Result<(), Memory>
+    ensures { OnOk result (Puts (listed frame_row) rows.now out.old.items out.new.items) }
+{
+    put_u64(out, rows.len() as u64)?;
+    for row in rows {
+        put_row(out, alloc, row)?;
+    }
+    Ok(())
+}
+
+/// The rows that the bytes begin with, where they rise by their frames, and the bytes behind them.
+pub(crate) fn rows_at<'a>(
+    libraries: &mut RecentLibraries,
+    bytes: &'a [u8],
+) -> Result<Option<(Vec<FrameRow>, &'a [u8])>, Memory>
+    ensures { IfOk result (λ o. option_map (λ x. (x.0.items, x.1.now)) o ≡ (checked spell.rows_rise (listed frame_row)).get bytes.now) }
+{
+    let Some((rows, rest)) = all_at(libraries, bytes)? else {
+        return Ok(None);
+    };
+    if !rows_rise(&rows) {
+        return Ok(None);
+    }
+    Ok(Some((rows, rest)))
+}
+
+fn all_at<'a>(
+    libraries: &mut RecentLibraries,
+    bytes: &'a [u8],
+) -> Result<Option<(Vec<FrameRow>, &'a [u8])>, Memory>
+    ensures { IfOk result (λ o. option_map (λ x. (x.0.items, x.1.now)) o ≡ (listed frame_row).get bytes.now) }
+{
+    match u64_at(bytes) {
+        Some((count, rest)) => some_rows(libraries, count, rest),
+        None => Ok(None),
+    }
+}
+
+fn some_rows<'a>(
+    libraries: &mut RecentLibraries,
+    count: u64,
+    bytes: &'a [u8],
+) -> Result<Option<(Vec<FrameRow>, &'a [u8])>, Memory>
+    ensures { IfOk result (λ o. option_map (λ x. (x.0.items, x.1.now)) o ≡ some_get frame_row.get count bytes.now) }
+{
+    let mut list = Vec::new(libraries.alloc());
+    let mut rest = bytes;
+    for _ in 0..count {
+        let Some((row, after)) = row_at(libraries, rest)? else {
+            return Ok(None);
+        };
+        list.push(row)?;
+        rest = after;
+    }
+    Ok(Some((list, rest)))
+}

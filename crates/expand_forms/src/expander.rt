@@ -1,0 +1,306 @@
+//! An expander: what has the state of one library's expansion.
+
+ghost use Rattle.std.specs.Prelude.{◌≡◌, ◌+◌, IfOk, OnOk, OnErr, true, false, Ok};
+ghost use Rattle.base_data.specs.Act.{GivesAfter};
+ghost use Rattle.base_data.specs.Gives.{Gives};
+ghost use Rattle.eval_code.specs.Codes as table;
+ghost use Rattle.eval_stage.specs.Libraries.{earlier_in};
+ghost use Rattle.expand_standing.specs.Ready.{needed_records};
+ghost use Rattle.expand_forms.specs.Expanding.{ready, expression, lambda_body, library_record, library_linked, library_spent};
+
+use crate::at::{FormAt, OuterAt};
+use crate::body::{BodyForm, body};
+use crate::expression::expression;
+use crate::inside::ROOM;
+use crate::tally::Tally;
+use crate::top::{Linked, TopAt, TopBody, top};
+use std::alloc::Global;
+use std::marker::Model;
+use std::sync::ledger::Ledger;
+use base_data::atom::Atom;
+use base_data::fault::Stop;
+use base_data::items::Items;
+use base_data::library::LibName;
+use base_data::memory::Memory;
+use base_data::name::FrameNo;
+use base_data::span::Span;
+use base_data::symbol::Symbol;
+use core_language::code::Core;
+use core_language::record::CompiledLibrary;
+use base_fuel::fuel::Fuel;
+use expand_standing::expansion::Expansion;
+use expand_standing::means::{Counts, Means};
+use expand_standing::start::{Environment, Supplies};
+use stx_object::syn::Syn;
+
+/// The body of a library or program that is to be expanded, where it stands, and its exports and version.
+#[derive(Drop)]
+pub struct LibraryBody<'a> {
+    pub forms: Items<Syn>,
+    /// Where a form without a span stands.
+    pub place: &'a Span,
+    /// External names, each with the identifier that it stands for.
+    pub exports: &'a [(Symbol, Syn)],
+    /// The numbers of its version (R6RS 7.1), from left to right; there may be none.
+    pub version: Items<u64>,
+}
+
+/// The state of one library's expansion, and whether a call was refused. After a refusal it is of no use.
+pub struct Expander<L: Ledger> {
+    /// In a box: what owns an expander moves and drops a pointer.
+    state: Box<Expansion<L>>,
+    /// The frame of imports and definitions.
+    frame: FrameNo,
+    /// The path of the library's file.
+    path: Symbol,
+    failed: bool,
+}
+
+impl<L: Ledger> Drop for Expander<L> {
+    /// The parts are dropped here alone: what owns an expander makes one call, and needn't know them.
+    fn drop(self) {
+        let Expander {
+            state: _,
+            frame: _,
+            path: _,
+            failed: _,
+        } = self;
+    }
+}
+
+impl<L: Ledger> Model for Expander<L> {
+    ghost use Rattle.expand_forms.specs.Expanding.{Expanding, expanding_code};
+
+    ghost Value = { Expanding };
+
+    ghost coded = { expanding_code };
+
+    ghost view = { λ e. record { state = e.state.value; frame = e.frame; path = e.path; failed = e.failed } };
+}
+
+impl<L: Ledger> Expander<L> {
+    /// An expander for the library of this name, whose file has this path, in its environment. Two imports of one name are refused as want of memory is.
+    pub fn new(
+        alloc: Global,
+        name: LibName,
+        path: Symbol,
+        environment: &Environment,
+        supplies: Supplies<L>,
+    ) -> Result<Expander<L>, Stop>
+        ensures { Gives (λ e. e) result (Ok (ready name path (needed_records environment.now.needs.now environment.now.earlier.now) environment.now.imports.now (table.seen supplies.codes.entries))) }
+    {
+        match begun(alloc, name, path, environment, supplies) {
+            Ok(expander) => Ok(expander),
+            Err(memory) => Err(Stop::from(memory)),
+        }
+    }
+
+    /// Whether a call was refused. It takes no memory.
+    pub fn failed(&self) -> bool
+        ensures { result ≡ self.now.failed }
+    {
+        self.failed
+    }
+
+    /// What an expression expands to.
+    pub fn expression<N: Ledger>(
+        &mut self,
+        form: &Syn,
+        at: &OuterAt,
+        means: &Means,
+        counts: &mut Counts<N, L>,
+    ) -> Result<Core, Stop>
+        requires { self.old.failed ≡ false }
+        ensures given { GivesAfter (λ c. c) result self.new.state (expression (earlier_in means.now.earlier) at.now.place.now at.now.level form.now self.old.state) }
+        ensures ok { OnOk result (self.new.failed ≡ false) }
+        ensures err { OnErr result (self.new.failed ≡ true) }
+        ensures frame { self.new.frame ≡ self.old.frame }
+        ensures path { self.new.path ≡ self.old.path }
+    {
+        let at = FormAt {
+            place: at.place,
+            level: at.level,
+            depth: 0,
+            room: ROOM,
+            means,
+        };
+        match expression(&mut *self.state, form, &at, counts) {
+            Ok(core) => Ok(core),
+            Err(stop) => {
+                self.failed = true;
+                Err(stop)
+            }
+        }
+    }
+
+    /// What these forms expand to as the body of a procedure.
+    pub fn body<N: Ledger>(
+        &mut self,
+        forms: &[Syn],
+        at: &OuterAt,
+        means: &Means,
+        counts: &mut Counts<N, L>,
+    ) -> Result<Core, Stop>
+        requires { self.old.failed ≡ false }
+        ensures given { GivesAfter (λ c. c) result self.new.state (lambda_body (earlier_in means.now.earlier) at.now.place.now at.now.level forms.now self.old.state) }
+        ensures ok { OnOk result (self.new.failed ≡ false) }
+        ensures err { OnErr result (self.new.failed ≡ true) }
+        ensures frame { self.new.frame ≡ self.old.frame }
+        ensures path { self.new.path ≡ self.old.path }
+    {
+        match lambda_body(&mut *self.state, forms, at, means, counts) {
+            Ok(core) => Ok(core),
+            Err(stop) => {
+                self.failed = true;
+                Err(stop)
+            }
+        }
+    }
+
+    /// The record of a library or program with this body, whose forms go on the way.
+    pub fn top<N: Ledger>(
+        self,
+        body: LibraryBody,
+        means: &Means,
+        tally: &mut Tally<N, L>,
+    ) -> Result<CompiledLibrary, Stop>
+        requires { self.failed ≡ false }
+        ensures record { Gives (λ r. r) result (library_record self (earlier_in means.now.earlier) body.entry.version body.entry.place.now body.entry.exports.now body.entry.forms) }
+        ensures fuel { OnOk result (tally.new.fuel ≡ tally.old.fuel + library_spent self (earlier_in means.now.earlier) body.entry.version body.entry.place.now body.entry.exports.now body.entry.forms) }
+    {
+        let mut expander = self;
+        let library = library_record(&mut expander, body, means, &mut tally.counts)?;
+        expander.end(&mut tally.fuel);
+        Ok(library)
+    }
+
+    /// The record, as `top` gives it, and which identifiers stand for which labels: each identifier with a span that is
+    /// bound as a variable, refers to a variable or a primitive, or is assigned, in the order of expansion.
+    pub fn top_linked<N: Ledger>(
+        self,
+        body: LibraryBody,
+        means: &Means,
+        tally: &mut Tally<N, L>,
+    ) -> Result<Linked, Stop>
+        requires { self.failed ≡ false }
+        ensures linked { Gives (λ r. r) result (library_linked self (earlier_in means.now.earlier) body.entry.version body.entry.place.now body.entry.exports.now body.entry.forms) }
+        ensures fuel { OnOk result (tally.new.fuel ≡ tally.old.fuel + library_spent self (earlier_in means.now.earlier) body.entry.version body.entry.place.now body.entry.exports.now body.entry.forms) }
+    {
+        let mut expander = self;
+        let linked = library_linked(&mut expander, body, means, &mut tally.counts)?;
+        expander.end(&mut tally.fuel);
+        Ok(linked)
+    }
+
+    /// What was spent is spent of a run, when nothing follows. It takes no memory.
+    pub fn end(&mut self, fuel: &mut Fuel<L>)
+        ensures { fuel.new ≡ fuel.old + self.old.state.spent }
+    {
+        self.state.end(fuel);
+    }
+}
+
+#[tactic(auto, unfolding(expand_standing::specs::Start::started))]
+fn begun<L: Ledger>(
+    alloc: Global,
+    name: LibName,
+    path: Symbol,
+    environment: &Environment,
+    supplies: Supplies<L>,
+) -> Result<Expander<L>, Memory>
+    ensures { IfOk result (λ e. e ≡ ready name path (needed_records environment.now.needs.now environment.now.earlier.now) environment.now.imports.now (table.seen supplies.codes.entries)) }
+{
+    let state = Expansion::start(alloc, name, environment, supplies)?;
+    let state = Box::new(alloc, state)?;
+    let frame = state.first_frame()?;
+    Ok(Expander {
+        state,
+        frame,
+        path,
+        failed: false,
+    })
+}
+
+fn body_of(
+    path: &Symbol,
+    version: Items<u64>,
+    frame: &FrameNo,
+    place: &Span,
+) -> Result<TopAt, Memory>
+    ensures { IfOk result (λ at. at ≡ record { path = path.now; version = version; frame = frame.now; place = place.now }) }
+{
+    let path = path.share()?;
+    let frame = frame.share()?;
+    let place = place.share()?;
+    Ok(TopAt {
+        path,
+        version,
+        frame,
+        place,
+    })
+}
+
+/// As `Expander::top`: only the caller owns the expander.
+#[tactic(auto, using(crate::proofs::Linked::record_given, crate::proofs::Linked::record_stops))]
+fn library_record<N: Ledger, L: Ledger>(
+    expander: &mut Expander<L>,
+    body: LibraryBody,
+    means: &Means,
+    counts: &mut Counts<N, L>,
+) -> Result<CompiledLibrary, Stop>
+    ensures record { Gives (λ r. r) result (library_record expander.old (earlier_in means.now.earlier) body.entry.version body.entry.place.now body.entry.exports.now body.entry.forms) }
+    ensures spent { OnOk result (expander.new.state.spent ≡ library_spent expander.old (earlier_in means.now.earlier) body.entry.version body.entry.place.now body.entry.exports.now body.entry.forms) }
+{
+    match library_linked(expander, body, means, counts) {
+        Ok(linked) => {
+            let Linked { library, .. } = linked;
+            Ok(library)
+        }
+        Err(stop) => Err(stop),
+    }
+}
+
+/// As `Expander::top_linked`: only the caller owns the expander.
+fn library_linked<N: Ledger, L: Ledger>(
+    expander: &mut Expander<L>,
+    body: LibraryBody,
+    means: &Means,
+    counts: &mut Counts<N, L>,
+) -> Result<Linked, Stop>
+    ensures linked { Gives (λ r. r) result (library_linked expander.old (earlier_in means.now.earlier) body.entry.version body.entry.place.now body.entry.exports.now body.entry.forms) }
+    ensures spent { OnOk result (expander.new.state.spent ≡ library_spent expander.old (earlier_in means.now.earlier) body.entry.version body.entry.place.now body.entry.exports.now body.entry.forms) }
+{
+    let LibraryBody {
+        forms,
+        place,
+        exports,
+        version,
+    } = body;
+    let at = body_of(&expander.path, version, &expander.frame, place)?;
+    let body = TopBody { at, exports };
+    top(&mut *expander.state, body, forms, means, counts)
+}
+
+fn lambda_body<N: Ledger, L: Ledger>(
+    state: &mut Expansion<L>,
+    forms: &[Syn],
+    at: &OuterAt,
+    means: &Means,
+    counts: &mut Counts<N, L>,
+) -> Result<Core, Stop>
+    ensures { GivesAfter (λ c. c) result state.new (lambda_body (earlier_in means.now.earlier) at.now.place.now at.now.level forms.now state.old) }
+{
+    let nowhere = Syn::atom(state.alloc(), Atom::Nil)?;
+    let at = FormAt {
+        place: at.place,
+        level: at.level,
+        depth: 0,
+        room: ROOM,
+        means,
+    };
+    let whole = BodyForm {
+        form: &nowhere,
+        forms,
+    };
+    body(state, &whole, &at, counts)
+}

@@ -1,0 +1,12 @@
+//! What a run counts.
+
+use std::sync::ledger::Ledger;
+use base_fuel::fuel::Fuel;
+use expand_standing::means::Counts;
+
+/// What all expansions of a run count, and the fuel that they have spent, one after another.
+#[derive(Drop)]
+pub struct Tally<'a, N: Ledger, L: Ledger> {
+    pub counts: Counts<'a, N, L>,
+    pub fuel: Fuel<L>,
+}

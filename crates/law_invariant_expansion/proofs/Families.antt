@@ -1,0 +1,12 @@
+-- The law, for tests.
+use Rattle.law_invariants.specs.Laws.{Tests, passing}
+use Rattle.law_invariants.proofs.Families.{steady}
+use Rattle.law_invariant_expansion.specs.Kept.{IsKeptByExpansion}
+use Rattle.law_invariant_expansion.specs.Laws.{AreKeptByForms, ExpansionKeeps}
+use Rattle.law_invariant_expansion.proofs.Recorded.{records-stay}
+
+kept : (t : Tests) → AreKeptByForms t → IsKeptByExpansion (passing t)
+kept t k = record { built = k.built; steady = steady t k.evaluation; insert = k.insert; ellipsis = k.ellipsis; records = k.records; clauses = λ p A h. h }
+
+pub keeps : ExpansionKeeps
+keeps t own path records imports version place exports forms codes r k = records-stay (passing t) (kept t k) own path records imports version place exports forms codes r

@@ -1,0 +1,14 @@
+use Rattle.law_load.proofs.LoadLemmas.{loads_all, loads_until}
+use Rattle.law_local.specs.Local.{group_of}
+use Rattle.law_local.proofs.Local.{reuse_right, are_loaded}
+use Rattle.law_local.proofs.Groups.{groups_all, groups_until, all_as_held}
+use Rattle.law_local.proofs.Reuse.{changes_nothing}
+use Rattle.law_local.proofs.reuse_changes_nothing.Goals as goal
+
+pub returns : goal.returns
+returns c = record {
+  loaded = λ base cache files roots path program s h back. changes_nothing base cache roots (group_of files roots) s.done back
+      (reuse_right base files roots (group_of files roots) s.done (are_loaded s (loads_all files roots path program s h).sound) (groups_all files roots path program s h) (all_as_held files roots s.done)) (are_loaded s (loads_all files roots path program s h).sound);
+  stopped = λ base cache files roots path s f h back. changes_nothing base cache roots (group_of files roots) s.done back
+      (reuse_right base files roots (group_of files roots) s.done (are_loaded s (loads_until files roots path s f h)) (groups_until files roots path s f h) (all_as_held files roots s.done)) (are_loaded s (loads_until files roots path s f h));
+}

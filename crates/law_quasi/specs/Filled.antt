@@ -1,0 +1,91 @@
+-- A template with the values of its expressions in their places (R6RS 11.17).
+use Rattle.std.specs.Prelude.{ℕ, zero, suc, Bool, true, false, ◌&&◌, List, [], ◌∷◌, map, Option, None, Some, is_some, if◌then◌else◌}
+use Rattle.stx_tree.specs.Tree.{Tree, atom, leaf, pair, vector, nil, chain}
+use Rattle.core_shapes.specs.Lists.{is_nil, elements, tail_of}
+use Rattle.core_quasi.specs.Words.{Words}
+use Rattle.core_quasi.specs.declared.word.QuasiWord.{QuasiWord}
+use Rattle.core_quasi.specs.declared.word.QuasiWord.TheVariants as word
+use Rattle.law_quasi.specs.Makes.{Given}
+
+-- `quasiquote` adds a level for what stands behind it, and `unquote` and `unquote-splicing` take one away
+abbrev pub level_behind : QuasiWord → ℕ → ℕ
+level_behind word.Raise n = suc n
+level_behind word.Lower (suc n) = n
+level_behind word.Splice (suc n) = n
+level_behind x n = n
+
+-- whether `(word x)` in the place of a tail is the form that it looks like: `(1 . ,x)` is read as `(1 unquote x)`
+abbrev pub is_tail_word : QuasiWord → Bool
+is_tail_word word.Raise = true
+is_tail_word word.Lower = true
+is_tail_word word.Splice = true
+is_tail_word word.Escape = false
+is_tail_word word.Plain = false
+
+-- the element of a list that has just one
+abbrev pub only : Tree → Option Tree
+only (atom s a) = None
+only (leaf s x c) = None
+only (pair s e d) = if is_nil d then Some e else None
+only (vector s d) = None
+
+abbrev pub value_of : Given → Option Tree → Tree
+value_of f None = nil
+value_of f (Some e) = f e
+
+-- the elements of each value before a rest
+abbrev pub spliced : Given → List Tree → Tree → Tree
+spliced f [] r = r
+spliced f (e ∷ es) r = chain (elements (f e)) (spliced f es r)
+
+-- an element that is a list of a head and operands, ended by Nil or not: `(unquote e ...)` and `(unquote-splicing e ...)`
+abbrev pub put_form : Given → QuasiWord → Bool → List Tree → Tree → Tree → Tree
+put_form f word.Lower true es made r = chain (map f es) r
+put_form f word.Splice true es made r = spliced f es r
+put_form f x ends es made r = pair None made r
+
+-- an element, which itself comes to this, before a rest
+abbrev pub put : Words → Given → ℕ → Tree → Tree → Tree → Tree
+put w f zero (pair s h d) made r = put_form f (w h) (is_nil (tail_of d)) (elements d) made r
+put w f n t made r = pair None made r
+
+-- whether a rest is a form that stands for the tail
+abbrev pub is_tail : Words → Tree → Tree → Bool
+is_tail w a d = is_tail_word (w a) && is_some (only d)
+
+-- At level 0 `(unquote e)` is the value of e; nothing else may stand there behind `unquote` or `unquote-splicing`.
+abbrev pub list_by : Words → Given → ℕ → Tree → Tree → (ℕ → Tree) → (ℕ → ℕ → Tree) → QuasiWord → Tree
+list_by w f zero a d made rest word.Lower = value_of f (only d)
+list_by w f zero a d made rest word.Splice = nil
+list_by w f n a d made rest x = put w f (level_behind x n) a (made (level_behind x n)) (rest n (level_behind x n))
+
+-- a list of this first element and this rest, and what they come to
+abbrev pub list_filled : Words → Given → ℕ → Tree → Tree → (ℕ → Tree) → (ℕ → ℕ → Tree) → Tree
+list_filled w f n a d made rest = list_by w f n a d made rest (w a)
+
+abbrev mutual
+  -- a template at a level
+  pub filled : Words → Given → Tree → ℕ → Tree
+  filled w f (atom s a) n = atom None a
+  filled w f (leaf s x c) n = leaf None x c
+  filled w f (pair s a d) n = list_filled w f n a d (filled w f a) (rest_filled w f d)
+  filled w f (vector s d) n = vector None (items_filled w f d n)
+
+  -- the rest of a list at the first of these levels, whose elements are at the second
+  pub rest_filled : Words → Given → Tree → ℕ → ℕ → Tree
+  rest_filled w f (atom s a) n m = atom None a
+  rest_filled w f (leaf s x c) n m = leaf None x c
+  rest_filled w f (pair s a d) n m =
+      if is_tail w a d then list_filled w f n a d (filled w f a) (rest_filled w f d) else put w f m a (filled w f a m) (rest_filled w f d n m)
+  rest_filled w f (vector s d) n m = vector None (items_filled w f d n)
+
+  -- the elements of a vector
+  pub items_filled : Words → Given → Tree → ℕ → Tree
+  items_filled w f (atom s a) n = nil
+  items_filled w f (leaf s x c) n = nil
+  items_filled w f (pair s a d) n = put w f n a (filled w f a n) (items_filled w f d n)
+  items_filled w f (vector s d) n = nil
+
+-- a form of a head and one operand
+abbrev pub form_of : Tree → Tree → Tree
+form_of head operand = pair None head (pair None operand nil)

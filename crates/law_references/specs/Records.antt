@@ -1,0 +1,98 @@
+-- The references of a library's record.
+use Rattle.std.specs.Prelude.{◌≡◌, ℕ, List, [], ◌∷◌, ◌++◌, map, Some, Ok}
+use Rattle.base_data.specs.declared.library.LibName.{LibName}
+use Rattle.base_data.specs.declared.name.FrameNo.{FrameNo}
+use Rattle.base_data.specs.declared.name.Label.{Label}
+use Rattle.base_data.specs.declared.span.Span.{Span}
+use Rattle.stx_tree.specs.Changes.{stamp}
+use Rattle.stx_tree.specs.Tree.{Tree}
+use Rattle.stx_frames.specs.Listed.{rows_in}
+use Rattle.stx_scope.specs.Stands.{stands}
+use Rattle.core_language.specs.References.{mentions}
+use Rattle.core_language.specs.declared.binding.Binding.{Binding}
+use Rattle.core_language.specs.declared.binding.Binding.TheVariants as binding
+use Rattle.core_language.specs.declared.record.CompiledLibrary.{CompiledLibrary}
+use Rattle.core_language.specs.declared.record.Line.{Line}
+use Rattle.core_language.specs.declared.record.Line.TheVariants as line
+use Rattle.eval_code.specs.Codes.{Codes}
+use Rattle.expand_standing.specs.Start.{started}
+use Rattle.expand_standing.specs.State.{State}
+use Rattle.expand_heads.specs.Items.{begun}
+use Rattle.expand_heads.specs.declared.taken.Taken.{Taken}
+use Rattle.eval_value.specs.Cells.{Each}
+use Rattle.expand_forms.specs.Expanding.{ready, body_of, library_record}
+use Rattle.expand_forms.specs.Expression.{inside, full_room}
+use Rattle.expand_forms.specs.Top as top
+use Rattle.expand_forms.specs.declared.top.TopAt.{TopAt}
+use Rattle.law_fresh.specs.Leaves.{CodesHold}
+use Rattle.law_fresh_expansion.specs.Events.{HasEvents}
+use Rattle.law_fresh_expansion.specs.Known.{libraries_of, IsNewAmong}
+use Rattle.law_fresh_expansion.specs.RecordMarks.{HasOnly, RecordHasOnly, WasRead}
+use Rattle.law_references.specs.Expands.{Take, Finish}
+use Rattle.law_references.specs.Namings.{Naming, namings}
+use Rattle.law_references.specs.Noted.{KeywordExpression, NotedLine, lines, of_lines, mentioned, named, IsExpression}
+use Rattle.law_references.specs.Whole.{IsCaptured, IsRightReference, IsRightExpression}
+
+abbrev pub line_mentions : Line → List Label
+line_mentions (line.Define l c) = mentions c
+line_mentions (line.Expr c) = mentions c
+
+abbrev pub line_namings : Line → List Naming
+line_namings (line.Define l c) = namings c
+line_namings (line.Expr c) = namings c
+
+-- a line, and its references in a state
+pub record IsRightLine (libs : List LibName) (own : LibName) (u : State) (x : NotedLine) : Type 0 where
+  pub all : line_namings x.line ≡ named x.noted.references
+  pub mentions : line_mentions x.line ≡ mentioned x.noted.references
+  pub right : Each (IsRightReference libs own u) x.noted.references
+
+-- where a binding has the expression of a keyword, that is one of these
+abbrev pub IsBoundTo : List KeywordExpression → Label → Binding → Type 0
+IsBoundTo es l (binding.Macro level (Some c)) = IsExpression es l c
+IsBoundTo es l _ = Unit {0}
+
+-- An export has the name that its clause gives it, and the label that the identifier of the clause stood for behind the first pass over the body and
+-- stands for at the end. It was read, so no binder that a use introduced captures it.
+pub record IsRightExport (libs : List LibName) (own : LibName) (first last : State) (f : FrameNo) (e : List ℕ × Tree) (x : List ℕ × Label) : Type 0 where
+  pub name : x.0 ≡ e.0
+  pub stood : stands first.frames (stamp f e.1) ≡ Some x.1
+  pub captured : IsCaptured libs own first.names.number last (stamp f e.1) x.1
+  pub unmarked : captured.row.marks ≡ []
+
+-- so it is of each, in the order of the clauses
+abbrev pub AreRightExports : List LibName → LibName → State → State → FrameNo → List (List ℕ × Tree) → List (List ℕ × Label) → Type 0
+AreRightExports libs own first last f [] [] = Unit {0}
+AreRightExports libs own first last f (e ∷ es) (x ∷ xs) = IsRightExport libs own first last f e x × AreRightExports libs own first last f es xs
+AreRightExports libs own first last f [] (x ∷ xs) = ⊥
+AreRightExports libs own first last f (e ∷ es) [] = ⊥
+
+-- The lines of a record are those of what the first pass took, and their references are right in the last state, whose rows the record has. Its keywords
+-- have the expressions that were expanded in the first pass and in the second, and the references of these are right, each to the end of its expression. Its
+-- exports are what their identifiers stand for.
+pub record RunIsRight (libs : List LibName) (own : LibName) (records : List CompiledLibrary) (start : State) (at : TopAt) (exports : List (List ℕ × Tree)) (forms : List Tree) (r : CompiledLibrary) : Type 0 where
+  pub taken : Taken
+  pub first : State
+  pub bound : List KeywordExpression
+  pub exported : List (List ℕ × Label)
+  pub between : State
+  pub told : List NotedLine
+  pub last : State
+  pub takes : top.first_pass (inside records full_room) at forms start ≡ Ok (taken, first)
+  pub taking : Take records (top.body_at at start.library) 0 begun (map (stamp at.frame) forms) start taken first bound
+  pub looks : top.exports at exports first ≡ Ok (exported, between)
+  pub ends : Finish records 0 taken.waiting between told last
+  pub run : lines told ≡ r.run
+  pub frames : r.frames ≡ rows_in last.library last.frames
+  pub right : Each (IsRightLine libs own last) told
+  pub expressions : Each (IsRightExpression libs own) (bound ++ of_lines told)
+  pub keywords : Each (λ (b : Label × Binding). IsBoundTo (bound ++ of_lines told) b.0 b.1) r.bindings
+  pub exports_are : r.exports ≡ exported
+  pub exports_right : AreRightExports libs own first last at.frame exports exported
+
+-- So it is of the record of each library with a new name, behind records and codes of texts whose leaves have histories.
+abbrev pub RecordsAreHygienic : Type 0
+RecordsAreHygienic = (own : LibName) (path : List ℕ) (records : List CompiledLibrary) (imports : List (List ℕ × Label)) (version : List ℕ) (place : Span) (exports : List (List ℕ × Tree)) (forms : List Tree) (codes : Codes) (r : CompiledLibrary)
+    → IsNewAmong (libraries_of records) own → Each (RecordHasOnly HasEvents (libraries_of records)) records → CodesHold (HasOnly HasEvents (libraries_of records)) codes → Each WasRead forms → Each (λ (e : List ℕ × Tree). WasRead e.1) exports
+    → library_record (ready own path records imports codes) records version place exports forms ≡ Ok r
+    → RunIsRight (libraries_of records) own records (started own records imports codes) (body_of (ready own path records imports codes) version place) exports forms r

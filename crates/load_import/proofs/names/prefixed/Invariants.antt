@@ -1,0 +1,6 @@
+use Rattle.std.proofs.Common.{◌≡◌, ◌++◌, [], drop, map, ℕ, List, length}
+use Rattle.load_import.specs.Names.{prefixed}
+use Rattle.load_import.proofs.names.prefixed.Given as goal
+
+abbrev pub invariant-loop-name : goal.invariant-loop-name
+invariant-loop-name l = l.rows ++ prefixed l.symbol (drop l.name-index l.names) ≡ prefixed l.symbol l.names

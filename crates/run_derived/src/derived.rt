@@ -1,0 +1,203 @@
+//! The record of the derived library.
+
+ghost use Rattle.std.specs.Prelude.{◌≡◌, ◌<◌, ◌+◌, ◌^◌, length, [], false, IfOk, OnOk, Ok};
+ghost use Rattle.std.specs.Map.{lookup};
+ghost use Rattle.base_data.specs.Gives.{Gives};
+ghost use Rattle.load_import.specs.Table.{same_text};
+ghost use Rattle.base_data.specs.declared.library.LibName.TheVariants as library;
+ghost use Rattle.load_builtin.specs.Exports.{derived};
+ghost use Rattle.eval_code.specs.Codes as table;
+ghost use Rattle.expand_forms.specs.Expanding.{ready, library_record, library_spent};
+ghost use Rattle.run_prelude.specs.Prelude.{kept};
+ghost use Rattle.run_derived.specs.Names.{path, start, names, exports_of};
+ghost use Rattle.run_derived.specs.Derived.{tree_at, trees, forms_of, record_of, record_spent, derived_record, derived_spent, label_or, relabelled_in};
+
+use crate::implementation::Implementation;
+use crate::names::{exports, names, path, start};
+use std::alloc::Global;
+use std::sync::ledger::Ledger;
+use base_data::datum::Datum;
+use base_data::fault::{Bare, BareStop, Fault, Stop};
+use base_data::items::Items;
+use base_data::library::LibName;
+use base_data::memory::Memory;
+use base_data::name::Label;
+use base_data::span::Span;
+use base_data::symbol::Symbol;
+use load_builtin::derived::derived_source;
+use core_language::record::CompiledLibrary;
+use expand_forms::expander::{Expander, LibraryBody};
+use expand_forms::tally::Tally;
+use eval_prims::table::PrimTable;
+use read_reader::read::read_all;
+use eval_stage::earlier::Earlier;
+use expand_standing::means::Means;
+use expand_standing::ready::ReadyRecords;
+use expand_standing::start::{Environment, Supplies};
+use stx_object::syn::Syn;
+
+fn tree_at(alloc: Global, place: &Span, datum: &Datum) -> Result<Syn, Stop>
+    requires { place.now ≡ start }
+    ensures { Gives (λ t. t) result (tree_at datum.now) }
+{
+    match Syn::of_datum(alloc, datum) {
+        Ok(tree) => Ok(tree),
+        Err(BareStop::Fault(Bare { kind, words })) => Err(Stop::Fault(Fault {
+            kind,
+            span: place.share()?,
+            words,
+        })),
+        Err(BareStop::Memory) => Err(Stop::Memory),
+    }
+}
+
+fn trees(alloc: Global, place: &Span, found: &[Datum]) -> Result<Items<Syn>, Stop>
+    requires { place.now ≡ start }
+    ensures { Gives (λ ts. ts) result (trees [] found.now) }
+{
+    let mut done = Items::new(alloc);
+    for datum in found {
+        let tree = tree_at(alloc, place, datum)?;
+        done.push(tree)?;
+    }
+    Ok(done)
+}
+
+// The forms of a text.
+#[tactic(auto, unfolding(crate::specs::Derived::forms_of))]
+fn forms_of(alloc: Global, place: &Span, text: &[u8]) -> Result<Items<Syn>, Stop>
+    requires place { place.now ≡ start }
+    requires fits { length text.now < 2 ^ 32 }
+    ensures { Gives (λ ts. ts) result (forms_of text.now) }
+{
+    let found = read_all(alloc, &place.file, text)?;
+    trees(alloc, place, &found)
+}
+
+// What stands round the forms of the derived library.
+#[derive(Drop)]
+struct DerivedText<'a> {
+    alloc: Global,
+    /// Its start.
+    place: &'a Span,
+    imports: &'a [(Symbol, Label)],
+    exports: &'a [(Symbol, Syn)],
+}
+
+// An expander behind no records.
+fn expander_of<L: Ledger>(
+    alloc: Global,
+    names: &[(Symbol, Label)],
+    supplies: Supplies<L>,
+) -> Result<Expander<L>, Stop>
+    ensures { Gives (λ e. e) result (Ok (ready library.Derived path [] names.now (table.seen supplies.codes.entries))) }
+{
+    let path = path(alloc)?;
+    let records = ReadyRecords::new(alloc)?;
+    let environment = Environment {
+        earlier: &records,
+        needs: &[],
+        imports: names,
+    };
+    Expander::new(alloc, LibName::Derived, path, &environment, supplies)
+}
+
+// The record of these forms.
+fn record_by<N: Ledger, L: Ledger>(
+    begun: Expander<L>,
+    text: &DerivedText,
+    forms: Items<Syn>,
+    prims: &PrimTable,
+    tally: &mut Tally<N, L>,
+) -> Result<CompiledLibrary, Stop>
+    requires { begun.failed ≡ false }
+    ensures record { Gives (λ r. r) result (library_record begun [] [] text.now.place.now text.now.exports.now forms) }
+    ensures fuel { OnOk result (tally.new.fuel ≡ tally.old.fuel + library_spent begun [] [] text.now.place.now text.now.exports.now forms) }
+{
+    let earlier = Earlier {
+        records: &[],
+        needs: &[],
+    };
+    let means = Means { earlier, prims };
+    let body = LibraryBody {
+        forms,
+        place: text.place,
+        exports: text.exports,
+        version: Items::new(text.alloc),
+    };
+    begun.top(body, &means, tally)
+}
+
+// The record of these forms, where this is what the procedures mean that are texts.
+#[tactic(auto, unfolding(crate::specs::Derived::record_of, crate::specs::Derived::record_spent))]
+fn record_of<N: Ledger, L: Ledger>(
+    supplies: Supplies<L>,
+    text: &DerivedText,
+    forms: Items<Syn>,
+    prims: &PrimTable,
+    tally: &mut Tally<N, L>,
+) -> Result<CompiledLibrary, Stop>
+    requires imports { text.now.imports.now ≡ names }
+    requires exports { text.now.exports.now ≡ exports_of derived }
+    requires place { text.now.place.now ≡ start }
+    ensures record { Gives (λ r. r) result (record_of (table.seen supplies.codes.entries) forms) }
+    ensures fuel { OnOk result (tally.new.fuel ≡ tally.old.fuel + record_spent (table.seen supplies.codes.entries) forms) }
+{
+    let begun = expander_of(text.alloc, text.imports, supplies)?;
+    record_by(begun, text, forms, prims, tally)
+}
+
+/// The record of the derived library. It is expanded behind no other.
+#[tactic(auto, unfolding(crate::specs::Derived::derived_record, crate::specs::Derived::derived_spent))]
+pub fn derived_record<N: Ledger, L: Ledger>(
+    alloc: Global,
+    implementation: &Implementation,
+    tally: &mut Tally<N, L>,
+) -> Result<CompiledLibrary, Stop>
+    ensures record { Gives (λ r. r) result (derived_record (kept implementation.now.prelude)) }
+    ensures fuel { OnOk result (tally.new.fuel ≡ tally.old.fuel + derived_spent (kept implementation.now.prelude)) }
+{
+    let place = start(alloc)?;
+    let forms = forms_of(alloc, &place, derived_source())?;
+    let names = names(alloc)?;
+    let exports = exports(alloc)?;
+    let codes = implementation.prelude.codes(alloc)?;
+    let Some(unspent) = tally.fuel.begin() else {
+        return Err(Stop::Memory);
+    };
+    let supplies = Supplies { codes, unspent };
+    let text = DerivedText {
+        alloc,
+        place: &place,
+        imports: names.as_slice(),
+        exports: exports.as_slice(),
+    };
+    record_of(supplies, &text, forms, implementation.primitives, tally)
+}
+
+// The label under which a record exports a name, or another.
+fn label_in(derived: &CompiledLibrary, name: &Symbol, label: &Label) -> Result<Label, Memory>
+    ensures { IfOk result (λ l. l ≡ label_or label.now (lookup (same_text name.now) derived.now.exports)) }
+{
+    for (exported, own) in derived.exports.as_slice() {
+        if *name == *exported {
+            return own.share();
+        }
+    }
+    label.share()
+}
+
+/// A name of the implementation with what it stands for: a derived one for the label under which the record exports it.
+pub fn relabelled(
+    derived: &CompiledLibrary,
+    name: &Symbol,
+    label: &Label,
+) -> Result<(Symbol, Label), Memory>
+    ensures { IfOk result (λ e. e ≡ relabelled_in derived.now (name.now, label.now)) }
+{
+    let shared = name.share()?;
+    if *label.0.library != LibName::Derived {
+        return Ok((shared, label.share()?));
+    }
+    Ok((shared, label_in(derived, name, label)?))
+}

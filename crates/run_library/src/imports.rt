@@ -1,0 +1,187 @@
+//! The names that the imports of a form give.
+
+ghost use Rattle.std.specs.Prelude.{◌≡◌, [], true, IfOk, IfErr, OnOk, is_some, option_map, map};
+ghost use Rattle.base_data.specs.Gives.{Gives, Stops};
+ghost use Rattle.load_import.specs.Names.{Labelled, joined};
+ghost use Rattle.load_import.specs.Sources.{names_in, AreEnough};
+ghost use Rattle.load_import.specs.Turns.{turns};
+ghost use Rattle.run_derived.specs.Derived.{relabelled_in};
+ghost use Rattle.run_library.specs.Imports.{named, record_referred, record_exports, referred, refer, given_names, exported, import_into, form_names};
+ghost use Rattle.run_library.specs.Listed.{AreListed};
+ghost use Rattle.run_library.specs.Records.{needed_records};
+ghost use Rattle.load_files.specs.Load.{fitting, builtin_version};
+
+use crate::records::Needed;
+use std::alloc::Global;
+use base_data::fault::{FaultKind, Stop};
+use base_data::items::Items;
+use base_data::library::LibName;
+use base_data::map::new_map;
+use base_data::memory::Memory;
+use base_data::name::Label;
+use base_data::span::Span;
+use base_data::symbol::Symbol;
+use load_builtin::exports::exports;
+use core_language::record::CompiledLibrary;
+use run_derived::derived::relabelled;
+use load_forms::set::Import;
+use load_import::names::Names;
+use load_import::set::ImportSet;
+use load_import::shared::Exports;
+use load_import::sources::{Sources, add_source, has_source, join_source};
+use load_import::table::NameTable;
+use load_files::refer::{VERSION, about, check_version, is_builtin};
+use core_language::share::share_library;
+
+/// The names that the imports of a form give, each once and in order, with their labels. First each library
+/// must be there in a version that fits, and then each name is looked for.
+#[tactic(auto, unfolding(crate::specs::Imports::form_names))]
+pub(crate) fn form_names(alloc: Global, needed: &Needed, imports: &[Import]) -> Result<Names, Stop>
+    ensures { Gives (λ names. names) result (form_names (needed_records needed.now.records.now needed.now.marks.now) imports.now) }
+{
+    refer_all(alloc, needed, imports)?;
+    import_all(alloc, needed, imports)
+}
+
+fn refer_all(alloc: Global, needed: &Needed, imports: &[Import]) -> Result<(), Stop>
+    ensures { Gives (λ u. u) result (turns (refer (needed_records needed.now.records.now needed.now.marks.now)) tt imports.now) }
+{
+    for import in imports {
+        referred(alloc, needed, &import.set)?;
+    }
+    Ok(())
+}
+
+fn referred(alloc: Global, needed: &Needed, set: &ImportSet) -> Result<(), Stop>
+    ensures { Gives (λ u. u) result (referred (needed_records needed.now.records.now needed.now.marks.now) set.now) }
+{
+    if is_builtin(&set.library) {
+        check_version(alloc, &VERSION, set)
+    } else {
+        record_referred(alloc, set, needed.named(&set.library))
+    }
+}
+
+fn record_referred(alloc: Global, set: &ImportSet, one: Option<&CompiledLibrary>) -> Result<(), Stop>
+    ensures { Gives (λ u. u) result (record_referred set.now (option_map (λ r. r.now) one.entry)) }
+{
+    match one {
+        Some(record) => check_version(alloc, record.version.as_slice(), set),
+        None => Err(about(alloc, FaultKind::LibraryNotFound, set)),
+    }
+}
+
+#[tactic(auto, using(crate::proofs::SourceLemmas::no_names, crate::proofs::SourceLemmas::none_enough))]
+fn import_all(alloc: Global, needed: &Needed, imports: &[Import]) -> Result<Names, Stop>
+    ensures { Gives (λ names. names) result (turns (import_into (needed_records needed.now.records.now needed.now.marks.now)) [] imports.now) }
+{
+    let mut names = NameTable::new(alloc);
+    let mut sources = new_map(alloc);
+    for import in imports {
+        import_into(alloc, needed, &mut sources, &mut names, import)?;
+    }
+    Ok(names)
+}
+
+// The names of a library are listed with its first import set, and then each set asks the list.
+fn import_into(
+    alloc: Global,
+    needed: &Needed,
+    sources: &mut Sources,
+    names: &mut Names,
+    import: &Import,
+) -> Result<(), Stop>
+    requires listed { AreListed (needed_records needed.now.records.now needed.now.marks.now) sources.old.entries }
+    requires enough { AreEnough names.old sources.old.entries }
+    ensures names { Gives (λ _. names.new) result (import_into (needed_records needed.now.records.now needed.now.marks.now) names.old import.now) }
+    ensures listed { OnOk result (AreListed (needed_records needed.now.records.now needed.now.marks.now) sources.new.entries) }
+    ensures enough { OnOk result (AreEnough names.new sources.new.entries) }
+{
+    list_source(alloc, needed, sources, &import.set.library, &import.span)?;
+    join_source(alloc, sources, names, &import.set, &import.span)
+}
+
+// Lists the names of a library, unless they are listed.
+fn list_source(
+    alloc: Global,
+    needed: &Needed,
+    sources: &mut Sources,
+    library: &LibName,
+    span: &Span,
+) -> Result<(), Stop>
+    requires { AreListed (needed_records needed.now.records.now needed.now.marks.now) sources.old.entries }
+    ensures stop { IfErr result (λ stop. Stops stop (joined span.now [] (exported (needed_records needed.now.records.now needed.now.marks.now) library.now))) }
+    ensures listed { OnOk result (AreListed (needed_records needed.now.records.now needed.now.marks.now) sources.new.entries) }
+    ensures there { OnOk result (is_some (names_in library.now sources.new.entries) ≡ true) }
+    ensures enough { OnOk result ((all : Labelled) → AreEnough all sources.old.entries → AreEnough all sources.new.entries) }
+{
+    if has_source(sources, library) {
+        return Ok(());
+    }
+    let exports = exported(alloc, needed, library)?;
+    let exports = Exports::new(alloc, exports.as_slice(), span)?;
+    let name = share_library(alloc, library)?;
+    add_source(alloc, sources, name, exports)?;
+    Ok(())
+}
+
+fn exported(
+    alloc: Global,
+    needed: &Needed,
+    library: &LibName,
+) -> Result<Items<(Symbol, Label)>, Memory>
+    ensures { IfOk result (λ names. names ≡ exported (needed_records needed.now.records.now needed.now.marks.now) library.now) }
+{
+    match exports(alloc, library)? {
+        Some(names) => given_names(alloc, needed.named(&LibName::Derived), names),
+        None => record_exports(alloc, needed.named(library)),
+    }
+}
+
+// The names of the implementation, behind the record of the derived library.
+fn given_names(
+    alloc: Global,
+    derived: Option<&CompiledLibrary>,
+    names: Items<(Symbol, Label)>,
+) -> Result<Items<(Symbol, Label)>, Memory>
+    ensures { IfOk result (λ es. es ≡ given_names (option_map (λ r. r.now) derived.entry) names) }
+{
+    match derived {
+        None => Ok(names),
+        Some(derived) => all_relabelled(alloc, derived, names.as_slice()),
+    }
+}
+
+fn all_relabelled(
+    alloc: Global,
+    derived: &CompiledLibrary,
+    names: &[(Symbol, Label)],
+) -> Result<Items<(Symbol, Label)>, Memory>
+    ensures { IfOk result (λ es. es ≡ map (λ e. relabelled_in derived.now e) names.now) }
+{
+    let mut all = Items::new(alloc);
+    for (name, label) in names {
+        let one = relabelled(derived, name, label)?;
+        all.push(one)?;
+    }
+    Ok(all)
+}
+
+fn record_exports(alloc: Global, one: Option<&CompiledLibrary>) -> Result<Items<(Symbol, Label)>, Memory>
+    ensures { IfOk result (λ names. names ≡ record_exports (option_map (λ r. r.now) one.entry)) }
+{
+    match one {
+        Some(record) => share_names(alloc, record.exports.as_slice()),
+        None => Ok(Items::new(alloc)),
+    }
+}
+
+fn share_names(alloc: Global, names: &[(Symbol, Label)]) -> Result<Items<(Symbol, Label)>, Memory>
+    ensures { IfOk result (λ shared. shared ≡ names.now) }
+{
+    let mut shared = Items::new(alloc);
+    for (name, label) in names {
+        shared.push((name.share()?, label.share()?))?;
+    }
+    Ok(shared)
+}

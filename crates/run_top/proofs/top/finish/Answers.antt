@@ -1,0 +1,10 @@
+use Rattle.std.proofs.Common.{refl}
+use Rattle.run_top.specs.Headline.{written, broken}
+use Rattle.run_top.proofs.Sinks.{broke}
+use Rattle.run_top.proofs.top.finish.Goals as goal
+
+pub returns-in-Ok : goal.returns-in-Ok
+returns-in-Ok g c = written (c.in-Ok.ensures.gains, c.in-Ok.ensures.counted) c.tell.ensures
+
+pub returns-in-Err : goal.returns-in-Err
+returns-in-Err g c = broken (broke _ _ _ c.in-Err.ensures.short c.in-Err.ensures.gains c.in-Err.ensures.failed c.in-Err.ensures.counted) (refl, refl)

@@ -1,0 +1,142 @@
+-- What a run promises, status by status.
+use Rattle.std.specs.Prelude.{◌≡◌, ◌⊎◌, ℕ, ◌<◌, List, length, take, Option, None, Some, IfSome}
+use Rattle.base_outside.specs.Contents.{Paths}
+use Rattle.base_outside.specs.Causes.{Rose, raised}
+use Rattle.base_outside.specs.Sink.{Gains}
+use Rattle.base_outside.specs.Store.{WhereTold}
+use Rattle.run_prelude.specs.Prelude.{prelude_table}
+use Rattle.law_reuse.specs.Sound.{IsHonest}
+use Rattle.run_top.specs.Cached.{Comes, ComesHonestly, LeavesStore, LeavesOfHonestly, SameText}
+use Rattle.run_command.specs.declared.job.Job.{Job}
+use Rattle.run_command.specs.declared.job.Kind.TheVariants.{Core}
+use Rattle.run_top.specs.declared.status.Status.{Status}
+use Rattle.run_top.specs.declared.status.Status.TheVariants as status
+use Rattle.run_top.specs.Whole.{RunOutcome, usage, done, fault, of_job, of_made}
+use Rattle.run_top.specs.Words.{words_asked, usage_line, ReadNone}
+use Rattle.run_command.specs.declared.words.Words.{Words}
+use Rattle.run_command.specs.declared.words.Words.TheVariants.{Expand, Make, Usage}
+
+-- a sink before a call and after it: its bytes, where they are told, its count of faults, and its count of puts
+pub record Sunk : Type 0 where
+  pub before : Option (List ℕ)
+  pub after : Option (List ℕ)
+  pub faults_before : ℕ
+  pub faults_after : ℕ
+  pub puts_before : ℕ
+  pub puts_after : ℕ
+
+-- the sink was asked once to take a piece
+abbrev pub AskedOnce : Sunk → Type 0
+AskedOnce sunk = sunk.puts_after ≡ raised sunk.puts_before
+
+-- the sink got this piece by one put, and nothing else
+abbrev pub Wrote : Sunk → List ℕ → Type 0
+Wrote sunk piece = Gains sunk.before sunk.after piece × AskedOnce sunk
+
+-- the sink was never asked
+abbrev pub Untouched : Sunk → Type 0
+Untouched sunk = (sunk.after ≡ sunk.before) × (sunk.puts_after ≡ sunk.puts_before)
+
+-- the one put, of a piece, failed behind a part of it, and was counted
+pub record Broke (sunk : Sunk) (piece : List ℕ) : Type 0 where
+  pub taken : ℕ
+  pub short : taken < length piece
+  pub part : Gains sunk.before sunk.after (take taken piece)
+  pub rose : Rose sunk.faults_before sunk.faults_after
+  pub asked : AskedOnce sunk
+
+-- a store before a call and after it: what it holds, where that is told, and its count of faults
+pub record Storage : Type 0 where
+  pub before : Option Paths
+  pub after : Option Paths
+  pub faults_before : ℕ
+  pub faults_after : ℕ
+
+-- What a run with a cache comes to. Over an honest store that is what one without gives.
+pub record SaysCached (files : Paths) (job : Job) (dir : List ℕ) (before : Paths) (faults_before : ℕ) (after : Paths) (faults_after : ℕ) (outcome : RunOutcome) : Type 0 where
+  pub comes : Comes files job dir before faults_before after faults_after outcome
+  pub same : IsHonest prelude_table before → ComesHonestly comes → SameText outcome (of_job files job)
+
+-- a job with a cache asks for core text
+abbrev pub IsCoreIfCached : Job → Type 0
+IsCoreIfCached job = (dir : List ℕ) → job.cache ≡ Some dir → job.kind ≡ Core
+
+-- the definition gives this to a job, where the files are told, and with a cache also the store
+abbrev pub SaysJob : Option Paths → Storage → Job → Option (List ℕ) → RunOutcome → Type 0
+SaysJob told store job None outcome = IfSome told (λ files. of_job files job ≡ outcome)
+SaysJob told store job (Some dir) outcome = IfSome told (λ files. WhereTold store.before store.after (λ before after. SaysCached files job dir before store.faults_before after store.faults_after outcome))
+
+abbrev pub SaysAsked : Option Paths → Storage → Words → RunOutcome → Type 0
+SaysAsked told store (Expand job) outcome = SaysJob told store job job.cache outcome
+SaysAsked told store (Make count) outcome = of_made count ≡ outcome
+SaysAsked told store Usage outcome = usage ≡ outcome
+
+-- the definition gives this
+abbrev pub Says : Option Paths → Storage → List (List ℕ) → RunOutcome → Type 0
+Says told store words outcome = SaysAsked told store (words_asked words) outcome
+
+-- the report was written, or broke off
+pub data Reports (err : Sunk) (report : List ℕ) : Status → Type 0 where
+  reported : Wrote err report → Reports err report status.Done
+  unreported : Broke err report → Reports err report status.WriteFault
+
+-- the text was written, and then the report; or the text broke off
+pub data Finishes (out err : Sunk) (text report : List ℕ) : Status → Type 0 where
+  written : {s : Status} → Wrote out text → Reports err report s → Finishes out err text report s
+  broken : Broke out text → Untouched err → Finishes out err text report status.WriteFault
+
+-- a line was written on `err` alone with a status, or broke off
+pub data Complains (out err : Sunk) (line : List ℕ) (s : Status) : Status → Type 0 where
+  said : Untouched out → Wrote err line → Complains out err line s s
+  no_line : Untouched out → Broke err line → Complains out err line s status.WriteFault
+
+-- What a run wrote, and why it ended as it did. With `--make` the text is the summary line, and the definition always gives it.
+pub data Headline (told : Option Paths) (store : Storage) (words : List (List ℕ)) (faults_before faults_after : ℕ) (out err : Sunk) (s : Status) : Type 0 where
+  wrote_text : (text report : List ℕ) → Says told store words (done text report) → Finishes out err text report s → Headline told store words faults_before faults_after out err s
+  wrote_fault : (line : List ℕ) → Says told store words (fault line) → Complains out err line status.Fault s → Headline told store words faults_before faults_after out err s
+  wrong_words : words_asked words ≡ Usage → Complains out err usage_line status.Usage s → Headline told store words faults_before faults_after out err s
+  read_fault : s ≡ status.ReadFault → Rose faults_before faults_after → Untouched out → Untouched err → Headline told store words faults_before faults_after out err s
+  no_memory : s ≡ status.Memory → Untouched out → Untouched err → Headline told store words faults_before faults_after out err s
+
+abbrev pub status_of : RunOutcome → Status
+status_of usage = status.Usage
+status_of (done text report) = status.Done
+status_of (fault line) = status.Fault
+
+-- Where no count rose, the status is the definition's, unless memory ran out. With a cache it is that of a text or of a
+-- fault; over an honest store the headline tells which.
+abbrev pub CompleteJob : Option Paths → Job → Option (List ℕ) → (files_rose out_rose err_rose : Type 0) → Status → Type 0
+CompleteJob told job None files_rose out_rose err_rose s =
+    IfSome told (λ files. ¬ files_rose → ¬ out_rose → ¬ err_rose → ¬ (s ≡ status.Memory) → s ≡ status_of (of_job files job))
+CompleteJob told job (Some dir) files_rose out_rose err_rose s =
+    ¬ files_rose → ¬ out_rose → ¬ err_rose → ¬ (s ≡ status.Memory) → (s ≡ status.Done) ⊎ (s ≡ status.Fault)
+
+abbrev pub CompleteAsked : Option Paths → Words → (files_rose out_rose err_rose : Type 0) → Status → Type 0
+CompleteAsked told (Expand job) files_rose out_rose err_rose s = CompleteJob told job job.cache files_rose out_rose err_rose s
+CompleteAsked told (Make count) files_rose out_rose err_rose s = ¬ files_rose → ¬ out_rose → ¬ err_rose → ¬ (s ≡ status.Memory) → s ≡ status_of (of_made count)
+CompleteAsked told Usage files_rose out_rose err_rose s = ¬ files_rose → ¬ out_rose → ¬ err_rose → ¬ (s ≡ status.Memory) → s ≡ status.Usage
+
+abbrev pub Complete : Option Paths → List (List ℕ) → (files_rose out_rose err_rose : Type 0) → Status → Type 0
+Complete told words files_rose out_rose err_rose s = CompleteAsked told (words_asked words) files_rose out_rose err_rose s
+
+-- words that ask for no program leave the files as they were
+abbrev pub LeavesFiles : {F : Type 0} → List (List ℕ) → F → F → Type 0
+LeavesFiles words before after = ReadNone (words_asked words) → after ≡ before
+
+-- What is left of the store with a cache. From an honest store an honest one is left.
+pub record LeavesHonest (files : Paths) (job : Job) (dir : List ℕ) (before : Paths) (faults_before : ℕ) (after : Paths) (faults_after : ℕ) : Type 0 where
+  pub leaves : LeavesStore files job dir before faults_before after faults_after
+  pub honest : IsHonest prelude_table before → LeavesOfHonestly leaves → IsHonest prelude_table after
+
+-- without a cache the store is as it was
+abbrev pub KeepsJob : {S : Type 0} → Option Paths → Storage → Job → Option (List ℕ) → S → S → Type 0
+KeepsJob told store job None before after = after ≡ before
+KeepsJob told store job (Some dir) before after = IfSome told (λ files. WhereTold store.before store.after (λ held left. LeavesHonest files job dir held store.faults_before left store.faults_after))
+
+abbrev pub KeepsAsked : {S : Type 0} → Option Paths → Storage → Words → S → S → Type 0
+KeepsAsked told store (Expand job) before after = KeepsJob told store job job.cache before after
+KeepsAsked told store (Make count) before after = after ≡ before
+KeepsAsked told store Usage before after = after ≡ before
+
+abbrev pub KeepsStore : {S : Type 0} → Option Paths → Storage → List (List ℕ) → S → S → Type 0
+KeepsStore told store words before after = KeepsAsked told store (words_asked words) before after

@@ -1,7 +1,0 @@
-use Rattle.std.proofs.Common.{◌∙◌, ap₂, ℕ, List}
-use Rattle.sx_base.specs.declared.name.Label.{Label}
-use Rattle.sx_builtin.proofs.Runs.{row_turn}
-use Rattle.sx_builtin.proofs.exports.add_run.Goals as goal
-
-pub loop-number-preserved : goal.loop-number-preserved
-loop-number-preserved c = row_turn _ _ _ c.loop-number.number c.args.run.to _ c.loop-number-test.true c.in_ok-push.ensures.ok (ap₂ (λ (s : List ℕ) (l : Label). (s, l)) (c.in_ok-symbol.ensures ∙ c.op_text.ensures) c.in_ok-label.ensures) c.loop-number.invariant

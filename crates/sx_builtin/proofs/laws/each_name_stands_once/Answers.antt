@@ -1,5 +1,0 @@
-use Rattle.sx_builtin.proofs.LibraryLaws.{once_each}
-use Rattle.sx_builtin.proofs.laws.each_name_stands_once.Goals as goal
-
-pub returns : goal.returns
-returns c = once_each

@@ -1,5 +1,0 @@
-use Rattle.sx_builtin.proofs.LibraryLaws.{rnrs_has}
-use Rattle.sx_builtin.proofs.laws.rnrs_has_the_others_names.Goals as goal
-
-pub returns : goal.returns
-returns c = rnrs_has

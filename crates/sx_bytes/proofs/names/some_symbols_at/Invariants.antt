@@ -1,8 +1,0 @@
-use Rattle.std.proofs.Common.{◌≡◌, ◌-◌}
-use Rattle.sx_bytes.specs.Codec.{some_get}
-use Rattle.sx_bytes.specs.Codec as spec
-use Rattle.sx_bytes.proofs.Loop.{with_front}
-use Rattle.sx_bytes.proofs.names.some_symbols_at.Given as goal
-
-abbrev pub invariant-loop : goal.invariant-loop
-invariant-loop l = with_front l.list.items (some_get (spec.text).get (l.count - l.counter) l.rest) ≡ some_get (spec.text).get l.count l.bytes

@@ -1,9 +1,0 @@
-use Rattle.std.proofs.Common.{◌≡◌, length, drop}
-use Rattle.std.specs.Cmp.Lexicographic.{pointwise}
-use Rattle.sx_bytes.specs.Codec.{text, some_get}
-use Rattle.sx_cache.specs.Fits.{same_text}
-use Rattle.sx_cache.specs.Fitting.{behind}
-use Rattle.sx_cache.proofs.fitting.behind_texts.Given as goal
-
-abbrev pub invariant-loop-root : goal.invariant-loop-root
-invariant-loop-root l = behind (λ texts. pointwise same_text texts (drop l.root-index l.roots)) (some_get text.get (length (drop l.root-index l.roots)) l.rest) ≡ behind (λ texts. pointwise same_text texts l.roots) (some_get text.get (length l.roots) l.bytes)

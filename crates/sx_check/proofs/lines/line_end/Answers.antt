@@ -1,5 +1,0 @@
-use Rattle.sx_check.proofs.LineEnds.{found}
-use Rattle.sx_check.proofs.lines.line_end.Goals as goal
-
-pub returns-clause-place : goal.returns-clause-place
-returns-clause-place c = found c.args.bytes.now c.memchr.result c.memchr.ensures

@@ -1,5 +1,0 @@
-use Rattle.sx_check.proofs.VerdictLaw.{verdicts_are}
-use Rattle.sx_check.proofs.lines.verdicts_are_by_cases.Goals as goal
-
-pub returns : goal.returns
-returns c = verdicts_are c.names_are_scanned.ensures c.spellings_are_read_by_the_grammar.ensures

@@ -1,5 +1,0 @@
-use Rattle.sx_check_grammar.proofs.NameLemmas.{names_found}
-use Rattle.sx_check_grammar.proofs.names.names_are_scanned.Goals as goal
-
-pub returns : goal.returns
-returns c = names_found

@@ -1,8 +1,0 @@
-use Rattle.std.proofs.Common.{◌≡◌, ◌++◌}
-use Rattle.std.specs.String.{string_bytes}
-use Rattle.std.specs.List.{flat_map}
-use Rattle.sx_check_grammar.specs.Strings.{string_character}
-use Rattle.sx_check_grammar.proofs.strings.write_contents.Given as goal
-
-abbrev pub invariant-loop-c : goal.invariant-loop-c
-invariant-loop-c l = string_bytes l.out ≡ string_bytes l.initial.out ++ flat_map string_character l.yielded

@@ -1,5 +1,0 @@
-use Rattle.sx_codec.specs.RecordLaws.{decodes}
-use Rattle.sx_codec.proofs.a_record_is_decoded.Goals as goal
-
-pub returns : goal.returns
-returns c = decodes

@@ -1,6 +1,0 @@
-use Rattle.sx_compiled_laws.proofs.Templates.{others-are-bad-templates}
-use Rattle.sx_compiled_laws.proofs.Compiled.{templates-are-compiled}
-use Rattle.sx_compiled_laws.proofs.laws.templates_are_those_of_the_report.Goals as goal
-
-pub returns : goal.returns
-returns c = record { compiled = templates-are-compiled; others = others-are-bad-templates }

@@ -1,6 +1,0 @@
-use Rattle.std.proofs.Common.{◌≡◌, drop}
-use Rattle.sx_core.specs.Labels.{with_labels}
-use Rattle.sx_core.proofs.labels.Labels.add_each.Given as goal
-
-abbrev pub invariant-loop-label : goal.invariant-loop-label
-invariant-loop-label l = with_labels l.self (drop l.label-index l.labels) ≡ with_labels l.initial.self l.labels

@@ -1,5 +1,0 @@
-use Rattle.sx_core_grammar.proofs.Examples.{examples}
-use Rattle.sx_core_grammar.proofs.examples_are_spelled.Goals as goal
-
-pub returns : goal.returns
-returns c = examples

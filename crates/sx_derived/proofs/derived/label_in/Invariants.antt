@@ -1,7 +1,0 @@
-use Rattle.std.proofs.Common.{◌≡◌, drop}
-use Rattle.std.specs.Map.{lookup}
-use Rattle.sx_import.specs.Table.{same_text}
-use Rattle.sx_derived.proofs.derived.label_in.Given as goal
-
-abbrev pub invariant-loop-exported : goal.invariant-loop-exported
-invariant-loop-exported l = lookup (same_text l.name) (drop l.exported-index l.derived.exports) ≡ lookup (same_text l.name) l.derived.exports

@@ -1,6 +1,0 @@
-use Rattle.std.proofs.Common.{sym}
-use Rattle.sx_prelude.proofs.Names.{past_last}
-use Rattle.sx_derived.proofs.names.name_text.Goals as goal
-
-pub returns-else-number-lt-NAME_COUNT : goal.returns-else-number-lt-NAME_COUNT
-returns-else-number-lt-NAME_COUNT c = sym (past_last c.args.number c.if-number-lt-NAME_COUNT.false)

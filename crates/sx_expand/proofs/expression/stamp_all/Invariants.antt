@@ -1,6 +1,0 @@
-use Rattle.std.proofs.Common.{◌≡◌, map, take}
-use Rattle.sx_tree.specs.Changes.{stamp}
-use Rattle.sx_expand.proofs.expression.stamp_all.Given as goal
-
-abbrev pub invariant-loop-form : goal.invariant-loop-form
-invariant-loop-form g l = l.all ≡ map (stamp l.frame) (take l.form-index l.forms)

@@ -1,6 +1,0 @@
-use Rattle.std.proofs.Common.{◌≡◌, drop}
-use Rattle.sx_expand.specs.Top.{with_labels_of}
-use Rattle.sx_expand.proofs.top.add_labels.Given as goal
-
-abbrev pub invariant-loop-label : goal.invariant-loop-label
-invariant-loop-label l = with_labels_of l.own l.done (drop l.label-index l.labels) ≡ with_labels_of l.own l.fn.done l.labels

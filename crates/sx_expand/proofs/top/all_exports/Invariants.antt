@@ -1,7 +1,0 @@
-use Rattle.std.proofs.Common.{◌≡◌, drop, map}
-use Rattle.sx_base.specs.Act.{each}
-use Rattle.sx_expand.specs.Top.{export, all_exports}
-use Rattle.sx_expand.proofs.top.all_exports.Given as goal
-
-abbrev pub invariant-loop-external : goal.invariant-loop-external
-invariant-loop-external g l = each (export l.at) l.done (map (λ e. e) (drop l.external-index l.list)) l.state ≡ all_exports l.at l.list l.fn.state

@@ -1,6 +1,0 @@
-use Rattle.std.proofs.Common.{◌≡◌, drop}
-use Rattle.sx_expand.specs.Top.{with_lines_of, refs_of}
-use Rattle.sx_expand.proofs.top.refs_of.Given as goal
-
-abbrev pub invariant-loop-line : goal.invariant-loop-line
-invariant-loop-line l = with_lines_of l.own l.done (drop l.line-index l.lines) ≡ refs_of l.own l.lines

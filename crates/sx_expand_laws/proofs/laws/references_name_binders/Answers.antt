@@ -1,5 +1,0 @@
-use Rattle.sx_expand_laws.proofs.Named.{references-named, assignments-named, binders-found, binders-stay}
-use Rattle.sx_expand_laws.proofs.laws.references_name_binders.Goals as goal
-
-pub returns : goal.returns
-returns c = record { references = references-named; assignments = assignments-named; binders = binders-found; stay = binders-stay }

@@ -1,5 +1,0 @@
-use Rattle.sx_expand_laws.proofs.Replaced.{uses-replaced, body-uses-replaced, record-forms-replaced, body-record-forms-replaced}
-use Rattle.sx_expand_laws.proofs.laws.uses_are_replaced.Goals as goal
-
-pub returns : goal.returns
-returns c = record { expressions = uses-replaced; bodies = body-uses-replaced; records = record-forms-replaced; records_in_bodies = body-record-forms-replaced }

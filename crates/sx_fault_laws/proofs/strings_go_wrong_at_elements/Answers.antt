@@ -1,5 +1,0 @@
-use Rattle.sx_fault_laws.proofs.StringFaults.{string_faults_are}
-use Rattle.sx_fault_laws.proofs.strings_go_wrong_at_elements.Goals as goal
-
-pub returns : goal.returns
-returns c = string_faults_are

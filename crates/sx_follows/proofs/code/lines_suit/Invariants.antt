@@ -1,9 +1,0 @@
-use Rattle.std.proofs.Common.{◌≡◌, ◌++◌, drop, map}
-use Rattle.std.specs.List.{flat_map}
-use Rattle.sx_core_laws.specs.Follows.{suits}
-use Rattle.sx_core_laws.specs.Records.{defined, line_core}
-use Rattle.sx_core_laws.specs.Words.{each}
-use Rattle.sx_follows.proofs.code.lines_suit.Given as goal
-
-abbrev pub invariant-loop-line : goal.invariant-loop-line
-invariant-loop-line l = each (suits (flat_map defined l.top.earlier.now ++ l.top.own.now)) (map line_core (drop l.line-index l.lines)) ≡ each (suits (flat_map defined l.top.earlier.now ++ l.top.own.now)) (map line_core l.lines)

@@ -1,7 +1,0 @@
-use Rattle.std.proofs.Common.{◌≡◌, drop}
-use Rattle.sx_core_laws.specs.Follows.{is_recorded}
-use Rattle.sx_core_laws.specs.Words.{each}
-use Rattle.sx_follows.proofs.defines.are_recorded.Given as goal
-
-abbrev pub invariant-loop-row : goal.invariant-loop-row
-invariant-loop-row l = each is_recorded (drop l.row-index l.bindings) ≡ each is_recorded l.bindings

@@ -1,8 +1,0 @@
-use Rattle.std.proofs.Common.{◌≡◌, drop}
-use Rattle.std.specs.List.{flat_map}
-use Rattle.sx_core_laws.specs.Records.{line_labels}
-use Rattle.sx_follows.specs.Earlier.{adds_labels}
-use Rattle.sx_follows.proofs.earlier.put_defined.Given as goal
-
-abbrev pub invariant-loop-line : goal.invariant-loop-line
-invariant-loop-line l = adds_labels l.labels.entries (flat_map line_labels (drop l.line-index l.run)) l.place ≡ adds_labels l.initial.labels.entries (flat_map line_labels l.run) l.place

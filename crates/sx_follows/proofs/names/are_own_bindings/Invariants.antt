@@ -1,7 +1,0 @@
-use Rattle.std.proofs.Common.{◌≡◌, drop, map}
-use Rattle.sx_base.specs.Same.{same_library}
-use Rattle.sx_core_laws.specs.Words.{each}
-use Rattle.sx_follows.proofs.names.are_own_bindings.Given as goal
-
-abbrev pub invariant-loop-row : goal.invariant-loop-row
-invariant-loop-row l = each (λ k. same_library k.0.library l.name) (map (λ b. b.0) (drop l.row-index l.bindings)) ≡ each (λ k. same_library k.0.library l.name) (map (λ b. b.0) l.bindings)

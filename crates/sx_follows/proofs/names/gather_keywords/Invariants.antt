@@ -1,9 +1,0 @@
-use Rattle.std.proofs.Common.{◌≡◌, drop}
-use Rattle.std.specs.List.{flat_map}
-use Rattle.sx_core_laws.specs.Follows.{keyword_of}
-use Rattle.sx_core_laws.specs.Parts.{parts}
-use Rattle.sx_well_made.specs.Parts.{noted_all}
-use Rattle.sx_follows.proofs.names.gather_keywords.Given as goal
-
-abbrev pub invariant-loop-row : goal.invariant-loop-row
-invariant-loop-row l = noted_all l.all (flat_map parts (flat_map keyword_of (drop l.row-index l.bindings))) ≡ noted_all l.initial.all (flat_map parts (flat_map keyword_of l.bindings))

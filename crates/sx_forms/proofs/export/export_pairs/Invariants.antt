@@ -1,7 +1,0 @@
-use Rattle.std.proofs.Common.{◌≡◌, [], drop}
-use Rattle.sx_forms.specs.All.{all_of}
-use Rattle.sx_forms.specs.Export.{export_pair}
-use Rattle.sx_forms.proofs.export.export_pairs.Given as goal
-
-abbrev pub invariant-loop-item : goal.invariant-loop-item
-invariant-loop-item l = all_of (export_pair l.file) l.list (drop l.item-index l.items) ≡ all_of (export_pair l.file) [] l.items

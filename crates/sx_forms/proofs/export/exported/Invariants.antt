@@ -1,7 +1,0 @@
-use Rattle.std.proofs.Common.{◌≡◌, [], drop}
-use Rattle.sx_import.specs.Turns.{turns}
-use Rattle.sx_forms.specs.Export.{add_export}
-use Rattle.sx_forms.proofs.export.exported.Given as goal
-
-abbrev pub invariant-loop-export : goal.invariant-loop-export
-invariant-loop-export l = turns add_export l.names (drop l.export-index l.exports) ≡ turns add_export [] l.exports

@@ -1,6 +1,0 @@
-use Rattle.std.proofs.Common.{◌≡◌, [], drop}
-use Rattle.sx_forms.specs.Form.{export_specs}
-use Rattle.sx_forms.proofs.form.export_specs.Given as goal
-
-abbrev pub invariant-loop-spec : goal.invariant-loop-spec
-invariant-loop-spec l = export_specs l.file l.list.items (drop l.spec-index l.specs) ≡ export_specs l.file [] l.specs

@@ -1,6 +1,0 @@
-use Rattle.std.proofs.Common.{◌≡◌, ◌++◌, drop}
-use Rattle.sx_forms.specs.Name.{leading}
-use Rattle.sx_forms.proofs.name.leading.Given as goal
-
-abbrev pub invariant-loop-item : goal.invariant-loop-item
-invariant-loop-item l = l.parts ++ leading (drop l.item-index l.items) ≡ leading l.items

@@ -1,5 +1,0 @@
-use Rattle.sx_frames.proofs.FrameLaws.{rows_at-adopted}
-use Rattle.sx_frames.proofs.laws.adopted_rows_keep_their_order.Goals as goal
-
-pub returns : goal.returns
-returns c = rows_at-adopted

@@ -1,5 +1,0 @@
-use Rattle.sx_frames.proofs.ApartLaws.{given_are_adopted}
-use Rattle.sx_frames.proofs.laws.given_frames_are_adopted.Goals as goal
-
-pub returns : goal.returns
-returns c = given_are_adopted

@@ -1,5 +1,0 @@
-use Rattle.std.proofs.Common.{inl, inr, ⊎_elim}
-use Rattle.sx_frames.proofs.memo.Memo.keep.Goals as goal
-
-pub returns : goal.returns
-returns c = λ k h. ⊎_elim (λ x. inl (c.make_room.ensures k x)) (λ x. inr x) (c.put.ensures k h)

@@ -1,9 +1,0 @@
-use Rattle.std.proofs.Common.{ap, ◌∙◌}
-use Rattle.sx_frames.specs.Given.{has_part}
-use Rattle.sx_frames.proofs.NeededLemmas.{has_part-entry}
-use Rattle.sx_frames.proofs.shared.SharedFrames.has.Goals as goal
-
-pub returns : goal.returns
-returns c =
-    let l = c.args.library.now.value in
-    c.contains_key.ensures ∙ has_part-entry l c.self.inside.parts.entries ∙ ap (has_part l) c.self.view_is

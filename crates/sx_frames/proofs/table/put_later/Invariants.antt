@@ -1,7 +1,0 @@
-use Rattle.std.proofs.Common.{◌≡◌, ◌++◌, drop}
-use Rattle.sx_frames.specs.Rows.{rows_of}
-use Rattle.sx_frames.specs.Listed.{rows_from}
-use Rattle.sx_frames.proofs.table.put_later.Given as goal
-
-abbrev pub invariant-loop-i : goal.invariant-loop-i
-invariant-loop-i l = l.list.items ++ rows_from l.frame (drop l.i (rows_of l.rows.entries)) ≡ l.initial.list.items ++ rows_from l.frame (rows_of l.rows.entries)

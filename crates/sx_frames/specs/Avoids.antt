@@ -1,8 +1,0 @@
--- Stamps that don't name a frame.
-use Rattle.std.specs.Prelude.{◌≢◌, List, [], ◌∷◌}
-use Rattle.sx_base.specs.declared.name.FrameNo.{FrameNo}
-use Rattle.sx_tree.specs.declared.stamp.Stamp.{Stamp}
-
-abbrev pub Avoids : FrameNo → List Stamp → Type 0
-Avoids f [] = Unit {0}
-Avoids f (t ∷ ts) = (t.frame ≢ f) × Avoids f ts

@@ -1,2 +1,0 @@
--- What holds of each element of a list.
-pub use Rattle.sx_invariant_laws.proofs.Eachs.{each_both, each_and, each_mapped, each_of_map, each_taken, each_dropped, each_reversed, each_at}

@@ -1,5 +1,0 @@
-use Rattle.sx_heads.proofs.KeptLaws.{none_lost}
-use Rattle.sx_heads.proofs.laws.no_changed_head_is_lost.Goals as goal
-
-pub returns : goal.returns
-returns c = none_lost

@@ -1,8 +1,0 @@
-use Rattle.std.proofs.Common.{◌≡◌, ◌∙◌, ap, sym, subst}
-use Rattle.std.specs.Prelude.{Ok}
-use Rattle.sx_base.specs.Gives.{Gives}
-use Rattle.sx_import.proofs.NameLemmas.{need_same}
-use Rattle.sx_import.proofs.names.need.Goals as goal
-
-pub returns : goal.returns
-returns c = subst (Gives (λ u. u) c.need_in.result) (need_same _ c.args.names.now c.args.ids.now (Ok tt) c.in_ok-table.ensures) c.need_in.ensures

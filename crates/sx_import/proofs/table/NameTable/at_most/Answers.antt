@@ -1,7 +1,0 @@
-use Rattle.std.proofs.Common.{subst}
-use Rattle.sx_import.specs.Shared.{IsOwn}
-use Rattle.sx_import.proofs.FoundLemmas.{place_own}
-use Rattle.sx_import.proofs.table.NameTable.at_most.Goals as goal
-
-pub returns-clause-own : goal.returns-clause-own
-returns-clause-own g c = subst IsOwn c.self.view_is (place_own c.self.inside.rows.entries c.len.ensures.unique)

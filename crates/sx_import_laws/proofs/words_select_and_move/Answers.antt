@@ -1,7 +1,0 @@
-use Rattle.std.specs.Prelude.{[]}
-use Rattle.sx_import.specs.Names.{renamed}
-use Rattle.sx_import_laws.proofs.AlgebraLemmas.{value-only, value-except, value-prefixed, has-joined}
-use Rattle.sx_import_laws.proofs.words_select_and_move.Goals as goal
-
-pub returns : goal.returns
-returns c = record { only = value-only; except = value-except; prefix = value-prefixed; rename = λ span rs names r h. has-joined span [] (renamed rs names) r h }

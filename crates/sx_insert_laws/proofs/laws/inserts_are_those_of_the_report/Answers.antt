@@ -1,5 +1,0 @@
-use Rattle.sx_insert_laws.proofs.Inserted.{inserts-are-told}
-use Rattle.sx_insert_laws.proofs.laws.inserts_are_those_of_the_report.Goals as goal
-
-pub returns : goal.returns
-returns c = inserts-are-told

@@ -1,4 +1,0 @@
-use Rattle.sx_inside_tests.proofs.tables.shared.Given as goal
-
-abbrev pub ghosts-shared_by : goal.ghosts-shared_by
-ghosts-shared_by a = record { name = a.blank.name; parts = a.blank.parts }

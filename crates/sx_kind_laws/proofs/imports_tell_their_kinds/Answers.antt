@@ -1,5 +1,0 @@
-use Rattle.sx_kind_laws.proofs.Imports.{imports-tell, joins-tell}
-use Rattle.sx_kind_laws.proofs.imports_tell_their_kinds.Goals as goal
-
-pub returns : goal.returns
-returns c = record { sets = imports-tell; joins = joins-tell }

@@ -1,9 +1,0 @@
-use Rattle.std.proofs.Common.{◌≡◌, take}
-use Rattle.sx_known.specs.Known.{AreOf}
-use Rattle.sx_known.proofs.given.bindings_of.Given as goal
-
-abbrev pub invariant-loop-label : goal.invariant-loop-label
-invariant-loop-label l = record {
-  rows : l.bindings ≡ take l.label-index l.rows;
-  of : AreOf l.library l.bindings;
-}

@@ -1,5 +1,0 @@
-use Rattle.sx_lexer.proofs.BetweenLemmas.{gaps_are}
-use Rattle.sx_lexer.proofs.laws.gaps_are_whitespace_and_comments.Goals as goal
-
-pub returns : goal.returns
-returns c = gaps_are

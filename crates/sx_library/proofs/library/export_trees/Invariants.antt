@@ -1,6 +1,0 @@
-use Rattle.std.proofs.Common.{◌≡◌, ◌++◌, map, drop}
-use Rattle.sx_library.specs.Library.{export_tree}
-use Rattle.sx_library.proofs.library.export_trees.Given as goal
-
-abbrev pub invariant-loop-place : goal.invariant-loop-place
-invariant-loop-place l = l.trees ++ map export_tree (drop l.place l.exports) ≡ map export_tree l.exports

@@ -1,6 +1,0 @@
-use Rattle.std.proofs.Common.{◌≡◌, [], drop}
-use Rattle.sx_library.specs.Library.{trees_at}
-use Rattle.sx_library.proofs.library.trees_at.Given as goal
-
-abbrev pub invariant-loop-datum : goal.invariant-loop-datum
-invariant-loop-datum l = trees_at l.place l.trees (drop l.datum-index l.body) ≡ trees_at l.place [] l.body

@@ -1,9 +1,0 @@
-use Rattle.std.proofs.Common.{◌≡◌, drop}
-use Rattle.sx_load.specs.Found.{places_from}
-use Rattle.sx_standing.specs.Start.{records_at}
-use Rattle.sx_library.specs.Imports.{named}
-use Rattle.sx_library.specs.Records.{needed_records}
-use Rattle.sx_library.proofs.records.Records.sought.Given as goal
-
-abbrev pub invariant-loop-place : goal.invariant-loop-place
-invariant-loop-place l = named l.name (records_at l.self (places_from l.place (drop l.place l.needs))) ≡ named l.name (needed_records l.self l.needs)

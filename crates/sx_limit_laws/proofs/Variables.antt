@@ -1,2 +1,0 @@
--- What is found in a table.
-pub use Rattle.sx_invariant_laws.proofs.Variables.{looked_up}

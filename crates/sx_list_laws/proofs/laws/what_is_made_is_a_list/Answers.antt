@@ -1,5 +1,0 @@
-use Rattle.sx_list_laws.proofs.RunLemmas.{stored_runs, runs_stored}
-use Rattle.sx_list_laws.proofs.laws.what_is_made_is_a_list.Goals as goal
-
-pub returns : goal.returns
-returns c = record { runs = λ xs rest name cells. stored_runs xs rest cells; still = λ xs ys rest end y name cells r. runs_stored xs rest cells r }

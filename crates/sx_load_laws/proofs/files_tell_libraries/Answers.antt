@@ -1,5 +1,0 @@
-use Rattle.sx_load_laws.proofs.FileLemmas.{no_slash, no_dot, comes_back, files_tell}
-use Rattle.sx_load_laws.proofs.files_tell_libraries.Goals as goal
-
-pub returns : goal.returns
-returns c = record { no_slash = no_slash; no_dot = no_dot; decoded = comes_back; told = files_tell }

@@ -1,5 +1,0 @@
-use Rattle.sx_load_laws.proofs.RootLemmas.{stand_below, stand_below_until}
-use Rattle.sx_load_laws.proofs.first_root_counts.Goals as goal
-
-pub returns : goal.returns
-returns c = record { libraries = stand_below; stopped = stand_below_until }

@@ -1,6 +1,0 @@
-use Rattle.std.proofs.Common.{◌≡◌, ◌++◌, drop}
-use Rattle.sx_make.specs.Made.{filled}
-use Rattle.sx_make.proofs.made.put_filled.Given as goal
-
-abbrev pub invariant-loop-byte : goal.invariant-loop-byte
-invariant-loop-byte l = l.out.items ++ filled l.number (drop l.byte-index l.pattern) ≡ l.initial.out.items ++ filled l.number l.pattern

@@ -1,5 +1,0 @@
-use Rattle.sx_match_laws.proofs.Renamed.{same}
-use Rattle.sx_match_laws.proofs.laws.names_of_marks_are_free.Goals as goal
-
-pub returns : goal.returns
-returns c = λ r one fs cells p v s. same r one fs cells p v s

@@ -1,5 +1,0 @@
-use Rattle.sx_ops_numbers.proofs.Divisions.{euclid}
-use Rattle.sx_ops_numbers.proofs.laws.div_and_mod.Goals as goal
-
-pub returns-clause-whole : goal.returns-clause-whole
-returns-clause-whole c = euclid

@@ -1,9 +1,0 @@
-use Rattle.std.proofs.Common.{◌≤◌, length, take}
-use Rattle.sx_outside.specs.Sink.{Gains}
-use Rattle.sx_outside.proofs.host.write_some.Given as goal
-
-abbrev pub invariant-loop : goal.invariant-loop
-invariant-loop g l = record {
-  within : l.taken ≤ length l.piece;
-  gains : Gains (g.W.Write.contents l.fn.writer) (g.W.Write.contents l.writer) (take l.taken l.piece);
-}

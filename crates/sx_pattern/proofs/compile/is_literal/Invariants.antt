@@ -1,6 +1,0 @@
-use Rattle.std.proofs.Common.{◌≡◌, drop}
-use Rattle.sx_pattern.specs.Compile.{is_literal}
-use Rattle.sx_pattern.proofs.compile.is_literal.Given as goal
-
-abbrev pub invariant-loop-literal : goal.invariant-loop-literal
-invariant-loop-literal l = is_literal (drop l.literal-index l.literals) l.form ≡ is_literal l.literals l.form

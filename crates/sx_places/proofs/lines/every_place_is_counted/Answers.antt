@@ -1,5 +1,0 @@
-use Rattle.sx_places.proofs.Counts.{place_counted}
-use Rattle.sx_places.proofs.lines.every_place_is_counted.Goals as goal
-
-pub returns : goal.returns
-returns c = place_counted

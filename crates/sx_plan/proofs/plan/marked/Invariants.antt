@@ -1,6 +1,0 @@
-use Rattle.std.proofs.Common.{◌≡◌, ◌++◌, drop}
-use Rattle.sx_plan.specs.Work.{marked_from}
-use Rattle.sx_plan.proofs.plan.marked.Given as goal
-
-abbrev pub invariant-loop-place : goal.invariant-loop-place
-invariant-loop-place l = l.plan.items ++ marked_from l.place (drop l.place l.marks) ≡ marked_from 0 l.marks

@@ -1,6 +1,0 @@
-use Rattle.std.proofs.Common.{◌≡◌, ◌++◌, drop, filter}
-use Rattle.sx_prelude.specs.Prelude.{is_core}
-use Rattle.sx_prelude.proofs.codes.only_core.Given as goal
-
-abbrev pub invariant-loop-name : goal.invariant-loop-name
-invariant-loop-name l = l.names ++ filter (λ e. is_core e) (drop l.name-index l.all) ≡ filter (λ e. is_core e) l.all

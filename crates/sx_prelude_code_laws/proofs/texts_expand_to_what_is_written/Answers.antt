@@ -1,6 +1,0 @@
-use Rattle.sx_prelude_code_laws.proofs.Expanded.{texts-expand, texts-spend-nothing}
-use Rattle.sx_prelude_code_laws.proofs.Table.{table-is-written}
-use Rattle.sx_prelude_code_laws.proofs.texts_expand_to_what_is_written.Goals as goal
-
-pub returns : goal.returns
-returns c = record { codes = texts-expand; table = table-is-written; fuel = texts-spend-nothing }

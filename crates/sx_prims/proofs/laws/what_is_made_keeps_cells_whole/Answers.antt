@@ -1,5 +1,0 @@
-use Rattle.sx_prims.proofs.Performed.{made_good}
-use Rattle.sx_prims.proofs.laws.what_is_made_keeps_cells_whole.Goals as goal
-
-pub returns : goal.returns
-returns c = record { cells = λ m name cells w h. (made_good m name cells w h).0; value = λ m name cells w h. (made_good m name cells w h).1 }

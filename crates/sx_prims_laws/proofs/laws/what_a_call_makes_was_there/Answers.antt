@@ -1,6 +1,0 @@
-use Rattle.sx_prims_laws.specs.Holds.{Passes}
-use Rattle.sx_prims_laws.proofs.Calls.{call_holds}
-use Rattle.sx_prims_laws.proofs.laws.what_a_call_makes_was_there.Goals as goal
-
-pub returns : goal.returns
-returns c = λ test op args cells fs m h r e. call_holds (Passes test) op args cells fs m h r e

@@ -1,7 +1,0 @@
-use Rattle.std.proofs.Common.{◌≡◌, drop, map}
-use Rattle.sx_base.specs.Act.{each}
-use Rattle.sx_quasi_code.specs.Inserted.{insert_variable, insert_variables}
-use Rattle.sx_quasi_code.proofs.inserted.insert_variables.Given as goal
-
-abbrev pub invariant-loop-insert : goal.invariant-loop-insert
-invariant-loop-insert g l = each insert_variable l.done (map (λ i. i) (drop l.insert-index l.inserts)) l.state ≡ insert_variables l.inserts l.fn.state

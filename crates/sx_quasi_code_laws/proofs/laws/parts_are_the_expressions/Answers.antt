@@ -1,6 +1,0 @@
-use Rattle.std.proofs.Common.{[]}
-use Rattle.sx_quasi_code_laws.proofs.Parts.{parts_are}
-use Rattle.sx_quasi_code_laws.proofs.laws.parts_are_the_expressions.Goals as goal
-
-pub returns : goal.returns
-returns c = λ form depth q h. parts_are form q depth [] h

@@ -1,5 +1,0 @@
-use Rattle.sx_quasi_laws.proofs.Forms.{raised}
-use Rattle.sx_quasi_laws.proofs.laws.quasiquote_raises_the_level.Goals as goal
-
-pub returns : goal.returns
-returns c = λ w f head t n h. raised w f head t n h

@@ -1,7 +1,0 @@
-use Rattle.std.proofs.Common.{◌≡◌, drop, []}
-use Rattle.sx_shapes.specs.Lists.{all_of}
-use Rattle.sx_records.specs.Clauses.{field_of}
-use Rattle.sx_records.proofs.clauses.all_fields.Given as goal
-
-abbrev pub invariant-loop-form : goal.invariant-loop-form
-invariant-loop-form l = all_of (field_of l.frames l.name) l.all (drop l.form-index l.forms) ≡ all_of (field_of l.frames l.name) [] l.forms

@@ -1,6 +1,0 @@
-use Rattle.std.proofs.Common.{◌≡◌, ◌++◌, drop}
-use Rattle.sx_reuse.specs.Groups.{groups_from}
-use Rattle.sx_reuse.proofs.groups.all_groups.Given as goal
-
-abbrev pub invariant-loop-place : goal.invariant-loop-place
-invariant-loop-place l = l.groups ++ groups_from l.first l.place (drop l.place l.sources) ≡ groups_from 0 0 l.sources

@@ -1,5 +1,0 @@
-use Rattle.sx_reuse_laws.proofs.Whole.{whole_loaded, whole_stopped}
-use Rattle.sx_reuse_laws.proofs.a_cache_changes_nothing.Goals as goal
-
-pub returns : goal.returns
-returns c = record { loaded = whole_loaded; stopped = whole_stopped }

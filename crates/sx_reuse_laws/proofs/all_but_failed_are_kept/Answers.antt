@@ -1,5 +1,0 @@
-use Rattle.sx_reuse_laws.proofs.Whole.{failed_loaded}
-use Rattle.sx_reuse_laws.proofs.all_but_failed_are_kept.Goals as goal
-
-pub returns : goal.returns
-returns c = λ base files roots path. failed_loaded files roots path base

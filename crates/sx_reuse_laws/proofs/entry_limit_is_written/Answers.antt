@@ -1,5 +1,0 @@
-use Rattle.std.proofs.Common.{refl}
-use Rattle.sx_reuse_laws.proofs.entry_limit_is_written.Goals as goal
-
-pub returns : goal.returns
-returns c = record { of_runs = refl; of_laws = refl }

@@ -1,5 +1,0 @@
-use Rattle.sx_reuse_laws.proofs.Due.{kept_loaded, kept_stopped}
-use Rattle.sx_reuse_laws.proofs.kept_entries_fit.Goals as goal
-
-pub returns : goal.returns
-returns c = record { loaded = kept_loaded; stopped = kept_stopped }

@@ -1,5 +1,0 @@
-use Rattle.sx_reuse_laws.proofs.QuietLemmas.{writes_quiet, leaves_quiet}
-use Rattle.sx_reuse_laws.proofs.no_failure_leaves_nothing_foreign.Goals as goal
-
-pub returns : goal.returns
-returns c = λ k prelude. record { writes = writes_quiet k prelude; leaves = leaves_quiet k prelude }

@@ -1,9 +1,0 @@
--- The limit of an entry, written out as a number.
-use Rattle.std.specs.Prelude.{◌≡◌}
-use Rattle.sx_local_laws.specs.Reuse as law
-use Rattle.sx_reuse.specs.Entries.{entry_limit}
-
-pub record EntryLimitIsWritten : Type 0 where
-  -- bytes of an entry with its seal, in runs and in the law of sources and entries
-  pub of_runs : entry_limit ≡ 8388608
-  pub of_laws : law.entry_limit ≡ 8388608

@@ -1,5 +1,0 @@
-use Rattle.sx_room_laws.proofs.Rooms.{forms-need-no-more, items-need-no-more, cases-need-no-more, bodies-need-no-more, tops-need-no-more}
-use Rattle.sx_room_laws.proofs.laws.room_changes_nothing.Goals as goal
-
-pub returns : goal.returns
-returns c = record { forms = forms-need-no-more; items = items-need-no-more; cases = cases-need-no-more; bodies = bodies-need-no-more; tops = tops-need-no-more }

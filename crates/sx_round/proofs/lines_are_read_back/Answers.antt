@@ -1,5 +1,0 @@
-use Rattle.sx_round.proofs.Lines.{lines_back}
-use Rattle.sx_round.proofs.lines_are_read_back.Goals as goal
-
-pub returns : goal.returns
-returns c = lines_back

@@ -1,5 +1,0 @@
-use Rattle.sx_round.proofs.Reading.{read_readable}
-use Rattle.sx_round.proofs.only_readable_are_read.Goals as goal
-
-pub returns : goal.returns
-returns c = read_readable

@@ -1,5 +1,0 @@
-use Rattle.sx_round.proofs.Reading.{read_is_read_back}
-use Rattle.sx_round.proofs.read_are_read_back.Goals as goal
-
-pub returns : goal.returns
-returns c = read_is_read_back

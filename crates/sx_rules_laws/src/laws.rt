@@ -1,9 +1,0 @@
-//! Laws of rules. Each function here computes nothing: what it promises is the law.
-
-ghost use Rattle.sx_rules_laws.specs.Laws.{RulesAreEvaluation};
-
-/// A use of a transformer that is a `syntax-case` of templates (R6RS libraries 12.4) gives what its rules tell of
-/// the tree, and spends what they tell.
-pub fn rules_are_evaluation()
-    ensures { RulesAreEvaluation }
-{}

@@ -1,5 +1,0 @@
-use Rattle.sx_run.proofs.Sinks.{complete}
-use Rattle.sx_run.proofs.top.run.Goals as goal
-
-pub returns-clause-complete : goal.returns-clause-complete
-returns-clause-complete g c = complete _ _ _ _ _ _ _ _ c.run_words.ensures.headline

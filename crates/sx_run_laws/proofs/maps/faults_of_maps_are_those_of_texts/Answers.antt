@@ -1,5 +1,0 @@
-use Rattle.sx_run_laws.proofs.LinkedRuns.{map-faults-are-faults}
-use Rattle.sx_run_laws.proofs.maps.faults_of_maps_are_those_of_texts.Goals as goal
-
-pub returns : goal.returns
-returns c = map-faults-are-faults

@@ -1,5 +1,0 @@
-use Rattle.sx_run_laws.proofs.ReadableRuns.{texts-tell}
-use Rattle.sx_run_laws.proofs.readable.the_text_of_a_run_tells_its_lines.Goals as goal
-
-pub returns : goal.returns
-returns c = texts-tell c.core_text_tells_its_lines.ensures

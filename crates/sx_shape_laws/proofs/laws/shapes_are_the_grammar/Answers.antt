@@ -1,6 +1,0 @@
-use Rattle.sx_shape_laws.proofs.Complete.{written-have-shapes, one-shape}
-use Rattle.sx_shape_laws.proofs.Sound.{shapes-are-written, others-are-bad}
-use Rattle.sx_shape_laws.proofs.laws.shapes_are_the_grammar.Goals as goal
-
-pub returns : goal.returns
-returns c = record { written = written-have-shapes; found = shapes-are-written; one = one-shape; others = others-are-bad }

@@ -1,7 +1,0 @@
-use Rattle.std.proofs.Common.{◌≡◌, drop, []}
-use Rattle.sx_shapes.specs.Lists.{all_of}
-use Rattle.sx_shapes.specs.Forms.{binding}
-use Rattle.sx_shapes.proofs.forms.all_bindings.Given as goal
-
-abbrev pub invariant-loop-form : goal.invariant-loop-form
-invariant-loop-form l = all_of binding l.all (drop l.form-index l.forms) ≡ all_of binding [] l.forms

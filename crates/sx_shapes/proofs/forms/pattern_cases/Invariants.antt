@@ -1,7 +1,0 @@
-use Rattle.std.proofs.Common.{◌≡◌, drop, []}
-use Rattle.sx_shapes.specs.Lists.{all_of}
-use Rattle.sx_shapes.specs.Forms.{pattern_case}
-use Rattle.sx_shapes.proofs.forms.pattern_cases.Given as goal
-
-abbrev pub invariant-loop-form : goal.invariant-loop-form
-invariant-loop-form l = all_of pattern_case l.all (drop l.form-index l.forms) ≡ all_of pattern_case [] l.forms

@@ -1,6 +1,0 @@
-use Rattle.std.proofs.Common.{◌≡◌, drop}
-use Rattle.sx_shapes.specs.Lists.{all_ids}
-use Rattle.sx_shapes.proofs.lists.all_ids.Given as goal
-
-abbrev pub invariant-loop-form : goal.invariant-loop-form
-invariant-loop-form l = all_ids (drop l.form-index l.forms) ≡ all_ids l.forms

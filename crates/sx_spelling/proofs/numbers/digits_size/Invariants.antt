@@ -1,6 +1,0 @@
-use Rattle.std.proofs.Common.{◌≡◌, ◌+◌, drop}
-use Rattle.sx_spelling.specs.Numbers.{digits_size}
-use Rattle.sx_spelling.proofs.numbers.digits_size.Given as goal
-
-abbrev pub invariant-loop-i : goal.invariant-loop-i
-invariant-loop-i l = l.i + digits_size l.base (drop l.i l.bytes) ≡ digits_size l.base l.bytes

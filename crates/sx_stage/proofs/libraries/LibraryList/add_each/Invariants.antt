@@ -1,6 +1,0 @@
-use Rattle.std.proofs.Common.{◌≡◌, drop}
-use Rattle.sx_stage.specs.Libraries.{with_libraries}
-use Rattle.sx_stage.proofs.libraries.LibraryList.add_each.Given as goal
-
-abbrev pub invariant-loop-library : goal.invariant-loop-library
-invariant-loop-library l = with_libraries l.self (drop l.library-index l.libraries) ≡ with_libraries l.initial.self l.libraries

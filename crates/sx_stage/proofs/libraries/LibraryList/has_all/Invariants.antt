@@ -1,6 +1,0 @@
-use Rattle.std.proofs.Common.{◌≡◌, drop}
-use Rattle.sx_stage.specs.Libraries.{has_all}
-use Rattle.sx_stage.proofs.libraries.LibraryList.has_all.Given as goal
-
-abbrev pub invariant-loop-library : goal.invariant-loop-library
-invariant-loop-library l = has_all l.self (drop l.library-index l.others) ≡ has_all l.self l.others

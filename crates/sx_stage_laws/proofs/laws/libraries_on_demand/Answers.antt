@@ -1,5 +1,0 @@
-use Rattle.sx_stage_laws.proofs.Sweeping.{wanted_reached, reached_wanted, evaluated_in_order, stays_closed, reached_evaluated}
-use Rattle.sx_stage_laws.proofs.laws.libraries_on_demand.Goals as goal
-
-pub returns : goal.returns
-returns c = record { reached = wanted_reached; wanted = reached_wanted; in_order = evaluated_in_order; closed = stays_closed; all = reached_evaluated }

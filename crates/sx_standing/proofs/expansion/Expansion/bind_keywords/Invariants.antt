@@ -1,7 +1,0 @@
-use Rattle.std.proofs.Common.{◌≡◌, drop, map}
-use Rattle.sx_base.specs.Act.{each}
-use Rattle.sx_standing.specs.Uses.{bind_keyword, bind_keywords}
-use Rattle.sx_standing.proofs.expansion.Expansion.bind_keywords.Given as goal
-
-abbrev pub invariant-loop-spec : goal.invariant-loop-spec
-invariant-loop-spec g l = each (bind_keyword l.context.frame.now l.context.place.now l.context.level) l.done (map (λ b. b) (drop l.spec-index l.specs)) l.self ≡ bind_keywords l.context.frame.now l.context.place.now l.context.level l.specs l.fn.self

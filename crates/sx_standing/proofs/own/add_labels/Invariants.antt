@@ -1,6 +1,0 @@
-use Rattle.std.proofs.Common.{◌≡◌, drop}
-use Rattle.sx_standing.specs.Own.{labels_with}
-use Rattle.sx_standing.proofs.own.add_labels.Given as goal
-
-abbrev pub invariant-loop-label : goal.invariant-loop-label
-invariant-loop-label l = labels_with l.labels (drop l.label-index l.exports) ≡ labels_with l.fn.labels l.exports

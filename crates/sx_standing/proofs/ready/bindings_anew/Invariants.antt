@@ -1,6 +1,0 @@
-use Rattle.std.proofs.Common.{◌≡◌, map, take}
-use Rattle.sx_standing.specs.Ready.{bindings_part}
-use Rattle.sx_standing.proofs.ready.bindings_anew.Given as goal
-
-abbrev pub invariant-loop-one : goal.invariant-loop-one
-invariant-loop-one l = l.table ≡ map bindings_part (take l.one-index l.records)

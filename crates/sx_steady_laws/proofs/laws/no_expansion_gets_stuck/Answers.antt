@@ -1,5 +1,0 @@
-use Rattle.sx_steady_laws.proofs.Libraries.{expansions_never_stuck}
-use Rattle.sx_steady_laws.proofs.laws.no_expansion_gets_stuck.Goals as goal
-
-pub returns : goal.returns
-returns c = expansions_never_stuck

@@ -1,5 +1,0 @@
-use Rattle.std.proofs.Common.{length}
-use Rattle.sx_syntax.proofs.stack.Stack.drop.Given as goal
-
-abbrev pub decreases-loop-level : goal.decreases-loop-level
-decreases-loop-level g l = length l.self

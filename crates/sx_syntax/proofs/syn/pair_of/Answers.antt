@@ -1,4 +1,0 @@
-use Rattle.sx_syntax.proofs.syn.pair_of.Goals as goal
-
-pub returns : goal.returns
-returns c = λ s. (c.in_ok-first.ensures, c.in_ok-rest.ensures)

@@ -1,5 +1,0 @@
-use Rattle.std.proofs.Common.{length}
-use Rattle.sx_syntax.proofs.wrap.Wrap.drop.Given as goal
-
-abbrev pub decreases-loop-link : goal.decreases-loop-link
-decreases-loop-link l = length l.self

@@ -1,4 +1,0 @@
-use Rattle.sx_syntax_tests.proofs.changes.after.Given as goal
-
-abbrev pub ghosts-stepped : goal.ghosts-stepped
-ghosts-stepped a = record { name = a.blank.name; parts = a.blank.parts }

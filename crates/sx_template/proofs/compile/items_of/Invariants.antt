@@ -1,7 +1,0 @@
-use Rattle.std.proofs.Common.{◌≡◌}
-use Rattle.sx_core.specs.TemplateView.{items}
-use Rattle.sx_template.specs.Compile.{items_of}
-use Rattle.sx_template.proofs.compile.items_of.Given as goal
-
-abbrev pub invariant-loop-made : goal.invariant-loop-made
-invariant-loop-made l = items l.list.items ≡ items_of l.yielded

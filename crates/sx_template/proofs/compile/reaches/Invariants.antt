@@ -1,6 +1,0 @@
-use Rattle.std.proofs.Common.{◌≡◌, max, drop}
-use Rattle.sx_template.specs.Compile.{reaches}
-use Rattle.sx_template.proofs.compile.reaches.Given as goal
-
-abbrev pub invariant-loop-item : goal.invariant-loop-item
-invariant-loop-item l = max l.most (reaches (drop l.item-index l.made)) ≡ reaches l.made

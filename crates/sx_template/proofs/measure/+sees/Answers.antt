@@ -1,6 +1,0 @@
-use Rattle.std.proofs.Common.{arith}
-use Rattle.sx_template.proofs.Sizes.{item_smaller}
-use Rattle.sx_template.proofs.measure.+sees.Goals as goal
-
-pub items_see-sees-requires : goal.items_see-sees-requires
-items_see-sees-requires t c = rw c.item-item.is (grind (arith, item_smaller))

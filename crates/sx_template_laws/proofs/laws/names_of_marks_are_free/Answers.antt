@@ -1,6 +1,0 @@
-use Rattle.std.proofs.Common.{[]}
-use Rattle.sx_template_laws.proofs.Renamed.{instance-renamed}
-use Rattle.sx_template_laws.proofs.laws.names_of_marks_are_free.Goals as goal
-
-pub returns : goal.returns
-returns c = λ r a binds t cells. instance-renamed r a binds t [] cells

@@ -1,5 +1,0 @@
-use Rattle.sx_template_laws.proofs.Measuring.{measure_tells}
-use Rattle.sx_template_laws.proofs.laws.what_is_measured_is_what_it_costs.Goals as goal
-
-pub returns : goal.returns
-returns c = λ a binds t cells. measure_tells a binds t cells

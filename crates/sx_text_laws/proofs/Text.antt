@@ -1,7 +1,0 @@
--- The text of a run is closed, and bound once.
-use Rattle.sx_text_laws.specs.Text.{TextIsClosedOnce}
-use Rattle.sx_text_laws.proofs.Closed.{text-closed}
-use Rattle.sx_text_laws.proofs.BoundOnce.{binders-once, names-once}
-
-pub text-is-closed-once : TextIsClosedOnce
-text-is-closed-once rs p h = record { closed = text-closed rs p h; bound_once = binders-once rs p h; named_once = names-once rs p h }

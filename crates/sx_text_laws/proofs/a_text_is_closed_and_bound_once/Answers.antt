@@ -1,5 +1,0 @@
-use Rattle.sx_text_laws.proofs.Text.{text-is-closed-once}
-use Rattle.sx_text_laws.proofs.a_text_is_closed_and_bound_once.Goals as goal
-
-pub returns : goal.returns
-returns c = text-is-closed-once

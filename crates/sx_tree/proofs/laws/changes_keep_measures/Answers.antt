@@ -1,5 +1,0 @@
-use Rattle.sx_tree.proofs.MeasureLaws.{size-changed, height-changed}
-use Rattle.sx_tree.proofs.laws.changes_keep_measures.Goals as goal
-
-pub returns : goal.returns
-returns c = record { size = size-changed; height = height-changed }

@@ -1,5 +1,0 @@
-use Rattle.sx_tree.proofs.TreeLaws.{leave-enter}
-use Rattle.sx_tree.proofs.laws.leave_takes_enter_back.Goals as goal
-
-pub returns : goal.returns
-returns c = leave-enter

@@ -1,8 +1,0 @@
-use Rattle.std.proofs.Common.{◌≡◌, ◌-◌}
-use Rattle.sx_bytes.specs.Codec.{some_get}
-use Rattle.sx_codec.specs.Contexts as spell
-use Rattle.sx_bytes.proofs.Loop.{with_front}
-use Rattle.sx_tree_bytes.proofs.contexts.some_stamps.Given as goal
-
-abbrev pub invariant-loop : goal.invariant-loop
-invariant-loop l = with_front l.list.items (some_get (spell.stamp).get (l.count - l.counter) l.rest) ≡ some_get (spell.stamp).get l.count l.bytes

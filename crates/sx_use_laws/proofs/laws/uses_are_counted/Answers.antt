@@ -1,5 +1,0 @@
-use Rattle.sx_use_laws.proofs.Counted.{uses-counted, body-uses-counted}
-use Rattle.sx_use_laws.proofs.laws.uses_are_counted.Goals as goal
-
-pub returns : goal.returns
-returns c = record { expressions = uses-counted; bodies = body-uses-counted }

@@ -1,5 +1,0 @@
-use Rattle.sx_value.proofs.Stored.{stored_keeps}
-use Rattle.sx_value.proofs.laws.data_keep_older_cells.Goals as goal
-
-pub returns : goal.returns
-returns c = stored_keeps

@@ -1,5 +1,0 @@
-use Rattle.sx_whole_laws.proofs.Stuck.{never_stuck, applied_never_stuck}
-use Rattle.sx_whole_laws.proofs.laws.whole_worlds_are_never_stuck.Goals as goal
-
-pub returns : goal.returns
-returns c = record { eval = never_stuck; applied = applied_never_stuck }

@@ -1,5 +1,0 @@
-use Rattle.sx_whole_laws.proofs.Beginnings.{first_worlds_whole, one_is_whole}
-use Rattle.sx_whole_laws.proofs.laws.whole_worlds_begin.Goals as goal
-
-pub returns : goal.returns
-returns c = record { first = first_worlds_whole; one = one_is_whole }

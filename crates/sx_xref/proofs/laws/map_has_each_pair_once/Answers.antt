@@ -1,5 +1,0 @@
-use Rattle.sx_xref.proofs.Order.{map-is-once}
-use Rattle.sx_xref.proofs.laws.map_has_each_pair_once.Goals as goal
-
-pub returns : goal.returns
-returns c = map-is-once

@@ -1,5 +1,0 @@
-use Rattle.sx_xref.proofs.Order.{map-is-ordered}
-use Rattle.sx_xref.proofs.laws.map_is_ordered.Goals as goal
-
-pub returns : goal.returns
-returns c = map-is-ordered

@@ -1,6 +1,0 @@
-use Rattle.std.proofs.Common.{◌≡◌, map, take}
-use Rattle.sx_xref.specs.Binders.{row_by}
-use Rattle.sx_xref.proofs.map.rows_of.Given as goal
-
-abbrev pub invariant-loop-link : goal.invariant-loop-link
-invariant-loop-link l = l.rows ≡ map (row_by l.files l.binders.entries) (take l.link-index l.links)
