@@ -5,11 +5,11 @@ ghost use Rattle.base_bytes.specs.Names.{library};
 
 use crate::names::library_name_at;
 use crate::spelled::Spelled;
+use base_data::library::LibName;
+use base_data::memory::Memory;
 use std::alloc::Global;
 use std::marker::Model;
 use std::rc::Rc;
-use base_data::library::LibName;
-use base_data::memory::Memory;
 
 /// A name of a library, and its spelling.
 #[derive(Drop)]
@@ -43,7 +43,10 @@ pub struct RecentLibraries {
 const KEPT: usize = 8;
 
 /// The one that the bytes begin with, and the bytes behind it.
-fn kept_at<'a>(kept: &[KeptName], bytes: &'a [u8]) -> Result<Option<(Rc<LibName>, &'a [u8])>, Memory>
+fn kept_at<'a>(
+    kept: &[KeptName],
+    bytes: &'a [u8],
+) -> Result<Option<(Rc<LibName>, &'a [u8])>, Memory>
     ensures { IfOk result (λ o. IfSome o (λ x. library.get bytes.now ≡ Some (x.0.value, x.1.now))) }
 {
     for one in kept {

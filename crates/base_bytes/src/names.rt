@@ -12,7 +12,6 @@ use crate::numbers::{
 };
 use crate::spelled::{Spelled, put_all};
 use crate::texts::{blob_at, char_at, put_blob, put_char, put_text, text_at};
-use std::alloc::Global;
 use base_data::atom::Atom;
 use base_data::bytes::Bytes;
 use base_data::items::Items;
@@ -22,6 +21,7 @@ use base_data::name::{CodeNo, FrameNo, Label, Mark, Name};
 use base_data::op::{NAME_COUNT, Op};
 use base_data::span::Span;
 use base_data::symbol::Symbol;
+use std::alloc::Global;
 
 impl Spelled for u64 {
     ghost codec = { spec.u64 };

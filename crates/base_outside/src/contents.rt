@@ -7,8 +7,8 @@ ghost use Rattle.base_outside.specs.Contents.{at_path, paths_of, read_of};
 ghost use Rattle.base_outside.specs.Files.{file_reading};
 
 use crate::files::FileAnswer;
-use std::alloc::Global;
 use base_data::memory::Memory;
+use std::alloc::Global;
 
 fn last_pair<'a>(pairs: &'a [(String, Vec<u8>)], path: &str) -> Option<&'a (String, Vec<u8>)>
     ensures { option_copied result ≡

@@ -5,9 +5,9 @@ ghost use Rattle.base_outside.specs.Causes.{Rose, raised};
 ghost use Rattle.base_outside.specs.Sink.{Gains, taken_of, empty_sink, listed, allowed, taken_next, after_put, answer_of};
 
 use crate::causes::failed;
+use base_data::memory::Memory;
 use std::alloc::Global;
 use std::marker::Model;
-use base_data::memory::Memory;
 
 /// A put took so many bytes of its piece, fewer than all.
 #[derive(Clone, Copy, Debug, PartialEq, Eq)]

@@ -11,9 +11,9 @@ use crate::calls::Calls;
 use crate::causes::OutsideError;
 use crate::contents::read_pairs;
 use crate::files::FileAnswer;
+use base_data::memory::Memory;
 use std::alloc::Global;
 use std::marker::Model;
-use base_data::memory::Memory;
 
 /// What a `get` answers.
 #[derive(Drop)]

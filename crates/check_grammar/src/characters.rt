@@ -5,8 +5,8 @@ ghost use Rattle.std.specs.String.{string_bytes};
 ghost use Rattle.base_data.specs.Hex.{hex};
 ghost use Rattle.check_grammar.specs.Characters.{character_text, by_name, escape_text};
 
-use std::alloc::AllocError;
 use base_data::hex::put_hex;
+use std::alloc::AllocError;
 
 /// Adds `\xHEX;`, which stands for a character in strings and symbols.
 pub(crate) fn write_escape(out: &mut String, c: char) -> Result<(), AllocError>

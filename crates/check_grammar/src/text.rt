@@ -8,10 +8,10 @@ ghost use Rattle.check_grammar.specs.Elements.{elements_text, further_elements, 
 use crate::characters::write_character;
 use crate::strings::write_string;
 use crate::symbols::write_symbol;
-use itoa::Buffer;
-use std::alloc::AllocError;
 use base_data::atom::Atom;
 use base_data::datum::{Datum, Node};
+use itoa::Buffer;
+use std::alloc::AllocError;
 
 /// Adds the text of a datum. It recurses as deep as the datum is nested.
 #[cycle(write)]

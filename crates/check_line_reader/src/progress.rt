@@ -10,8 +10,6 @@ ghost use Rattle.read_machine.specs.Extent.{span_at, through};
 ghost use Rattle.read_machine.specs.Form.{joined};
 ghost use Rattle.read_machine.specs.Step.{state, same_bracket, step, step_by, finish};
 
-use std::alloc::Global;
-use std::mem;
 use base_data::atom::Atom;
 use base_data::datum::{Datum, Node};
 use base_data::fault::Stop;
@@ -22,8 +20,10 @@ use base_data::symbol::Symbol;
 use read_lexer::token::{Bracket, Lexeme, Token};
 use read_machine::context::SourceContext;
 use read_machine::extent::{Extent, span_at};
-use read_machine::partial::{Partial, OpenParts, ReaderState, OpenTail};
+use read_machine::partial::{OpenParts, OpenTail, Partial, ReaderState};
 use read_machine::step::{finish, step};
+use std::alloc::Global;
+use std::mem;
 
 /// A list whose end hasn't come, its elements so far, and no dot behind them.
 #[derive(Drop)]

@@ -9,8 +9,6 @@ ghost use Rattle.read_reader.specs.Read.{data_of, most_nesting};
 use crate::progress::LineProgress;
 use crate::recent::{Recent, Symbols};
 use crate::words::{begins_number, begins_word, ends_word, word_size};
-use std::alloc::Global;
-use std::marker::Model;
 use base_data::atom::Atom;
 use base_data::datum::Datum;
 use base_data::fault::Stop;
@@ -24,6 +22,8 @@ use read_machine::context::SourceContext;
 use read_machine::keywords::Keywords;
 use read_spelling::numbers::{integer_of, is_integer};
 use read_spelling::source::byte_at;
+use std::alloc::Global;
+use std::marker::Model;
 
 /// How many forms may be nested in a line.
 pub const NESTING: u32 = 8192;

@@ -2,11 +2,11 @@
 
 ghost use Rattle.std.specs.Prelude.{◌≡◌, IfOk};
 
-use std::alloc::Global;
-use std::marker::Model;
 use base_data::memory::Memory;
 use base_data::symbol::Symbol;
 use read_lexer::names::SymbolTable;
+use std::alloc::Global;
+use std::marker::Model;
 
 /// How many symbols are kept.
 const PLACES: usize = 512;

@@ -13,19 +13,19 @@ ghost use Rattle.read_reader.specs.Read.{data_of, most_nesting};
 
 use crate::names::NameSet;
 use crate::primitives::Primitives;
-use crate::survey::{WalkHalt, Survey};
+use crate::survey::{Survey, WalkHalt};
 use crate::verdict::{Verdict, Why};
 use crate::walk::line_form;
-use memchr::memchr;
-use std::alloc::Global;
 use base_data::datum::Datum;
 use base_data::fault::Stop;
 use base_data::memory::Memory;
 use base_data::symbol::Symbol;
 use check_grammar::names::names_are_scanned;
 use check_grammar::text::write_datum;
-use law_grammar::spellings_are_read_by_the_grammar;
 use check_line_reader::reader::LineReader;
+use law_grammar::spellings_are_read_by_the_grammar;
+use memchr::memchr;
+use std::alloc::Global;
 
 /// The line that a core text begins with.
 const FIRST_LINE: &[u8] = b"(import (rnrs))\n";

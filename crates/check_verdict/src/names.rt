@@ -4,11 +4,11 @@ ghost use Rattle.std.specs.Prelude.{◌≡◌, [], not, length, take, IfOk, OnOk
 ghost use Rattle.check_verdict.specs.Names.{with_name};
 ghost use Rattle.check_grammar.specs.Forms.{has};
 
+use base_data::memory::Memory;
+use base_data::symbol::Symbol;
 use indexmap::IndexSet;
 use std::alloc::Global;
 use std::marker::Model;
-use base_data::memory::Memory;
-use base_data::symbol::Symbol;
 
 /// Names, each once, in the order of coming.
 #[derive(Drop)]

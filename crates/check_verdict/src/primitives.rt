@@ -5,12 +5,12 @@ ghost use Rattle.check_verdict.specs.Names.{ArePrimitives};
 ghost use Rattle.check_grammar.specs.Primitives.{is_primitive};
 
 use crate::names::NameSet;
-use std::alloc::Global;
-use std::marker::Model;
 use base_data::memory::Memory;
 use base_data::op::OP_NAMES;
 use base_data::symbol::Symbol;
 use check_grammar::primitives::is_primitive;
+use std::alloc::Global;
+use std::marker::Model;
 
 /// The names of primitives, so that one is found without a look at all others. What is answered doesn't depend on which
 /// are there.

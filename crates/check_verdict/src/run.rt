@@ -13,9 +13,9 @@ ghost use Rattle.base_outside.specs.Files.{file_reading};
 use crate::lines::{check_core, verdicts_are_by_cases};
 use crate::status::CheckStatus;
 use crate::verdict::{Verdict, answer_text};
-use std::alloc::Global;
 use base_data::memory::Memory;
 use base_outside::{FileAnswer, Files, OutsideError, Sink};
+use std::alloc::Global;
 
 /// The line that is written where the words are refused.
 pub const USAGE: &[u8] = b"usage: core-check FILE\n";

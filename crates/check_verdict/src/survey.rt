@@ -7,10 +7,10 @@ ghost use Rattle.check_verdict.specs.declared.survey.WalkHalt.TheVariants as hal
 
 use crate::names::NameSet;
 use crate::primitives::Primitives;
-use std::alloc::Global;
 use base_data::memory::Memory;
 use base_data::symbol::Symbol;
 use check_grammar::names::is_name;
+use std::alloc::Global;
 
 /// Why a walk doesn't go on.
 #[derive(Clone, Copy, Debug, PartialEq, Eq)]

@@ -4,10 +4,10 @@ ghost use Rattle.std.specs.Prelude.{◌≡◌, ◌++◌, IfOk, OnOk, codes};
 ghost use Rattle.std.specs.String.{string_bytes};
 ghost use Rattle.check_verdict.specs.Verdicts.{answer_text, why_text};
 
-use std::alloc::{AllocError, Global};
-use std::fmt::Write;
 use base_data::memory::Memory;
 use base_data::symbol::Symbol;
+use std::alloc::{AllocError, Global};
+use std::fmt::Write;
 
 /// Why a text is no core text.
 #[derive(Drop)]

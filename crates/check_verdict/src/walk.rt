@@ -8,7 +8,7 @@ ghost use Rattle.check_verdict.specs.declared.survey.WalkHalt.TheVariants as hal
 
 use crate::form::{Form, form_of, is_itself, is_quoted, name_in};
 use crate::primitives::Primitives;
-use crate::survey::{WalkHalt, Survey};
+use crate::survey::{Survey, WalkHalt};
 use base_data::atom::Atom;
 use base_data::datum::{Datum, Node};
 
@@ -191,7 +191,11 @@ fn form(survey: &mut Survey, primitives: &Primitives, items: &[Datum]) -> Result
 }
 
 #[cycle(walk)]
-fn expressions(survey: &mut Survey, primitives: &Primitives, items: &[Datum]) -> Result<(), WalkHalt>
+fn expressions(
+    survey: &mut Survey,
+    primitives: &Primitives,
+    items: &[Datum],
+) -> Result<(), WalkHalt>
     ensures { Takes result survey.new (expressions (chain items.now nil) survey.old) }
 {
     for item in items {

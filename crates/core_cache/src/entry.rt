@@ -6,18 +6,18 @@ ghost use Rattle.base_bytes.specs.Puts.{Puts, PutsIf};
 ghost use Rattle.core_cache.specs.Entry as spell;
 ghost use Rattle.core_cache.specs.EntryLaws.{RoundTrip, NothingElse};
 
-use std::alloc::Global;
-use base_data::items::Items;
-use base_data::memory::Memory;
-use base_data::symbol::Symbol;
 use base_bytes::libraries::RecentLibraries;
 use base_bytes::numbers::{put_u64, u64_at};
 use base_bytes::spelled::Spelled;
 use base_bytes::texts::{blob_at, put_blob};
+use base_data::items::Items;
+use base_data::memory::Memory;
+use base_data::symbol::Symbol;
 use core_language::record::CompiledLibrary;
-use load_files::found::Source;
 use core_pattern_bytes::held::HeldReading;
 use core_record_bytes::record::{put_record, record_at};
+use load_files::found::Source;
+use std::alloc::Global;
 
 /// A library that was expanded: the path of its file, the roots of the run, the sources of all that it needs with
 /// its own last, and its record.

@@ -11,15 +11,15 @@ ghost use Rattle.core_cache.specs.Fitting.{behind, front, sealed_record, source_
 
 use crate::entry::held_in;
 use crate::seal::{behind_seal, is_sealed};
-use std::alloc::Global;
+use base_bytes::numbers::u64_at;
+use base_bytes::texts::text_at;
 use base_data::items::Items;
 use base_data::memory::Memory;
 use base_data::symbol::Symbol;
-use base_bytes::numbers::u64_at;
-use base_bytes::texts::text_at;
 use core_language::record::CompiledLibrary;
-use load_files::found::Source;
 use core_record_bytes::record::decode;
+use load_files::found::Source;
+use std::alloc::Global;
 
 /// A source where it stands among the bytes of an entry.
 #[derive(Drop)]

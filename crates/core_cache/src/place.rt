@@ -5,8 +5,8 @@ ghost use Rattle.std.specs.String.{string_bytes};
 ghost use Rattle.core_cache.specs.Place.{place};
 
 use crate::seal::digest_of;
-use std::alloc::Global;
 use base_data::memory::Memory;
+use std::alloc::Global;
 
 /// The place of a library's entry in the directory of the cache, by the path of its file and its source.
 pub fn place(alloc: Global, dir: &str, path: &str, source: &[u8]) -> Result<String, Memory>

@@ -4,9 +4,9 @@ ghost use Rattle.std.specs.Prelude.{◌≡◌, List, ℕ, IfOk, IfSome, drop, op
 ghost use Rattle.sha2.specs.Sha256.{sha256};
 ghost use Rattle.core_cache.specs.Seal.{is_sealed, sealed};
 
+use base_data::memory::Memory;
 use sha2::{Digest, Sha256};
 use std::alloc::Global;
-use base_data::memory::Memory;
 
 pub(crate) fn digest_of(body: &[u8]) -> [u8; 32]
     ensures { result ≡ sha256 body.now }

@@ -4,13 +4,13 @@
 //! What it promises stands in `check_verdict`, which it calls over the system's files and streams.
 #![tactic(auto)]
 
+use base_outside::{HostFiles, HostSink};
+use check_verdict::run::check_run;
+use check_verdict::status::CheckStatus;
 use std::alloc::Global;
 use std::io::ErrorKind;
 use std::process::ExitCode;
 use std::{env, io};
-use check_verdict::run::check_run;
-use check_verdict::status::CheckStatus;
-use base_outside::{HostFiles, HostSink};
 
 fn arguments(rt: &HostRuntime, alloc: Global) -> io::Result<Vec<String>> {
     let mut words = Vec::new(alloc);

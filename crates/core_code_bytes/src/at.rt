@@ -20,20 +20,20 @@ use crate::leaves::{
     read_quote, read_reference, span_in,
 };
 use crate::lists::{
-    CaseParts, ClauseParts, InitParts, FenderAndOutput, add_case, add_clause, add_init, add_part,
+    CaseParts, ClauseParts, FenderAndOutput, InitParts, add_case, add_clause, add_init, add_part,
 };
 use crate::nodes::{
     Boxed, put_assignment, put_call, put_if, put_lambda, put_letrec, put_matching, put_sequence,
 };
-use std::alloc::Global;
-use std::boxed::Box;
-use std::rc::Rc;
+use base_bytes::libraries::RecentLibraries;
 use base_data::memory::Memory;
 use base_data::name::CodeNo;
 use base_data::op::Op;
-use base_bytes::libraries::RecentLibraries;
 use core_language::code::{Clause, Code, Core, CoreNode, Init, Lambda};
 use core_pattern_bytes::held::HeldReading;
+use std::alloc::Global;
+use std::boxed::Box;
+use std::rc::Rc;
 
 /// The core code that the bytes begin with, where it has fewer core expressions round one than the
 /// room, and the bytes behind it.

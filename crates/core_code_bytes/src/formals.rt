@@ -4,9 +4,9 @@ ghost use Rattle.std.specs.Prelude.{◌≡◌, IfOk, OnOk, option_map};
 ghost use Rattle.base_bytes.specs.Puts.{Puts};
 ghost use Rattle.core_codec.specs.Code.{formals};
 
-use base_data::memory::Memory;
 use base_bytes::libraries::RecentLibraries;
 use base_bytes::spelled::Spelled;
+use base_data::memory::Memory;
 use core_language::formals::Formals;
 
 /// Adds the required parameters, and the one that takes the rest.

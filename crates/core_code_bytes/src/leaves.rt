@@ -12,14 +12,13 @@ ghost use Rattle.core_codec.specs.Trees.{datum};
 ghost use Rattle.core_code_bytes.specs.Seen.{if_read, instance_case, node_cases, primitive_case, quote_case, reference_case};
 
 use crate::formals::formals_at;
-use std::boxed::Box;
-use base_data::memory::Memory;
-use base_data::name::{CodeNo, Label};
-use base_data::span::Span;
 use base_bytes::libraries::RecentLibraries;
 use base_bytes::names::op_at;
 use base_bytes::numbers::{bool_at, u64_at};
 use base_bytes::spelled::Spelled;
+use base_data::memory::Memory;
+use base_data::name::{CodeNo, Label};
+use base_data::span::Span;
 use core_language::code::CoreNode;
 use core_language::formals::Formals;
 use core_language::pattern::Pattern;
@@ -28,6 +27,7 @@ use core_pattern_bytes::held::HeldReading;
 use core_pattern_bytes::patterns::boxed_at as pattern_at;
 use core_pattern_bytes::templates::template_at;
 use core_tree_bytes::data::datum_at;
+use std::boxed::Box;
 
 /// How high data may be, and patterns and templates.
 const MAX_DATUM: u32 = 1000;

@@ -4,13 +4,13 @@ ghost use Rattle.std.specs.Prelude.{◌≡◌, ◌∷◌, ◌++◌, [], OnOk};
 ghost use Rattle.core_code_bytes.specs.Seen.{held_there};
 
 use crate::nodes::Boxed;
-use std::boxed::Box;
 use base_data::memory::Memory;
 use base_data::name::Label;
 use core_language::code::{Clause, Core, Init, Lambda};
 use core_language::formals::Formals;
 use core_language::pattern::Pattern;
 use core_pattern_bytes::held::HeldReading;
+use std::boxed::Box;
 
 /// The variable of a `letrec`, and the expression of its value.
 #[derive(Drop)]

@@ -8,12 +8,12 @@ ghost use Rattle.core_language.specs.Core.{cores};
 ghost use Rattle.core_language.specs.CoreView as view;
 ghost use Rattle.core_code_bytes.specs.Seen.{assignment_case, call_case, held_there, if_case, lambda_case, letrec_case, matching_case, node_cases, sequence_case, unboxed};
 
-use std::boxed::Box;
-use std::rc::Rc;
 use base_data::name::Label;
 use base_data::span::Span;
 use core_language::code::{Clause, Code, Core, CoreNode, Init};
 use core_pattern_bytes::held::HeldReading;
+use std::boxed::Box;
+use std::rc::Rc;
 
 /// A core expression that is being read.
 pub(crate) type Boxed = HeldReading<Box<Core>>;
@@ -56,7 +56,12 @@ pub(crate) fn put_lambda(node: &mut CoreNode, code: HeldReading<Rc<Code>>)
 }
 
 #[inline(never)]
-pub(crate) fn put_letrec(node: &mut CoreNode, star: bool, inits: HeldReading<Vec<Init>>, body: Boxed)
+pub(crate) fn put_letrec(
+    node: &mut CoreNode,
+    star: bool,
+    inits: HeldReading<Vec<Init>>,
+    body: Boxed,
+)
     ensures { node_cases node.new ≡ letrec_case star (view.inits inits.value.items) body.value.value }
 {
     *node = CoreNode::Letrec(star, inits.take(), body.take());

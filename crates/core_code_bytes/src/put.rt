@@ -12,17 +12,17 @@ ghost use Rattle.core_language.specs.CoreView as view;
 ghost use Rattle.core_code_bytes.specs.Seen.{choice, node_cases, unboxed, init_part, case_part, clause_part};
 
 use crate::formals::put_formals;
-use std::alloc::Global;
-use std::boxed::Box;
-use base_data::memory::Memory;
-use base_data::span::Span;
 use base_bytes::names::put_op;
 use base_bytes::numbers::{put_bool, put_u64};
 use base_bytes::spelled::Spelled;
+use base_data::memory::Memory;
+use base_data::span::Span;
 use core_language::code::{Clause, Code, Core, CoreNode, Init, Lambda};
 use core_pattern_bytes::patterns::put_pattern;
 use core_pattern_bytes::templates::put_template;
 use core_tree_bytes::data::put_datum;
+use std::alloc::Global;
+use std::boxed::Box;
 
 /// How high data may be, and patterns and templates.
 const MAX_DATUM: u32 = 1000;

@@ -3,14 +3,14 @@
 ghost use Rattle.std.specs.Prelude.{◌≡◌, ◌∷◌, ◌++◌, [], IfOk, OnOk};
 ghost use Rattle.core_known.specs.Known.{AreOf};
 
-use std::alloc::Global;
-use std::marker::Model;
-use std::rc::Rc;
 use base_data::library::LibName;
 use base_data::memory::Memory;
 use base_data::name::Label;
 use core_language::binding::Binding;
 use core_language::bindings::Bindings;
+use std::alloc::Global;
+use std::marker::Model;
+use std::rc::Rc;
 
 /// A library that is complete and what its labels are bound to, in a table that is made once for all that need
 /// it.

@@ -9,15 +9,15 @@ ghost use Rattle.core_known.specs.Needed.{needed_parts, parts_given};
 
 use crate::needed::NeededBindings;
 use crate::shared::SharedBindings;
-use std::alloc::Global;
-use std::marker::Model;
-use std::rc::Rc;
 use base_data::items::Items;
 use base_data::library::LibName;
 use base_data::memory::Memory;
 use base_data::name::Label;
 use core_language::binding::Binding;
 use core_language::bindings::Bindings;
+use std::alloc::Global;
+use std::marker::Model;
+use std::rc::Rc;
 
 type Given = Option<NeededBindings>;
 

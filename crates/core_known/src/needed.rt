@@ -9,11 +9,11 @@ ghost use Rattle.core_known.specs.Known.{flat, has_part, AreElsewhere, ArePlaced
 ghost use Rattle.core_known.specs.Needed.{if_mark, needed_parts};
 
 use crate::shared::SharedBindings;
-use std::marker::Model;
-use std::rc::Rc;
 use base_data::items::Items;
 use base_data::library::LibName;
 use core_language::bindings::Bindings;
+use std::marker::Model;
+use std::rc::Rc;
 
 /// A table of a run and marks of what is needed of it. A look-up costs the same, however many libraries there
 /// are and are needed.

@@ -5,13 +5,13 @@ ghost use Rattle.core_known.specs.Known.{has_part};
 ghost use Rattle.core_known.specs.Needed.{AreLibraries};
 
 use crate::given::GivenBindings;
-use std::alloc::Global;
-use std::marker::Model;
-use std::rc::Rc;
 use base_data::library::LibName;
 use base_data::map::{NameMap, new_map};
 use base_data::memory::Memory;
 use core_language::bindings::Bindings;
+use std::alloc::Global;
+use std::marker::Model;
+use std::rc::Rc;
 
 /// What each library binds that a run has completed, in the order of coming. All that need some of them
 /// share the table, so that to need a library costs a mark.

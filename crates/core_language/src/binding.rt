@@ -4,12 +4,12 @@ ghost use Rattle.std.specs.Prelude.{◌≡◌, IfOk};
 
 use crate::code::Core;
 use crate::core_form::CoreForm;
-use std::alloc::Global;
-use std::marker::Model;
-use std::rc::Rc;
 use base_data::memory::Memory;
 use base_data::op::Op;
 use base_data::symbol::Symbol;
+use std::alloc::Global;
+use std::marker::Model;
+use std::rc::Rc;
 
 /// What a label is bound to.
 #[derive(Drop)]

@@ -5,11 +5,11 @@ ghost use Rattle.std.specs.Option.{option_copied};
 ghost use Rattle.core_language.specs.Bindings.{bound_to, are_new};
 
 use crate::binding::Binding;
-use std::alloc::Global;
-use std::marker::Model;
 use base_data::map::{NameMap, new_map};
 use base_data::memory::Memory;
 use base_data::name::Label;
+use std::alloc::Global;
+use std::marker::Model;
 
 /// A finite map from labels, seen as a list in the order of coming.
 #[derive(Drop)]

@@ -3,12 +3,12 @@
 use crate::formals::Formals;
 use crate::pattern::Pattern;
 use crate::template::Template;
-use std::marker::Model;
-use std::rc::Rc;
 use base_data::datum::Datum;
 use base_data::name::{CodeNo, Label};
 use base_data::op::Op;
 use base_data::span::Span;
+use std::marker::Model;
+use std::rc::Rc;
 
 /// A core expression.
 #[derive(Drop)]

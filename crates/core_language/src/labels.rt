@@ -3,11 +3,11 @@
 ghost use Rattle.std.specs.Prelude.{◌≡◌, ◌++◌, [], IfOk, OnOk};
 ghost use Rattle.core_language.specs.Labels.{has_label, with_label, with_labels, without};
 
+use base_data::memory::Memory;
+use base_data::name::Label;
 use indexmap::IndexSet;
 use std::alloc::Global;
 use std::marker::Model;
-use base_data::memory::Memory;
-use base_data::name::Label;
 
 /// So many labels are looked through one by one. Most lists have one or two, for which a table would take more memory
 /// than they do.

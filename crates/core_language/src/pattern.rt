@@ -1,8 +1,8 @@
 //! Patterns of `syntax-case` (libraries report 12.4).
 
-use std::marker::Model;
 use base_data::atom::Atom;
 use base_data::name::Label;
+use std::marker::Model;
 use stx_object::syn::Syn;
 
 /// A pattern.

@@ -12,9 +12,9 @@ use crate::code::{Clause, Code, Core, CoreNode, Init, Lambda};
 use crate::formals::Formals;
 use crate::labels::Labels;
 use crate::pattern::{Elements, Pattern, PatternNode, Repeated};
-use std::alloc::Global;
 use base_data::memory::Memory;
 use base_data::name::Label;
+use std::alloc::Global;
 
 /// The labels that core code references or assigns and that no binder in it binds, each once, in the
 /// order of their first places. Of a run line these are its top-level variables.

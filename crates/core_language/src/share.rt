@@ -2,11 +2,11 @@
 
 ghost use Rattle.std.specs.Prelude.{◌≡◌, IfOk};
 
-use std::alloc::Global;
 use base_data::items::Items;
 use base_data::library::LibName;
 use base_data::memory::Memory;
 use base_data::symbol::Symbol;
+use std::alloc::Global;
 
 fn share_parts(alloc: Global, parts: &[Symbol]) -> Result<Items<Symbol>, Memory>
     ensures { IfOk result (λ xs. xs ≡ parts.now) }

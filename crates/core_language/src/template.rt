@@ -1,7 +1,7 @@
 //! Templates of `syntax` (libraries report 12.4).
 
-use std::marker::Model;
 use base_data::name::Label;
+use std::marker::Model;
 use stx_object::syn::Syn;
 
 /// A template.

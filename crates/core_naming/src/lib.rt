@@ -13,12 +13,12 @@ ghost use Rattle.std.specs.Prelude.{◌≡◌, ◌++◌, OnOk};
 ghost use Rattle.std.specs.String.{string_bytes};
 ghost use Rattle.core_naming.specs.Generated.{generated_name, library_text, parts_text, further_parts, name_part, name_char, is_plain, is_plain_sign};
 
-use std::alloc::AllocError;
-use std::fmt::Write;
 use base_data::hex::put_hex;
 use base_data::library::LibName;
 use base_data::memory::Memory;
 use base_data::symbol::Symbol;
+use std::alloc::AllocError;
+use std::fmt::Write;
 
 /// Adds the generated name of a variable: the library that binds it, its symbol, and its number among
 /// the variables of that library.

@@ -5,12 +5,12 @@ ghost use Rattle.core_language.specs.Core.{cores};
 ghost use Rattle.core_language.specs.CoreView.{inits, cases};
 ghost use Rattle.core_output.specs.Syntax.{checked, all_checked, inits_checked, cases_checked, line_checked, lines_checked, unwritten};
 
-use std::alloc::Global;
 use base_data::fault::{Fault, FaultKind, Stop};
 use base_data::items::Items;
 use base_data::span::Span;
 use core_language::code::{Code, Core, CoreNode, Init, Lambda};
 use core_language::record::Line;
+use std::alloc::Global;
 
 /// The fault of a form without a text.
 fn unwritten(alloc: Global, span: &Span) -> Stop

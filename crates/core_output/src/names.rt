@@ -4,14 +4,14 @@ ghost use Rattle.std.specs.Prelude.{◌≡◌, [], OnOk};
 ghost use Rattle.core_output.specs.CoreText.{name_of};
 ghost use Rattle.core_output.specs.Naming.{with_name, with_names, with_index};
 
-use std::alloc::Global;
-use std::marker::Model;
 use base_data::map::{NameMap, new_map};
 use base_data::memory::Memory;
 use base_data::name::Label;
 use base_data::symbol::Symbol;
 use core_language::binding::{Binding, VarInfo};
 use core_naming::put_generated_name;
+use std::alloc::Global;
+use std::marker::Model;
 
 /// The texts of variables' names.
 #[derive(Drop)]

@@ -8,7 +8,6 @@ ghost use Rattle.read_printer.specs.DatumText.{datum_text};
 ghost use Rattle.core_output.specs.CoreText.{report_name, quote_text, quoted_text, quoted_atom, formals_text, formals_of, lone_rest, rest_name, further_names, name_of, letrec_word, lambda_word, case_open, case_close, text, further_text, inits_text, further_inits, cases_text, line_text, lines_text};
 
 use crate::names::VariableNames;
-use std::alloc::AllocError;
 use base_data::atom::Atom;
 use base_data::datum::{Datum, Node};
 use base_data::name::Label;
@@ -17,6 +16,7 @@ use core_language::code::{Code, Core, CoreNode, Init, Lambda};
 use core_language::formals::Formals;
 use core_language::record::Line;
 use read_printer::datum_text::{put_atom, put_datum};
+use std::alloc::AllocError;
 
 fn put_name(out: &mut String, names: &VariableNames, label: &Label) -> Result<(), AllocError>
     ensures { OnOk result (string_bytes out.new ≡ string_bytes out.old ++ name_of names.now label.now) }
@@ -64,7 +64,11 @@ fn put_quoted(out: &mut String, datum: &Datum) -> Result<(), AllocError>
     }
 }
 
-fn put_further_names(out: &mut String, names: &VariableNames, labels: &[Label]) -> Result<(), AllocError>
+fn put_further_names(
+    out: &mut String,
+    names: &VariableNames,
+    labels: &[Label],
+) -> Result<(), AllocError>
     ensures { OnOk result (string_bytes out.new ≡ string_bytes out.old ++ further_names names.now labels.now) }
 {
     for label in labels {
@@ -86,7 +90,11 @@ fn put_rest(out: &mut String, names: &VariableNames, rest: &Option<Label>) -> Re
     }
 }
 
-fn put_lone_rest(out: &mut String, names: &VariableNames, rest: &Option<Label>) -> Result<(), AllocError>
+fn put_lone_rest(
+    out: &mut String,
+    names: &VariableNames,
+    rest: &Option<Label>,
+) -> Result<(), AllocError>
     ensures { OnOk result (string_bytes out.new ≡ string_bytes out.old ++ lone_rest names.now rest.now) }
 {
     match rest {
@@ -257,7 +265,11 @@ fn put_inits(out: &mut String, names: &VariableNames, list: &[Init]) -> Result<(
 }
 
 #[cycle(put)]
-fn put_further_inits(out: &mut String, names: &VariableNames, list: &[Init]) -> Result<(), AllocError>
+fn put_further_inits(
+    out: &mut String,
+    names: &VariableNames,
+    list: &[Init],
+) -> Result<(), AllocError>
     ensures { OnOk result (string_bytes out.new ≡ string_bytes out.old ++ further_inits names.now (inits list.now)) }
 {
     for init in list {
@@ -289,7 +301,11 @@ fn put_line(out: &mut String, names: &VariableNames, line: &Line) -> Result<(), 
 }
 
 /// Adds the text of lines.
-pub(crate) fn put_lines(out: &mut String, names: &VariableNames, lines: &[Line]) -> Result<(), AllocError>
+pub(crate) fn put_lines(
+    out: &mut String,
+    names: &VariableNames,
+    lines: &[Line],
+) -> Result<(), AllocError>
     ensures { OnOk result (string_bytes out.new ≡ string_bytes out.old ++ lines_text names.now lines.now) }
 {
     for line in lines {

@@ -9,10 +9,10 @@ ghost use Rattle.core_output.specs.Whole.{named_by, plan_names, record_checked, 
 use crate::check::check_lines;
 use crate::names::VariableNames;
 use crate::text::put_lines;
-use std::alloc::{AllocError, Global};
 use base_data::fault::Stop;
 use base_data::memory::Memory;
 use core_language::record::CompiledLibrary;
+use std::alloc::{AllocError, Global};
 
 fn record_at(records: &[CompiledLibrary], place: usize) -> Option<&CompiledLibrary>
     ensures { option_map (λ r. r.now) result ≡ slice_get records.now place }
@@ -33,7 +33,11 @@ fn add_record(names: &mut VariableNames, library: Option<&CompiledLibrary>) -> R
     }
 }
 
-fn add_plan(names: &mut VariableNames, records: &[CompiledLibrary], plan: &[usize]) -> Result<(), Memory>
+fn add_plan(
+    names: &mut VariableNames,
+    records: &[CompiledLibrary],
+    plan: &[usize],
+) -> Result<(), Memory>
     ensures { OnOk result (names.new ≡ plan_names records.now names.old plan.now) }
 {
     for place in plan {

@@ -8,15 +8,15 @@ ghost use Rattle.core_codec.specs.Code as spell;
 ghost use Rattle.core_language.specs.TemplateView.{items, seen};
 ghost use Rattle.core_pattern_bytes.specs.Seen.{item_part};
 
-use std::alloc::Global;
-use std::boxed::Box;
-use base_data::memory::Memory;
-use base_data::name::Label;
 use base_bytes::libraries::RecentLibraries;
 use base_bytes::numbers::{put_u32, put_u64, u32_at, u64_at};
 use base_bytes::spelled::Spelled;
-use core_language::template::{TemplateItem, Template, TemplateNode};
+use base_data::memory::Memory;
+use base_data::name::Label;
+use core_language::template::{Template, TemplateItem, TemplateNode};
 use core_tree_bytes::trees::{put_tree, tree_at};
+use std::alloc::Global;
+use std::boxed::Box;
 
 /// How high the tree of a constant may be.
 const MAX_TREE: u32 = 1000;
@@ -94,14 +94,24 @@ fn put_list(
 
 #[cycle(template_put)]
 #[tactic(auto, unfolding(core_codec::specs::Code::items), using(crate::specs::Seen::items_are))]
-fn put_items(out: &mut Vec<u8>, alloc: Global, room: u32, list: &[TemplateItem]) -> Result<bool, Memory>
+fn put_items(
+    out: &mut Vec<u8>,
+    alloc: Global,
+    room: u32,
+    list: &[TemplateItem],
+) -> Result<bool, Memory>
     ensures { IfOk result (λ b. PutsIf (spell.items (spell.template room)) (items list.now) out.old.items out.new.items b) }
 {
     put_all(out, alloc, room, list)
 }
 
 #[cycle(template_put)]
-fn put_all(out: &mut Vec<u8>, alloc: Global, room: u32, list: &[TemplateItem]) -> Result<bool, Memory>
+fn put_all(
+    out: &mut Vec<u8>,
+    alloc: Global,
+    room: u32,
+    list: &[TemplateItem],
+) -> Result<bool, Memory>
     ensures { IfOk result (λ b. PutsIf (listed (spell.template room then u32)) (map item_part list.now) out.old.items out.new.items b) }
 {
     put_u64(out, list.len() as u64)?;
@@ -114,7 +124,12 @@ fn put_all(out: &mut Vec<u8>, alloc: Global, room: u32, list: &[TemplateItem]) -
 }
 
 #[cycle(template_put)]
-fn put_item(out: &mut Vec<u8>, alloc: Global, room: u32, item: &TemplateItem) -> Result<bool, Memory>
+fn put_item(
+    out: &mut Vec<u8>,
+    alloc: Global,
+    room: u32,
+    item: &TemplateItem,
+) -> Result<bool, Memory>
     ensures { IfOk result (λ b. PutsIf (spell.template room then u32) (item_part item.now) out.old.items out.new.items b) }
 {
     if !put_template(out, alloc, room, &item.template)? {

@@ -6,11 +6,11 @@ ghost use Rattle.core_plan.specs.Places.{place_of, place_in};
 ghost use Rattle.core_plan.specs.Plan.{IsPlan};
 ghost use Rattle.core_plan.specs.Work.{work_of, no_marks, reach, reach_there, reach_each, follow, marked_from};
 
-use std::alloc::Global;
-use std::collections::BTreeMap;
 use base_data::library::LibName;
 use base_data::memory::Memory;
 use core_language::record::CompiledLibrary;
+use std::alloc::Global;
+use std::collections::BTreeMap;
 
 // What is known of a plan: which records are reached, and those whose references wait.
 #[derive(Drop)]

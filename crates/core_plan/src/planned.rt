@@ -11,9 +11,9 @@ ghost use Rattle.std.specs.Prelude.{◌≡◌, IfOk};
 ghost use Rattle.core_plan.specs.Planned.{plan_of};
 
 use crate::plan::run_plan;
-use std::alloc::Global;
 use base_data::memory::Memory;
 use core_language::record::CompiledLibrary;
+use std::alloc::Global;
 
 /// The places of the records that the program needs when it runs, rising.
 #[tactic(auto, using(crate::proofs::PlanLemmas::plan_is))]

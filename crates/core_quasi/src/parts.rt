@@ -6,13 +6,13 @@ ghost use Rattle.core_quasi.specs.Parts.{bad, rest_at, counts_at, splits, operan
 ghost use Rattle.core_quasi.specs.Words.{word_of};
 
 use crate::word::{Family, QuasiWord, head_word, word_of};
-use std::alloc::Global;
 use base_data::fault::{Bare, BareStop, FaultKind};
 use base_data::items::Items;
 use base_data::memory::Memory;
-use stx_scope::scope::Frames;
 use core_shapes::lists::{proper, share_all, split_first};
+use std::alloc::Global;
 use stx_object::syn::Syn;
+use stx_scope::scope::Frames;
 
 /// What an element of a list or vector gives.
 #[derive(Drop)]

@@ -12,16 +12,16 @@ use crate::maker::Maker;
 use crate::parts::{ListParts, QuasiTaken, bad, first_word, operand_of, rest_at, splits, taken_at};
 use crate::plan::{Quasi, QuasiNode};
 use crate::word::{Family, Reach};
-use std::alloc::Global;
 use base_data::atom::Atom;
 use base_data::fault::{Bare, BareStop, Fault, Stop};
 use base_data::items::Items;
 use base_data::memory::Memory;
 use base_data::span::Span;
-use stx_scope::scope::Frames;
 use core_shapes::at::place_of;
 use core_shapes::lists::{is_nil, parts_of};
+use std::alloc::Global;
 use stx_object::syn::{OpenedTree, Syn};
+use stx_scope::scope::Frames;
 
 /// What elements give, one behind the other.
 #[derive(Drop)]

@@ -8,9 +8,7 @@ ghost use Rattle.core_quasi.specs.QuasiSyntax.{seen, insert_leaf, insert, no_tre
 
 use crate::parts::{ListParts, QuasiTaken, bad, first_word, operand_of, rest_at, splits, taken_at};
 use crate::quasi::at_form;
-use crate::word::{Family, Reach, QuasiWord};
-use std::alloc::Global;
-use std::rc::Rc;
+use crate::word::{Family, QuasiWord, Reach};
 use base_data::fault::{BareStop, Stop};
 use base_data::items::Items;
 use base_data::library::LibName;
@@ -18,9 +16,11 @@ use base_data::memory::Memory;
 use base_data::name::{Mark, Name};
 use base_data::span::Span;
 use base_data::symbol::Symbol;
-use stx_scope::scope::Frames;
 use core_shapes::lists::{is_nil, parts_of};
+use std::alloc::Global;
+use std::rc::Rc;
 use stx_object::syn::{OpenedTree, Syn};
+use stx_scope::scope::Frames;
 
 /// What templates of `quasisyntax` are read with.
 #[derive(Drop)]
@@ -218,7 +218,12 @@ fn changed(alloc: Global, form: &Syn, tree: &Syn) -> Result<QuasiPart, Memory>
 }
 
 /// What a list comes to, from what its elements and its tail come to.
-fn list_joined(alloc: Global, form: &Syn, row: QuasiRow, tail: QuasiPart) -> Result<QuasiPart, BareStop>
+fn list_joined(
+    alloc: Global,
+    form: &Syn,
+    row: QuasiRow,
+    tail: QuasiPart,
+) -> Result<QuasiPart, BareStop>
     ensures { BareGives (λ p. p) result (list_joined form.now row tail) }
 {
     if row.changed || tail.changed {

@@ -3,14 +3,14 @@
 ghost use Rattle.std.specs.Prelude.{◌≡◌, IfOk};
 ghost use Rattle.core_quasi.specs.Words.{is_number, quote_word, syntax_word, numbered, labelled, word_of, head_word, inner, reach, counts};
 
-use std::alloc::Global;
 use base_data::library::LibName;
 use base_data::memory::Memory;
 use base_data::name::Label;
 use core_language::core_form::CoreForm;
-use stx_scope::scope::Frames;
 use core_shapes::lists::{is_id, split_first};
+use std::alloc::Global;
 use stx_object::syn::Syn;
+use stx_scope::scope::Frames;
 
 /// Which identifiers are looked for.
 #[derive(Clone, Copy, PartialEq, Eq)]

@@ -6,20 +6,20 @@ ghost use Rattle.base_bytes.specs.Names.{label};
 ghost use Rattle.base_bytes.specs.Puts.{Puts, PutsIf};
 ghost use Rattle.core_codec.specs.Records as spell;
 
-use std::alloc::Global;
-use std::cmp::Ordering;
-use base_data::memory::Memory;
-use base_data::name::Label;
-use base_data::symbol::Symbol;
 use base_bytes::libraries::RecentLibraries;
 use base_bytes::names::{op_at, put_op};
 use base_bytes::numbers::{bool_at, put_bool, put_u32, put_u64, u32_at, u64_at};
 use base_bytes::spelled::Spelled;
-use core_language::binding::{Binding, Expression, VarInfo};
-use core_language::core_form::CoreForm;
+use base_data::memory::Memory;
+use base_data::name::Label;
+use base_data::symbol::Symbol;
 use core_code_bytes::at::core_at;
 use core_code_bytes::put::put_core;
+use core_language::binding::{Binding, Expression, VarInfo};
+use core_language::core_form::CoreForm;
 use core_pattern_bytes::held::HeldReading;
+use std::alloc::Global;
+use std::cmp::Ordering;
 
 /// One more than how many core expressions core code may have round one.
 pub(crate) const MAX_CORE: u32 = 8193;

@@ -7,17 +7,17 @@ ghost use Rattle.base_bytes.specs.Puts.{PutsIf};
 ghost use Rattle.core_codec.specs.Records as spell;
 
 use crate::bindings::MAX_CORE;
-use std::alloc::Global;
-use base_data::memory::Memory;
-use base_data::name::Label;
 use base_bytes::libraries::RecentLibraries;
 use base_bytes::numbers::{put_u64, u64_at};
 use base_bytes::spelled::Spelled;
-use core_language::code::Core;
-use core_language::record::Line;
+use base_data::memory::Memory;
+use base_data::name::Label;
 use core_code_bytes::at::core_at;
 use core_code_bytes::put::put_core;
+use core_language::code::Core;
+use core_language::record::Line;
 use core_pattern_bytes::held::HeldReading;
+use std::alloc::Global;
 
 #[tactic(auto, unfolding(core_codec::specs::Records::line))]
 fn put_line(out: &mut Vec<u8>, alloc: Global, line: &Line) -> Result<bool, Memory>

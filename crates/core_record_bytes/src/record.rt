@@ -10,17 +10,17 @@ ghost use Rattle.core_codec.specs.Records as spell;
 use crate::bindings::{bindings_at, put_bindings};
 use crate::lines::{lines_at, put_lines};
 use crate::rows::{put_rows, rows_at};
-use std::alloc::Global;
+use base_bytes::libraries::RecentLibraries;
+use base_bytes::spelled::Spelled;
 use base_data::items::Items;
 use base_data::library::LibName;
 use base_data::memory::Memory;
 use base_data::name::Label;
 use base_data::symbol::Symbol;
-use base_bytes::libraries::RecentLibraries;
-use base_bytes::spelled::Spelled;
 use core_language::binding::Binding;
 use core_language::record::{CompiledLibrary, Line};
 use core_pattern_bytes::held::HeldReading;
+use std::alloc::Global;
 use stx_tree::frame_row::FrameRow;
 
 /// Adds what stands behind the exports of a record.
@@ -44,7 +44,11 @@ fn put_body(out: &mut Vec<u8>, alloc: Global, record: &CompiledLibrary) -> Resul
 
 /// Adds the spelling of a record, where it has one.
 #[tactic(auto, unfolding(core_codec::specs::Records::lib_record))]
-pub fn put_record(out: &mut Vec<u8>, alloc: Global, record: &CompiledLibrary) -> Result<bool, Memory>
+pub fn put_record(
+    out: &mut Vec<u8>,
+    alloc: Global,
+    record: &CompiledLibrary,
+) -> Result<bool, Memory>
     ensures { IfOk result (λ b. PutsIf spell.lib_record record.now out.old.items out.new.items b) }
 {
     record.path.put(out)?;

@@ -6,16 +6,16 @@ ghost use Rattle.base_bytes.specs.Puts.{Puts, PutsIf};
 ghost use Rattle.core_codec.specs.Contexts.{frame_row};
 ghost use Rattle.core_codec.specs.Records as spell;
 
-use std::alloc::Global;
-use std::cmp::Ordering;
-use base_data::memory::Memory;
-use base_data::name::{FrameNo, Label};
-use base_data::symbol::Symbol;
 use base_bytes::libraries::RecentLibraries;
 use base_bytes::numbers::{put_u64, u64_at};
 use base_bytes::spelled::Spelled;
-use stx_tree::frame_row::FrameRow;
+use base_data::memory::Memory;
+use base_data::name::{FrameNo, Label};
+use base_data::symbol::Symbol;
 use core_tree_bytes::contexts::{marks_at, put_marks};
+use std::alloc::Global;
+use std::cmp::Ordering;
+use stx_tree::frame_row::FrameRow;
 
 #[tactic(auto, unfolding(core_codec::specs::Contexts::frame_row))]
 fn put_row(out: &mut Vec<u8>, alloc: Global, row: &FrameRow) -> Result<(), Memory>

@@ -9,7 +9,6 @@ ghost use Rattle.core_records.specs.Clauses.{numbered, labelled, keyword_of, fix
 use crate::clause::{Clauses, Field, Parent, RecordClause, Uid};
 use crate::context::{RecordContext, bad_form};
 use crate::names::{made_accessor, made_mutator};
-use std::alloc::Global;
 use base_data::atom::Atom;
 use base_data::fault::Stop;
 use base_data::items::Items;
@@ -18,9 +17,10 @@ use base_data::memory::Memory;
 use base_data::name::Label;
 use base_data::op::{NAME_COUNT, Op};
 use core_language::core_form::CoreForm;
-use stx_scope::scope::Frames;
 use core_shapes::lists::{is_id, proper};
+use std::alloc::Global;
 use stx_object::syn::{OpenedTree, Syn};
+use stx_scope::scope::Frames;
 
 fn numbered(number: u64) -> Option<CoreForm>
     ensures { result ≡ numbered number }

@@ -5,13 +5,13 @@ ghost use Rattle.base_data.specs.Gives.{StopsWith};
 ghost use Rattle.base_data.specs.declared.fault.FaultKind.TheVariants as kind;
 ghost use Rattle.core_shapes.specs.At.{fault_at};
 
-use std::alloc::Global;
 use base_data::fault::{FaultKind, Stop};
 use base_data::span::Span;
 use base_data::symbol::Symbol;
-use stx_scope::scope::Frames;
 use core_shapes::at::fault_at;
+use std::alloc::Global;
 use stx_object::syn::Syn;
+use stx_scope::scope::Frames;
 
 /// What uses of the record forms are read with.
 #[derive(Drop)]

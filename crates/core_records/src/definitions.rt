@@ -11,12 +11,12 @@ use crate::introduced::{
     vector_made,
 };
 use crate::names::RecordNames;
-use std::alloc::Global;
 use base_data::atom::Atom;
 use base_data::fault::BareStop;
 use base_data::items::Items;
 use base_data::memory::Memory;
 use base_data::symbol::Symbol;
+use std::alloc::Global;
 use stx_object::syn::Syn;
 
 fn rtd(alloc: Global) -> Result<Syn, Memory>

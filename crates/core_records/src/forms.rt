@@ -10,13 +10,13 @@ use crate::context::{RecordContext, bad_form};
 use crate::definitions::{constructor_word, definitions, type_word};
 use crate::introduced::list_of_two;
 use crate::names::{RecordNames, names_of};
-use std::alloc::Global;
 use base_data::fault::{Bare, BareStop, Fault, Stop};
 use base_data::memory::Memory;
 use base_data::span::Span;
 use core_language::core_form::CoreForm;
 use core_shapes::at::place_of;
 use core_shapes::lists::{is_id, proper};
+use std::alloc::Global;
 use stx_object::syn::Syn;
 
 /// A fault of what a form comes to, at the form.

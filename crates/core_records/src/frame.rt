@@ -5,13 +5,13 @@ ghost use Rattle.base_data.specs.Op.{op_text};
 ghost use Rattle.core_records.specs.Frame.{core_row, rows_for, record_frame};
 
 use crate::introduced::core_frame;
-use std::alloc::Global;
-use std::rc::Rc;
 use base_data::library::LibName;
 use base_data::memory::Memory;
 use base_data::name::{Label, Name};
 use base_data::op::{NAME_COUNT, Op, names, op_text};
 use base_data::symbol::Symbol;
+use std::alloc::Global;
+use std::rc::Rc;
 use stx_tree::frame_row::FrameRow;
 use stx_tree::marks::Marks;
 

@@ -4,8 +4,6 @@ ghost use Rattle.std.specs.Prelude.{◌≡◌, IfOk};
 ghost use Rattle.base_data.specs.Gives.{BareGives};
 ghost use Rattle.core_records.specs.Introduced.{core_frame, core_stamp, introduced, plain, boolean, list_made, list_of_two, list_of_three, vector_made, quoted};
 
-use std::alloc::Global;
-use std::rc::Rc;
 use base_data::atom::Atom;
 use base_data::fault::BareStop;
 use base_data::items::Items;
@@ -13,6 +11,8 @@ use base_data::library::LibName;
 use base_data::memory::Memory;
 use base_data::name::{FrameNo, Name};
 use base_data::symbol::Symbol;
+use std::alloc::Global;
+use std::rc::Rc;
 use stx_object::syn::Syn;
 use stx_tree::marks::Marks;
 use stx_tree::stamp::Stamp;

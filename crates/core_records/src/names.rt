@@ -4,13 +4,13 @@ ghost use Rattle.std.specs.Prelude.{◌≡◌, IfOk};
 ghost use Rattle.stx_scope.specs.Stands.{symbol_of};
 ghost use Rattle.core_records.specs.Names.{like, constructor_symbol, predicate_symbol, accessor_symbol, mutator_symbol, made_accessor, made_mutator, made_names, given_names, names_of, spec_symbol, record_symbol, record_uid};
 
-use std::alloc::Global;
-use std::fmt::Write;
 use base_data::library::LibName;
 use base_data::memory::Memory;
 use base_data::symbol::Symbol;
 use core_naming::{put_library, put_name_part};
 use core_shapes::lists::{is_id, proper};
+use std::alloc::Global;
+use std::fmt::Write;
 use stx_object::syn::{OpenedTree, Syn};
 
 /// What a form that defines a record type binds besides its fields.

@@ -4,12 +4,12 @@ ghost use Rattle.std.specs.Prelude.{◌≡◌, IfOk, option_map};
 ghost use Rattle.base_data.specs.Gives.{StopsWith};
 ghost use Rattle.core_shapes.specs.At.{place_of, fault_at, words_of};
 
-use std::alloc::Global;
 use base_data::fault::{Fault, FaultKind, Stop};
 use base_data::items::Items;
 use base_data::memory::Memory;
 use base_data::span::Span;
 use base_data::symbol::Symbol;
+use std::alloc::Global;
 use stx_object::syn::Syn;
 
 /// Where a form stands: its own span, or where it has none the place round it.

@@ -9,12 +9,12 @@ ghost use Rattle.core_shapes.specs.Forms.{formals, formals_before, binding, bind
 use crate::at::fault_at;
 use crate::lists::{all_ids, is_id, is_nil, parts_of, proper, share_all, split_first};
 use crate::shape::{BindingSpec, FormalIds, LambdaCase, PatternCase, Shape};
-use std::alloc::Global;
 use base_data::fault::{FaultKind, Stop};
 use base_data::items::Items;
 use base_data::memory::Memory;
 use base_data::span::Span;
 use core_language::core_form::CoreForm;
+use std::alloc::Global;
 use stx_object::syn::Syn;
 
 /// The identifiers of a formals list: `(id ...)`, `(id ... . id)` or `id`.

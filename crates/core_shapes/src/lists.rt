@@ -3,10 +3,10 @@
 ghost use Rattle.std.specs.Prelude.{◌≡◌, IfOk, option_map};
 ghost use Rattle.core_shapes.specs.Lists.{is_leaf, is_nil, is_nil_atom, split_first, elements, tail_of, proper_elements, all_ids};
 
-use std::alloc::Global;
 use base_data::atom::Atom;
 use base_data::items::Items;
 use base_data::memory::Memory;
+use std::alloc::Global;
 use stx_object::syn::{OpenedTree, Syn};
 
 /// The first element of a list, and the rest.

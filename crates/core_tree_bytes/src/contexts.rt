@@ -6,12 +6,12 @@ ghost use Rattle.base_bytes.specs.Names.{mark};
 ghost use Rattle.base_bytes.specs.Puts.{Puts};
 ghost use Rattle.core_codec.specs.Contexts as spell;
 
-use std::alloc::Global;
-use base_data::memory::Memory;
-use base_data::name::{FrameNo, Mark};
 use base_bytes::libraries::RecentLibraries;
 use base_bytes::numbers::{put_u64, u64_at};
 use base_bytes::spelled::{Spelled, all_at, put_all};
+use base_data::memory::Memory;
+use base_data::name::{FrameNo, Mark};
+use std::alloc::Global;
 use stx_tree::marks::Marks;
 use stx_tree::stamp::Stamp;
 

@@ -9,14 +9,14 @@ ghost use Rattle.base_bytes.specs.Puts.{PutsIf};
 ghost use Rattle.core_codec.specs.Trees as spell;
 ghost use Rattle.core_tree_bytes.specs.Seen.{datum_cases};
 
-use std::boxed::Box;
+use base_bytes::libraries::RecentLibraries;
+use base_bytes::numbers::{put_u64, u64_at};
+use base_bytes::spelled::Spelled;
 use base_data::atom::Atom;
 use base_data::datum::{Datum, Node};
 use base_data::memory::Memory;
 use base_data::symbol::Symbol;
-use base_bytes::libraries::RecentLibraries;
-use base_bytes::numbers::{put_u64, u64_at};
-use base_bytes::spelled::Spelled;
+use std::boxed::Box;
 
 /// Whether a datum may stand behind the last element of a list.
 fn is_tail(datum: &Datum) -> bool

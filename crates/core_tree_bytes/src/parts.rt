@@ -8,12 +8,12 @@ ghost use Rattle.core_tree_bytes.specs.Contexts.{context_of};
 ghost use Rattle.core_tree_bytes.specs.Parts.{IsRestOf, IsListOf, PartsOf, IsProper, tree_cases};
 
 use crate::contexts::ContextLists;
-use std::alloc::Global;
 use base_data::atom::Atom;
 use base_data::fault::BareStop;
 use base_data::memory::Memory;
 use base_data::span::Span;
 use base_data::symbol::Symbol;
+use std::alloc::Global;
 use stx_object::syn::{OpenedTree, Syn};
 
 /// What a syntax tree is, but for its span.

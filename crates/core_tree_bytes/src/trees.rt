@@ -12,14 +12,14 @@ ghost use Rattle.core_tree_bytes.specs.Parts.{tree_cases, IsProper};
 
 use crate::contexts::ContextLists;
 use crate::parts::{ElementsAndTail, TreeParts, is_tail};
-use std::alloc::Global;
+use base_bytes::libraries::RecentLibraries;
+use base_bytes::numbers::{put_u64, u64_at};
+use base_bytes::spelled::Spelled;
 use base_data::atom::Atom;
 use base_data::memory::Memory;
 use base_data::span::Span;
 use base_data::symbol::Symbol;
-use base_bytes::libraries::RecentLibraries;
-use base_bytes::numbers::{put_u64, u64_at};
-use base_bytes::spelled::Spelled;
+use std::alloc::Global;
 use stx_object::syn::Syn;
 
 /// How high a tree may be, and how many parts it may have.

@@ -3,11 +3,11 @@
 ghost use Rattle.std.specs.Prelude.{◌≡◌, [], length, take, OnOk};
 ghost use Rattle.core_language.specs.Labels.{has_label, with_label, with_labels};
 
+use base_data::memory::Memory;
+use base_data::name::Label;
 use indexmap::IndexSet;
 use std::alloc::Global;
 use std::marker::Model;
-use base_data::memory::Memory;
-use base_data::name::Label;
 
 /// Labels, each once, in the order of coming.
 #[derive(Drop)]

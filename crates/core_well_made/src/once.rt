@@ -4,10 +4,10 @@ ghost use Rattle.std.specs.Prelude.{◌≡◌, [], IfOk};
 ghost use Rattle.law_core.specs.Words.{once};
 ghost use Rattle.core_well_made.specs.Sets.{once_behind};
 
+use base_data::memory::Memory;
 use indexmap::IndexSet;
 use std::alloc::Global;
 use std::hash::Hash;
-use base_data::memory::Memory;
 
 // Whether each of these comes for the first time.
 #[tactic(auto, using(crate::proofs::Distinct::behind_on, crate::proofs::Distinct::behind_off))]

@@ -8,13 +8,13 @@ ghost use Rattle.core_language.specs.PatternView.{elements_of, repeated_on};
 ghost use Rattle.core_language.specs.References.{binders, all_binders, init_binders, case_binders, clause_binders};
 ghost use Rattle.core_language.specs.References.{mentions, all_mentions, init_mentions, case_mentions, clause_mentions, variables, all_variables, formals_labels};
 
-use std::alloc::Global;
 use base_data::items::Items;
 use base_data::memory::Memory;
 use base_data::name::Label;
 use core_language::code::{Clause, Code, Core, CoreNode, Init, Lambda};
 use core_language::formals::Formals;
 use core_language::pattern::{Elements, Pattern, PatternNode, Repeated};
+use std::alloc::Global;
 
 /// Adds a label at the end.
 pub fn add(labels: &mut Items<Label>, label: &Label) -> Result<(), Memory>

@@ -10,15 +10,15 @@ ghost use Rattle.law_core.specs.Templates.{depths, all_depths, suits, items_suit
 ghost use Rattle.core_well_made.specs.Reach.{reach, items_reach, number_if};
 ghost use Rattle.core_well_made.specs.Sets.{has_depth_of, output_suits, with_depth, with_depths};
 
-use indexmap::IndexSet;
-use std::alloc::Global;
-use std::marker::Model;
 use base_data::items::Items;
 use base_data::memory::Memory;
 use base_data::name::Label;
 use core_language::code::{Clause, Code, Core, CoreNode, Init, Lambda};
 use core_language::pattern::{Elements, Pattern, PatternNode, Repeated};
-use core_language::template::{TemplateItem, Template, TemplateNode};
+use core_language::template::{Template, TemplateItem, TemplateNode};
+use indexmap::IndexSet;
+use std::alloc::Global;
+use std::marker::Model;
 
 /// Pattern variables, each with how many ellipses it stands under in its pattern, in the order of coming.
 #[derive(Drop)]
@@ -217,7 +217,11 @@ fn shortened(reach: u64, ellipses: u64) -> Option<u64>
 
 #[cycle(suits)]
 #[tactic(auto, using(crate::proofs::Reach::no_number))]
-fn item_suits(variables: &DepthSet, ellipses: u64, item: &TemplateItem) -> Result<Option<u64>, Memory>
+fn item_suits(
+    variables: &DepthSet,
+    ellipses: u64,
+    item: &TemplateItem,
+) -> Result<Option<u64>, Memory>
     ensures { IfOk result (λ r. r ≡ number_if (items_suit variables.now ellipses (items (item.now ∷ []))) (reach item.now.template - item.now.ellipses)) }
 {
     let own = item.ellipses as u64;
@@ -230,7 +234,11 @@ fn item_suits(variables: &DepthSet, ellipses: u64, item: &TemplateItem) -> Resul
 
 #[cycle(suits)]
 #[tactic(auto, using(crate::proofs::Sets::items_suit_more, crate::proofs::Reach::no_number, crate::proofs::Reach::a_number, crate::proofs::Reach::the_number))]
-fn items_suit(variables: &DepthSet, ellipses: u64, list: &[TemplateItem]) -> Result<Option<u64>, Memory>
+fn items_suit(
+    variables: &DepthSet,
+    ellipses: u64,
+    list: &[TemplateItem],
+) -> Result<Option<u64>, Memory>
     ensures { IfOk result (λ r. r ≡ number_if (items_suit variables.now ellipses (items list.now)) (items_reach (items list.now))) }
 {
     let mut furthest = 0;

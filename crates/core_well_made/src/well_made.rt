@@ -11,11 +11,11 @@ use crate::once::once;
 use crate::parts::{NotedParts, gather};
 use crate::scan::scan;
 use crate::templates::{DepthSet, templates_suit};
-use std::alloc::Global;
 use base_data::items::Items;
 use base_data::memory::Memory;
 use base_data::name::Label;
 use core_language::code::Core;
+use std::alloc::Global;
 
 fn none_among(labels: &[Label], others: &LabelSet) -> bool
     ensures { result ≡ each (λ l. not (among same_label others.now l)) labels.now }

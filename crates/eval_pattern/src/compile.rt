@@ -9,19 +9,19 @@ ghost use Rattle.core_language.specs.PatternView.{repeated_on, elements_of};
 ghost use Rattle.eval_pattern.specs.Compile.{seen, bad, is_no_keyword, may_be_literal, literals_checked, is_literal, is_known, new_variable, leaf_pattern, with_part, dots_of, parts_of, with_repeated, inner_depth, behind_ellipsis, added, pattern, with_pattern, walked, forms_walked, list_pattern, vector_pattern, compiled};
 
 use crate::keywords::{first_ellipsis, is_form};
-use std::alloc::Global;
 use base_data::fault::{FaultKind, Stop};
 use base_data::items::Items;
 use base_data::memory::Memory;
-use base_data::name::{Label, FreeNames};
+use base_data::name::{FreeNames, Label};
 use base_data::span::Span;
 use core_language::core_form::CoreForm;
 use core_language::pattern::{Elements, Pattern, PatternNode, Repeated};
-use stx_scope::same::same_binder;
-use stx_scope::scope::Frames;
 use core_shapes::at::fault_at;
 use core_shapes::lists::{is_id, parts_of};
+use std::alloc::Global;
 use stx_object::syn::{OpenedTree, Syn};
+use stx_scope::same::same_binder;
+use stx_scope::scope::Frames;
 
 /// What forms are read with as patterns.
 #[derive(Drop)]

@@ -4,14 +4,14 @@ ghost use Rattle.std.specs.Prelude.{◌≡◌, [], length, IfOk};
 ghost use Rattle.eval_pattern.specs.Front.{has_room, store_front, tree_front, further, front};
 
 use crate::values::stored_pair;
-use std::alloc::Global;
 use base_data::items::Items;
 use base_data::memory::Memory;
 use base_region::region::Region;
 use core_shapes::lists::split_first;
-use stx_object::syn::Syn;
 use eval_value::cell::Cell;
 use eval_value::value::Value;
+use std::alloc::Global;
+use stx_object::syn::Syn;
 
 /// The first elements of a list, and what is behind them.
 #[derive(Drop)]

@@ -7,8 +7,8 @@ use base_data::library::LibName;
 use base_data::memory::Memory;
 use base_data::name::Label;
 use core_language::core_form::CoreForm;
-use stx_scope::scope::Frames;
 use stx_object::syn::Syn;
+use stx_scope::scope::Frames;
 
 /// Whether what an identifier stands for is this keyword.
 pub fn is_form(form: CoreForm, label: &Option<Label>) -> bool

@@ -4,10 +4,10 @@ ghost use Rattle.std.specs.Prelude.{◌≡◌, IfOk};
 ghost use Rattle.base_data.specs.Gives.{StopsWith};
 ghost use Rattle.eval_stage.specs.Stage.{not_transformer, StopsAt};
 
-use std::alloc::Global;
 use base_data::fault::{Bare, BareStop, Fault, FaultKind, Stop};
 use base_data::items::Items;
 use base_data::span::Span;
+use std::alloc::Global;
 
 /// A fault of an evaluation, at the place of what asked for it.
 pub(crate) fn stopped_at(stop: BareStop, place: &Span) -> Stop

@@ -4,9 +4,6 @@ ghost use Rattle.std.specs.Prelude.{◌≡◌, [], IfOk, OnOk};
 ghost use Rattle.eval_stage.specs.Libraries.{has_library, with_library, with_libraries, has_all, with_libraries_of, libraries_of, with_refs, with_refs_if, wanted, earlier_in};
 
 use crate::earlier::{Earlier, is_marked};
-use indexmap::IndexSet;
-use std::alloc::Global;
-use std::marker::Model;
 use base_data::items::Items;
 use base_data::library::LibName;
 use base_data::memory::Memory;
@@ -15,6 +12,9 @@ use core_language::code::Core;
 use core_language::record::CompiledLibrary;
 use core_language::references::references;
 use core_language::share::share_library;
+use indexmap::IndexSet;
+use std::alloc::Global;
+use std::marker::Model;
 
 /// LibraryList, each once, in the order of coming.
 #[derive(Drop)]
@@ -102,7 +102,12 @@ impl LibraryList {
         self.add_each(alloc, one.refs.as_slice())
     }
 
-    fn add_refs_if(&mut self, alloc: Global, needed: bool, one: &CompiledLibrary) -> Result<(), Memory>
+    fn add_refs_if(
+        &mut self,
+        alloc: Global,
+        needed: bool,
+        one: &CompiledLibrary,
+    ) -> Result<(), Memory>
         ensures { OnOk result (self.new ≡ with_refs_if needed one.now self.old) }
     {
         if !needed {

@@ -4,11 +4,11 @@ ghost use Rattle.base_data.specs.Act.{GivesAfter};
 ghost use Rattle.eval_stage.specs.Patterns.{pattern_of, check_literals};
 
 use crate::stage::Stage;
-use std::sync::ledger::Ledger;
 use base_data::fault::Stop;
 use base_data::span::Span;
 use eval_pattern::compile as patterns;
 use eval_pattern::compile::{Compiled, PatternContext, compile_pattern};
+use std::sync::ledger::Ledger;
 use stx_object::syn::Syn;
 
 impl<L: Ledger> Stage<L> {

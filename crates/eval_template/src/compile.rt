@@ -12,22 +12,22 @@ ghost use Rattle.core_shapes.specs.Lists.{tail_of, elements};
 ghost use Rattle.eval_template.specs.declared.compile.CompiledForm.TheVariants.{Fixed, Varied};
 ghost use Rattle.eval_template.specs.Compile.{seen, bad, variable_made, bound_made, label_made, is_special, leaf_made, dot_count, first_label, reach, fitted, item_made, constant_of, template_of, items_of, reaches, is_fixed, all_fixed, is_changed, any_changed, tree_before, trees, StopsAt, rebuilt, fixed_list, list_joined, fixed_vector, vector_joined, unescaped, template, with_template, forms_walked, escaped_form, list_template, escaped_template, vector_template, compiled};
 
-use std::alloc::Global;
 use base_data::fault::{Bare, BareStop, Fault, FaultKind, Stop};
 use base_data::items::Items;
 use base_data::memory::Memory;
 use base_data::name::Label;
 use base_data::span::Span;
 use base_data::symbol::Symbol;
+use core_known::known::KnownBindings;
 use core_language::binding::Binding;
 use core_language::core_form::CoreForm;
-use core_language::template::{TemplateItem, Template, TemplateNode};
-use core_known::known::KnownBindings;
-use eval_pattern::keywords::is_form;
-use stx_scope::scope::Frames;
+use core_language::template::{Template, TemplateItem, TemplateNode};
 use core_shapes::at::{fault_at, place_of};
 use core_shapes::lists::{is_nil, parts_of};
+use eval_pattern::keywords::is_form;
+use std::alloc::Global;
 use stx_object::syn::{OpenedTree, Syn};
+use stx_scope::scope::Frames;
 
 /// What forms are read with as templates.
 #[derive(Drop)]
@@ -411,7 +411,11 @@ fn list_again(
 }
 
 #[tactic(auto, using(crate::proofs::Places::rebuilt_stops))]
-fn vector_again(context: &TemplateContext, form: &Syn, trees: Vec<Syn>) -> Result<CompiledForm, Stop>
+fn vector_again(
+    context: &TemplateContext,
+    form: &Syn,
+    trees: Vec<Syn>,
+) -> Result<CompiledForm, Stop>
     ensures { Gives (λ m. m) result (rebuilt context.now.place.now form.now (within (vector_of trees.items))) }
 {
     match Syn::vector(context.alloc, trees) {
@@ -440,7 +444,11 @@ fn fixed_list(
     Ok(CompiledForm::Fixed(false, form))
 }
 
-fn fixed_vector(context: &TemplateContext, form: &Syn, items: Items<MadeItem>) -> Result<CompiledForm, Stop>
+fn fixed_vector(
+    context: &TemplateContext,
+    form: &Syn,
+    items: Items<MadeItem>,
+) -> Result<CompiledForm, Stop>
     ensures { Gives (λ m. m) result (fixed_vector context.now.place.now form.now items) }
 {
     if any_changed(items.as_slice()) {

@@ -8,13 +8,13 @@ ghost use Rattle.eval_template.specs.Binds.{unbound};
 ghost use Rattle.eval_template.specs.Lengths.{lengths, items_lengths, differing, agree, or_none};
 
 use crate::binds::{InstanceContext, count_at};
-use itoa::Buffer;
-use std::alloc::Global;
 use base_data::fault::{Bare, BareStop, FaultKind};
 use base_data::items::Items;
 use base_data::memory::Memory;
 use base_data::symbol::Symbol;
-use core_language::template::{TemplateItem, Template, TemplateNode};
+use core_language::template::{Template, TemplateItem, TemplateNode};
+use itoa::Buffer;
+use std::alloc::Global;
 
 fn number_word(alloc: Global, number: u64) -> Result<Symbol, Memory>
     ensures { IfOk result (λ s. s ≡ decimal number) }

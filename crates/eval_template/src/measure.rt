@@ -9,12 +9,12 @@ ghost use Rattle.eval_template.specs.Measure.{turns_cost, item_cost, measure, it
 use crate::binds::InstanceContext;
 use crate::instance::drop_last;
 use crate::lengths::agreed;
-use std::alloc::Global;
 use base_data::fault::BareStop;
 use base_data::memory::Memory;
 use base_data::name::Label;
-use core_language::template::{TemplateItem, Template, TemplateNode};
+use core_language::template::{Template, TemplateItem, TemplateNode};
 use eval_value::bind::Bind;
+use std::alloc::Global;
 
 /// The cost of the value that a template gives under these binds: 1 for each pair and for each element of a
 /// vector. It is none where it is 2^64 or more, which no fuel pays.

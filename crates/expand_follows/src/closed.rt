@@ -14,15 +14,15 @@ ghost use Rattle.law_core.specs.Words.{among, each};
 ghost use Rattle.expand_follows.specs.Scope.{case_closed, output_closed, under, values_closed};
 
 use crate::earlier::NeededEarlier;
-use std::alloc::Global;
 use base_data::items::Items;
 use base_data::memory::Memory;
 use base_data::name::Label;
 use core_language::code::{Clause, Code, Core, CoreNode, Init, Lambda};
 use core_language::formals::Formals;
-use core_language::template::{TemplateItem, Template, TemplateNode};
+use core_language::template::{Template, TemplateItem, TemplateNode};
 use core_well_made::labels::LabelSet;
 use core_well_made::scan::add_variables;
+use std::alloc::Global;
 
 /// The labels of the top that code may mention: those that earlier records define, and those that a record defines
 /// itself, where its code runs among its lines.

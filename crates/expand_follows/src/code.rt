@@ -10,8 +10,6 @@ ghost use Rattle.expand_follows.specs.Pieces.{all_there, index_in_table, expand_
 
 use crate::closed::{Top, is_closed};
 use crate::names::{expand_transformer_in, line_core};
-use indexmap::IndexMap;
-use std::alloc::Global;
 use base_data::items::Items;
 use base_data::memory::Memory;
 use base_data::name::Label;
@@ -23,6 +21,8 @@ use core_well_made::once::once;
 use core_well_made::parts::{NotedParts, gather};
 use core_well_made::scan::add;
 use core_well_made::well_made::is_well_made;
+use indexmap::IndexMap;
+use std::alloc::Global;
 
 // Whether core code is well made, and closed under the labels of the top.
 fn suits(top: &Top, core: &Core) -> Result<bool, Memory>

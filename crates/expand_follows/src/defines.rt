@@ -8,12 +8,12 @@ ghost use Rattle.law_core.specs.Records.{defined, line_labels};
 ghost use Rattle.law_core.specs.Words.{among, each};
 ghost use Rattle.expand_follows.specs.Pieces.{is_top};
 
-use std::alloc::Global;
 use base_data::memory::Memory;
 use base_data::name::Label;
 use core_language::binding::Binding;
 use core_language::record::{CompiledLibrary, Line};
 use core_well_made::labels::LabelSet;
+use std::alloc::Global;
 
 fn add_defined(set: &mut LabelSet, line: &Line) -> Result<(), Memory>
     ensures { OnOk result (set.new ≡ with_labels set.old (line_labels line.now)) }

@@ -12,15 +12,15 @@ ghost use Rattle.law_core.specs.Words.{among};
 ghost use Rattle.expand_standing.specs.Ready.{needed_records};
 ghost use Rattle.expand_follows.specs.Earlier.{ArePlaces, adds, adds_labels, is_needed, mark_at};
 
-use indexmap::IndexMap;
-use std::alloc::Global;
-use std::marker::Model;
 use base_data::library::LibName;
 use base_data::memory::Memory;
 use base_data::name::Label;
 use core_language::binding::Binding;
 use core_language::record::{CompiledLibrary, Line};
 use core_language::share::share_library;
+use indexmap::IndexMap;
+use std::alloc::Global;
+use std::marker::Model;
 
 /// For each name the place of the record of a run that has it, and for each label the place of the one that binds it and
 /// of the one that defines it. So asking for one costs the same, however many records there are.
@@ -168,7 +168,11 @@ fn is_needed(place: Option<&usize>, marks: &[bool]) -> bool
 
 impl<'a> NeededEarlier<'a> {
     /// The records of a run that are marked, asked through the places of all of them.
-    pub fn new(records: &'a [CompiledLibrary], places: &'a Places, marks: &'a [bool]) -> NeededEarlier<'a>
+    pub fn new(
+        records: &'a [CompiledLibrary],
+        places: &'a Places,
+        marks: &'a [bool],
+    ) -> NeededEarlier<'a>
         requires { ArePlaces places.now records.now }
         ensures { result ≡ needed_records marks.now records.now }
     {

@@ -10,12 +10,16 @@ use crate::earlier::NeededEarlier;
 use crate::known::{knows_its_labels, own_indices};
 use crate::names::{has_new_name, names_its_own};
 use crate::references::refers_to_earlier;
-use std::alloc::Global;
 use base_data::memory::Memory;
 use core_language::record::CompiledLibrary;
+use std::alloc::Global;
 
 /// Whether a record follows the needed records before it, and so may stand behind them.
-pub fn follows(alloc: Global, one: &CompiledLibrary, earlier: &NeededEarlier) -> Result<bool, Memory>
+pub fn follows(
+    alloc: Global,
+    one: &CompiledLibrary,
+    earlier: &NeededEarlier,
+) -> Result<bool, Memory>
     ensures { IfOk result (λ b. b ≡ follows one.now earlier.now) }
 {
     if !has_new_name(alloc, one, earlier)? {

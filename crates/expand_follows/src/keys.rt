@@ -5,12 +5,12 @@ ghost use Rattle.law_core.specs.Follows.{key_of, same_key};
 ghost use Rattle.law_core.specs.Words.{once};
 ghost use Rattle.expand_follows.specs.Keys.{key_alike, key_fed, same_key_equiv, same_key_per};
 
+use base_data::memory::Memory;
+use core_well_made::once::once;
 use std::alloc::Global;
 use std::hash::{Hash, Hasher};
 use std::marker::Model;
-use base_data::memory::Memory;
 use stx_tree::frame_row::FrameRow;
-use core_well_made::once::once;
 
 /// A row, which is asked for its key alone.
 #[derive(Drop)]

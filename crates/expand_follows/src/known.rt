@@ -8,16 +8,16 @@ ghost use Rattle.law_core.specs.Words.{each};
 ghost use Rattle.expand_follows.specs.Pieces.{index_of_binding, known_by, with_index, with_indices};
 
 use crate::earlier::NeededEarlier;
-use indexmap::IndexMap;
-use std::alloc::Global;
 use base_data::library::LibName;
 use base_data::memory::Memory;
 use base_data::name::Label;
 use base_data::op::NAME_COUNT;
 use base_data::symbol::Symbol;
-use load_builtin::exports::DERIVED;
 use core_language::binding::Binding;
 use core_language::record::CompiledLibrary;
+use indexmap::IndexMap;
+use load_builtin::exports::DERIVED;
+use std::alloc::Global;
 use stx_tree::frame_row::FrameRow;
 
 // Whether a name is among some definitions.
@@ -116,7 +116,11 @@ fn exports_are_known(
     true
 }
 
-fn rows_are_known(rows: &[FrameRow], own: &IndexMap<Label, Option<u64>>, earlier: &NeededEarlier) -> bool
+fn rows_are_known(
+    rows: &[FrameRow],
+    own: &IndexMap<Label, Option<u64>>,
+    earlier: &NeededEarlier,
+) -> bool
     ensures { result ≡ each (known_by own.now.entries (flat_map bound_labels earlier.now)) (map (λ f. f.label) rows.now) }
 {
     for row in rows {

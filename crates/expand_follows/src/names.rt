@@ -15,7 +15,6 @@ ghost use Rattle.expand_follows.specs.Pieces.{all_once, all_own, binders_in, exp
 
 use crate::earlier::NeededEarlier;
 use crate::keys::rows_once;
-use std::alloc::Global;
 use base_data::items::Items;
 use base_data::library::LibName;
 use base_data::memory::Memory;
@@ -24,10 +23,11 @@ use base_data::symbol::Symbol;
 use core_language::binding::Binding;
 use core_language::code::Core;
 use core_language::record::{CompiledLibrary, Line};
-use stx_tree::frame_row::FrameRow;
 use core_well_made::once::once;
 use core_well_made::parts::{NotedParts, gather};
 use core_well_made::scan::{add, scan};
+use std::alloc::Global;
+use stx_tree::frame_row::FrameRow;
 
 /// The core code of a line.
 pub(crate) fn line_core(line: &Line) -> &Core

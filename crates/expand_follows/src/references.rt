@@ -8,14 +8,14 @@ ghost use Rattle.expand_follows.specs.Pieces.{with_libraries, with_library};
 
 use crate::earlier::NeededEarlier;
 use crate::names::scan_lines;
-use indexmap::IndexSet;
-use std::alloc::Global;
 use base_data::items::Items;
 use base_data::library::LibName;
 use base_data::memory::Memory;
 use base_data::name::Label;
 use core_language::record::CompiledLibrary;
 use core_language::share::share_library;
+use indexmap::IndexSet;
+use std::alloc::Global;
 
 // Adds the library of a label, but for its own, where it isn't there.
 fn add_library(

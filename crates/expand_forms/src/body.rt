@@ -12,12 +12,10 @@ ghost use Rattle.expand_forms.specs.Body.{splice, item, perform_item, value_of, 
 
 use crate::at::{FormAt, ItemAt};
 use crate::cores::procedure_of_case;
+use crate::expand_uses::{PlannedItem, expand_item_uses};
 use crate::expression::{ProcedureForm, expression, procedure, sequence_of, stamp_all};
 use crate::keywords::{KeywordDefinition, LetSyntaxForm, define_syntax, with_keywords};
-use crate::expand_uses::{PlannedItem, expand_item_uses};
 use crate::transformers::Transformers;
-use std::alloc::Global;
-use std::sync::ledger::Ledger;
 use base_data::atom::Atom;
 use base_data::datum::{Datum, Node};
 use base_data::fault::{FaultKind, Stop};
@@ -33,6 +31,8 @@ use expand_heads::kept::KeptHeads;
 use expand_heads::taken::{BodyAt, BodyKind, Taken, Waiting, Waits};
 use expand_standing::expansion::Expansion;
 use expand_standing::means::Counts;
+use std::alloc::Global;
+use std::sync::ledger::Ledger;
 use stx_object::syn::Syn;
 
 /// A form that has a body, and the forms of the body.

@@ -4,12 +4,12 @@ ghost use Rattle.std.specs.Prelude.{◌≡◌, ◌∷◌, [], None, Some, IfOk, 
 ghost use Rattle.core_language.specs.Core.{assignment, call, cores, letrec, matching, one_armed, procedure, two_armed};
 ghost use Rattle.core_language.specs.CoreView.{cases, clauses, inits};
 
-use std::alloc::Global;
-use std::rc::Rc;
 use base_data::memory::Memory;
 use base_data::name::{CodeNo, Label};
 use base_data::span::Span;
 use core_language::code::{Clause, Code, Core, CoreNode, Init, Lambda};
+use std::alloc::Global;
+use std::rc::Rc;
 
 /// The one case of a procedure.
 fn one_case(alloc: Global, case: Lambda) -> Result<Vec<Lambda>, Memory>

@@ -7,19 +7,19 @@ ghost use Rattle.expand_forms.specs.ExpandUses.{used_form, next_form, set_step, 
 use crate::at::{FormAt, ItemAt, ItemForm};
 use crate::links::link;
 use crate::transformers::Transformers;
-use std::sync::ledger::Ledger;
 use base_data::fault::{FaultKind, Stop};
 use base_data::memory::Memory;
 use base_data::name::{FrameNo, Label};
 use base_data::span::Span;
+use core_shapes::at::place_of;
 use expand_heads::item::Item;
 use expand_heads::items::{item_plan, wait};
 use expand_heads::plan::{KeywordUse, Plan, plan_of};
 use expand_heads::taken::{BodyAt, Taken};
-use core_shapes::at::place_of;
 use expand_standing::expansion::Expansion;
 use expand_standing::means::Counts;
 use expand_standing::uses::UsedForm;
+use std::sync::ledger::Ledger;
 use stx_object::syn::Syn;
 
 /// What a form asks for: its plan, or a use of a keyword.

@@ -14,9 +14,6 @@ use crate::expression::expression;
 use crate::inside::ROOM;
 use crate::tally::Tally;
 use crate::top::{Linked, TopAt, TopBody, top};
-use std::alloc::Global;
-use std::marker::Model;
-use std::sync::ledger::Ledger;
 use base_data::atom::Atom;
 use base_data::fault::Stop;
 use base_data::items::Items;
@@ -25,12 +22,15 @@ use base_data::memory::Memory;
 use base_data::name::FrameNo;
 use base_data::span::Span;
 use base_data::symbol::Symbol;
+use base_fuel::fuel::Fuel;
 use core_language::code::Core;
 use core_language::record::CompiledLibrary;
-use base_fuel::fuel::Fuel;
 use expand_standing::expansion::Expansion;
 use expand_standing::means::{Counts, Means};
 use expand_standing::start::{Environment, Supplies};
+use std::alloc::Global;
+use std::marker::Model;
+use std::sync::ledger::Ledger;
 use stx_object::syn::Syn;
 
 /// The body of a library or program that is to be expanded, where it stands, and its exports and version.

@@ -12,25 +12,25 @@ use crate::cores::{
     assignment_of, call_of, letrec_of, one_armed_of, procedure_of_case, procedure_of_cases,
     two_armed_of,
 };
+use crate::expand_uses::{PlannedForm, expand_uses};
 use crate::keywords::{LetSyntaxForm, keywords_form};
 use crate::patterns::{SyntaxCaseForm, syntax_case};
 use crate::quasi::{TemplateForm, quasi_form};
-use crate::expand_uses::{PlannedForm, expand_uses};
 use crate::transformers::Transformers;
-use std::alloc::Global;
-use std::sync::ledger::Ledger;
 use base_data::fault::{FaultKind, Stop};
 use base_data::items::Items;
 use base_data::memory::Memory;
 use base_data::name::{CodeNo, FrameNo, Label};
 use base_data::steps::Steps;
 use core_language::code::{Core, CoreNode, Init, Lambda};
+use core_shapes::shape::{BindingSpec, FormalIds, LambdaCase};
 use expand_heads::depth::{MOST_ROUND, deeper};
 use expand_heads::plan::Plan;
-use core_shapes::shape::{BindingSpec, FormalIds, LambdaCase};
 use expand_standing::binders::{BinderContext, BoundSpec};
 use expand_standing::expansion::Expansion;
 use expand_standing::means::Counts;
+use std::alloc::Global;
+use std::sync::ledger::Ledger;
 use stx_object::syn::Syn;
 
 /// The parts of an `if`.

@@ -9,22 +9,22 @@ ghost use Rattle.expand_forms.specs.Keywords.{expand_transformer, seen_in, expan
 use crate::at::{FormAt, ItemAt};
 use crate::expression::{expression, in_sequence, stamp_all};
 use crate::transformers::Transformers;
-use std::alloc::Global;
-use std::sync::ledger::Ledger;
 use base_data::fault::Stop;
 use base_data::items::Items;
 use base_data::memory::Memory;
 use base_data::name::FrameNo;
 use base_data::steps::Steps;
 use core_language::code::Core;
-use expand_heads::items::define_keyword;
-use expand_heads::taken::Taken;
 use core_shapes::at::place_of;
 use core_shapes::shape::BindingSpec;
+use expand_heads::items::define_keyword;
+use expand_heads::taken::Taken;
 use expand_standing::binders::{BinderContext, BoundSpec};
 use expand_standing::expansion::Expansion;
 use expand_standing::means::Counts;
 use expand_standing::uses::KeywordAt;
+use std::alloc::Global;
+use std::sync::ledger::Ledger;
 use stx_object::syn::Syn;
 
 /// A `let-syntax`, or a `letrec-syntax` where `recursive` is true.

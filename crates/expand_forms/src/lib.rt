@@ -25,6 +25,7 @@
 pub mod at;
 pub mod body;
 mod cores;
+pub mod expand_uses;
 pub mod expander;
 pub mod expression;
 pub mod inside;
@@ -32,7 +33,6 @@ pub mod keywords;
 pub mod links;
 pub mod patterns;
 pub mod quasi;
-pub mod expand_uses;
 pub mod tally;
 pub mod top;
 pub mod transformers;

@@ -5,8 +5,6 @@ ghost use Rattle.core_language.specs.declared.link.LinkKind.TheVariants as links
 ghost use Rattle.expand_standing.specs.State.{noted};
 ghost use Rattle.expand_forms.specs.ExpandUses.{linked, linked_code, linked_primitive, target_span, first_span};
 
-use std::rc::Rc;
-use std::sync::ledger::Ledger;
 use base_data::library::LibName;
 use base_data::memory::Memory;
 use base_data::name::{Label, Name};
@@ -15,6 +13,8 @@ use core_language::code::{Core, CoreNode};
 use core_language::link::LinkKind;
 use expand_heads::plan::Plan;
 use expand_standing::expansion::Expansion;
+use std::rc::Rc;
+use std::sync::ledger::Ledger;
 use stx_object::syn::{OpenedTree, Syn};
 
 /// Links an identifier to a primitive.

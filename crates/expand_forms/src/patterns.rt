@@ -9,17 +9,17 @@ use crate::at::FormAt;
 use crate::cores::matching_of;
 use crate::expression::{boxed, expression_in};
 use crate::transformers::Transformers;
-use std::sync::ledger::Ledger;
 use base_data::fault::Stop;
 use base_data::name::FrameNo;
 use base_data::span::Span;
 use core_language::code::{Clause, Core};
 use core_language::pattern::Pattern;
-use eval_pattern::compile::Compiled;
 use core_shapes::shape::PatternCase;
+use eval_pattern::compile::Compiled;
 use expand_standing::binders::BinderContext;
 use expand_standing::expansion::Expansion;
 use expand_standing::means::Counts;
+use std::sync::ledger::Ledger;
 use stx_object::syn::Syn;
 
 /// The parts of a `syntax-case`, and where it stands.

@@ -9,15 +9,15 @@ ghost use Rattle.expand_forms.specs.Quasi.{parts_in_order, quasi_made, quasi_for
 use crate::at::FormAt;
 use crate::expression::expression;
 use crate::transformers::Transformers;
-use std::sync::ledger::Ledger;
 use base_data::fault::Stop;
 use core_language::code::Core;
-use expand_heads::context::FormContext;
 use core_quasi::word::Family;
+use expand_heads::context::FormContext;
 use expand_quasi::form::{QuasiForm, code_of, form_of, parts_of};
 use expand_quasi::parts::PartForm;
 use expand_standing::expansion::Expansion;
 use expand_standing::means::Counts;
+use std::sync::ledger::Ledger;
 use stx_object::syn::Syn;
 
 /// A `quasiquote` or `quasisyntax`, and its template.

@@ -1,8 +1,8 @@
 //! What a run counts.
 
-use std::sync::ledger::Ledger;
 use base_fuel::fuel::Fuel;
 use expand_standing::means::Counts;
+use std::sync::ledger::Ledger;
 
 /// What all expansions of a run count, and the fuel that they have spent, one after another.
 #[derive(Drop)]

@@ -12,8 +12,6 @@ use crate::at::{FormAt, ItemAt};
 use crate::body::{begun, finish_one, item};
 use crate::expression::{stamp_all, with_room};
 use crate::inside::ROOM;
-use std::alloc::Global;
-use std::sync::ledger::Ledger;
 use base_data::fault::{FaultKind, Stop};
 use base_data::items::Items;
 use base_data::library::LibName;
@@ -26,11 +24,13 @@ use core_language::code::Core;
 use core_language::link::Link;
 use core_language::record::{CompiledLibrary, Line};
 use core_language::references::references;
-use expand_heads::taken::{BodyAt, BodyKind, Taken, Waiting};
+use core_language::share::share_library;
 use eval_stage::libraries::LibraryList;
+use expand_heads::taken::{BodyAt, BodyKind, Taken, Waiting};
 use expand_standing::expansion::Expansion;
 use expand_standing::means::{Counts, Means};
-use core_language::share::share_library;
+use std::alloc::Global;
+use std::sync::ledger::Ledger;
 use stx_object::syn::Syn;
 
 /// What the body of a library or program has besides its exports and its forms.

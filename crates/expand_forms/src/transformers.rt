@@ -6,7 +6,6 @@ ghost use Rattle.core_language.specs.declared.record.CompiledLibrary.{CompiledLi
 ghost use Rattle.eval_stage.specs.Libraries.{earlier_in};
 ghost use Rattle.expand_standing.specs.Uses.{use_keyword, asks_variable, evaluate_transformer};
 
-use std::sync::ledger::Ledger;
 use base_data::fault::Stop;
 use base_data::name::Label;
 use base_data::span::Span;
@@ -14,6 +13,7 @@ use core_language::code::Core;
 use expand_standing::expansion::Expansion;
 use expand_standing::means::{Counts, Means};
 use expand_standing::uses::{KeywordAt, UsedForm};
+use std::sync::ledger::Ledger;
 use stx_object::syn::Syn;
 
 /// What has the transformers of keywords evaluated and called (R6RS libraries 12.3). Expansion asks for no more

@@ -11,7 +11,6 @@ use crate::item::Item;
 use crate::kept::KeptHeads;
 use crate::plan::{KeywordUse, is_letrec_syntax};
 use crate::taken::{BodyAt, BodyKind, KeptHead, Taken, Waiting, Waits};
-use std::sync::ledger::Ledger;
 use base_data::fault::{FaultKind, Stop};
 use base_data::items::Items;
 use base_data::memory::Memory;
@@ -24,6 +23,7 @@ use core_shapes::shape::{BindingSpec, Shape};
 use expand_standing::binders::{BinderContext, BoundSpec};
 use expand_standing::expansion::{Expansion, symbol_in};
 use expand_standing::standing::{Role, Standing, is_keyword, role_of};
+use std::sync::ledger::Ledger;
 use stx_object::syn::{OpenedTree, Syn};
 
 /// A form of a body, and what is known round it.

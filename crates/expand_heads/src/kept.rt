@@ -5,12 +5,12 @@ ghost use Rattle.std.specs.Option.{option_copied};
 ghost use Rattle.expand_heads.specs.Kept.{found, with_head};
 
 use crate::taken::KeptHead;
-use std::alloc::Global;
-use std::marker::Model;
 use base_data::items::Items;
 use base_data::map::{NameMap, new_map};
 use base_data::memory::Memory;
 use base_data::symbol::Symbol;
+use std::alloc::Global;
+use std::marker::Model;
 
 /// Heads by symbol: only a binder of its symbol can change what a head stands for.
 #[derive(Drop)]

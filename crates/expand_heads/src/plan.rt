@@ -13,7 +13,6 @@ ghost use Rattle.expand_heads.specs.declared.plan.Plan.TheVariants as plans;
 ghost use Rattle.expand_heads.specs.Plan.{done, plan_of, list_plan, by_head, keyword_plan, with_shape, shape_plan, application, in_sequence, assign, is_star, is_letrec_syntax, keywords_plan, operand_plan, reference, refer, variable_at, constant, target_by, target_variable};
 
 use crate::context::FormContext;
-use std::sync::ledger::Ledger;
 use base_data::atom::Atom;
 use base_data::fault::{FaultKind, Stop};
 use base_data::items::Items;
@@ -28,6 +27,7 @@ use core_shapes::lists::{is_id, is_nil_atom, proper};
 use core_shapes::shape::{BindingSpec, FormalIds, LambdaCase, PatternCase, Shape};
 use expand_standing::expansion::Expansion;
 use expand_standing::standing::{Role, Standing, Variable, role_of};
+use std::sync::ledger::Ledger;
 use stx_object::syn::{OpenedTree, Syn};
 
 /// A keyword whose uses give another form in their place.

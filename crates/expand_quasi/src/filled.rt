@@ -6,12 +6,12 @@ ghost use Rattle.core_quasi.specs.Plan.{quasis};
 ghost use Rattle.stx_tree.specs.Leaves.{strip};
 ghost use Rattle.expand_quasi.specs.Filled.{call_of, next_code, filled, all_filled};
 
-use std::alloc::Global;
-use std::marker::Model;
 use base_data::memory::Memory;
 use base_data::op::Op;
 use core_language::code::{Core, CoreNode};
 use core_quasi::plan::{Quasi, QuasiNode};
+use std::alloc::Global;
+use std::marker::Model;
 use stx_object::syn::Syn;
 
 /// Codes, of which the first is taken next.

@@ -9,20 +9,20 @@ ghost use Rattle.expand_quasi.specs.Inserted.{syntax_code, stamps_of};
 use crate::filled::plan_code;
 use crate::inserted::{dots, inserted, plain_instance};
 use crate::parts::{PartForm, inserts_parts, push_quasi};
-use std::alloc::Global;
-use std::sync::ledger::Ledger;
 use base_data::fault::Stop;
 use base_data::items::Items;
 use base_data::memory::Memory;
 use base_data::span::Span;
 use base_data::steps::Steps;
 use core_language::code::Core;
-use expand_heads::context::FormContext;
 use core_quasi::plan::Quasi;
 use core_quasi::quasi::quasi;
 use core_quasi::quasi_syntax::{QuasiContext, QuasiSyntax, quasi_syntax};
 use core_quasi::word::Family;
+use expand_heads::context::FormContext;
 use expand_standing::expansion::Expansion;
+use std::alloc::Global;
+use std::sync::ledger::Ledger;
 use stx_object::syn::Syn;
 
 /// What a quasi form comes to.

@@ -5,9 +5,6 @@ ghost use Rattle.base_data.specs.Act.{GivesAfter};
 ghost use Rattle.expand_quasi.specs.Inserted.{dots, ellipsis, insert_variable, insert_variables, nothing_behind, listed, insert_pattern, inserts_pattern, match_of, bind_inserts, inserted_in, inserted, plain_instance};
 
 use crate::filled::call_of;
-use std::alloc::Global;
-use std::rc::Rc;
-use std::sync::ledger::Ledger;
 use base_data::atom::Atom;
 use base_data::fault::Stop;
 use base_data::items::Items;
@@ -22,12 +19,15 @@ use core_language::code::{Clause, Core, CoreNode};
 use core_language::core_form::CoreForm;
 use core_language::pattern::{Elements, Pattern, PatternNode, Repeated};
 use core_language::template::Template;
-use expand_heads::context::FormContext;
-use eval_pattern::compile::PatternVariable;
 use core_quasi::quasi_syntax::{Insert, QuasiSyntax};
 use core_shapes::at::place_of;
+use eval_pattern::compile::PatternVariable;
+use expand_heads::context::FormContext;
 use expand_standing::binders::BinderContext;
 use expand_standing::expansion::Expansion;
+use std::alloc::Global;
+use std::rc::Rc;
+use std::sync::ledger::Ledger;
 use stx_object::syn::Syn;
 
 /// The identifier that stands for the ellipsis behind splices: no leaf of a program has its mark.

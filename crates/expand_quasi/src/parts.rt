@@ -4,12 +4,12 @@ ghost use Rattle.std.specs.Prelude.{◌≡◌, ◌∷◌, ◌++◌, [], map, IfO
 ghost use Rattle.core_quasi.specs.Plan.{quasis};
 ghost use Rattle.expand_quasi.specs.Parts.{part, with_made, quasi_parts, all_quasi_parts, insert_part, inserts_parts};
 
-use std::alloc::Global;
 use base_data::items::Items;
 use base_data::memory::Memory;
-use expand_heads::depth::{MOST_ROUND, deeper};
 use core_quasi::plan::{Quasi, QuasiNode};
 use core_quasi::quasi_syntax::Insert;
+use expand_heads::depth::{MOST_ROUND, deeper};
+use std::alloc::Global;
 use stx_object::syn::Syn;
 
 /// A form that is to be expanded.

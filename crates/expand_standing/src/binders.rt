@@ -5,7 +5,6 @@ ghost use Rattle.base_data.specs.Act.{GivesAfter};
 ghost use Rattle.expand_standing.specs.Binders.{bind_variable, bind_as, put_row, put_variable, StopsAt, bind_all, bind_rest, bind_spec, bind_specs, bind_formals, variable_for, index_at, next_index};
 
 use crate::expansion::{Expansion, symbol_in};
-use std::sync::ledger::Ledger;
 use base_data::fault::{Bare, BareStop, Fault, FaultKind, Stop};
 use base_data::items::Items;
 use base_data::memory::Memory;
@@ -17,6 +16,7 @@ use core_language::link::LinkKind;
 use core_shapes::at::place_of;
 use core_shapes::lists::is_id;
 use core_shapes::shape::{BindingSpec, FormalIds};
+use std::sync::ledger::Ledger;
 use stx_object::syn::Syn;
 
 /// Where identifiers are bound.

@@ -6,12 +6,12 @@ ghost use Rattle.expand_standing.specs.InScope.{with_local, cut, is_in_scope};
 
 use crate::expansion::Expansion;
 use crate::standing::Variable;
+use base_data::memory::Memory;
+use base_data::name::Label;
 use indexmap::IndexSet;
 use std::alloc::Global;
 use std::marker::Model;
 use std::sync::ledger::Ledger;
-use base_data::memory::Memory;
-use base_data::name::Label;
 
 /// The labels that are in scope, each once, in the order of coming: what came last goes first.
 #[derive(Drop)]

@@ -5,12 +5,12 @@ ghost use Rattle.stx_tree.specs.Tree.{span_of};
 ghost use Rattle.expand_standing.specs.State.{noted};
 
 use crate::expansion::Expansion;
-use std::mem::replace;
-use std::sync::ledger::Ledger;
 use base_data::items::Items;
 use base_data::memory::Memory;
 use base_data::name::Label;
 use core_language::link::{Link, LinkKind};
+use std::mem::replace;
+use std::sync::ledger::Ledger;
 use stx_object::syn::Syn;
 
 impl<L: Ledger> Expansion<L> {

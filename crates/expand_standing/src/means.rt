@@ -1,9 +1,9 @@
 //! What evaluations during an expansion need.
 
-use std::sync::ledger::{Book, Ledger};
 use base_data::steps::Steps;
 use eval_prims::table::PrimTable;
 use eval_stage::earlier::Earlier;
+use std::sync::ledger::{Book, Ledger};
 
 /// The records before the library, and the primitives.
 #[derive(Drop)]

@@ -7,8 +7,6 @@ ghost use Rattle.core_language.specs.Labels.{has_label};
 ghost use Rattle.expand_standing.specs.Own.{export_labels, mark_assigned, labels_with, with_assigned, with_expression, completed, own_row, own_bindings};
 
 use crate::expansion::Expansion;
-use std::rc::Rc;
-use std::sync::ledger::Ledger;
 use base_data::fault::Stop;
 use base_data::items::Items;
 use base_data::library::LibName;
@@ -17,6 +15,8 @@ use base_data::name::{Label, Name};
 use base_data::symbol::Symbol;
 use core_language::binding::{Binding, Expression, VarInfo};
 use core_language::labels::Labels;
+use std::rc::Rc;
+use std::sync::ledger::Ledger;
 use stx_tree::frame_row::FrameRow;
 
 fn add_labels(labels: &mut Labels, exports: &[(Symbol, Label)]) -> Result<(), Memory>

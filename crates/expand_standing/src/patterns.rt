@@ -12,17 +12,17 @@ ghost use Rattle.eval_template.specs.Compile.{compiled};
 use crate::binders::BinderContext;
 use crate::expansion::Expansion;
 use crate::in_scope::InScope;
-use std::sync::ledger::Ledger;
 use base_data::fault::{FaultKind, Stop};
 use base_data::memory::Memory;
 use base_data::name::Label;
 use base_data::span::Span;
 use core_language::binding::Binding;
-use core_language::template::{TemplateItem, Template, TemplateNode};
-use eval_pattern::compile::{Compiled, PatternVariable};
+use core_language::template::{Template, TemplateItem, TemplateNode};
 use core_shapes::lists::parts_of;
-use stx_object::syn::{OpenedTree, Syn};
+use eval_pattern::compile::{Compiled, PatternVariable};
 use eval_template::compile::{TemplateContext, compile_template};
+use std::sync::ledger::Ledger;
+use stx_object::syn::{OpenedTree, Syn};
 
 /// Whether all pattern variables of a template are in scope.
 #[cycle(has)]

@@ -5,18 +5,18 @@ ghost use Rattle.stx_frames.specs.Scope.{adopted};
 ghost use Rattle.expand_standing.specs.Ready.{frames_part, bindings_part, needed_records, AreReady};
 ghost use Rattle.expand_standing.specs.Start.{rows_of, bindings_of};
 
+use base_data::items::Items;
+use base_data::memory::Memory;
+use core_known::given::GivenBindings;
+use core_known::known::KnownBindings;
+use core_known::shared::SharedBindings;
+use core_language::record::CompiledLibrary;
 use core_language::share::share_library;
 use std::alloc::Global;
 use std::marker::Model;
 use std::rc::Rc;
-use base_data::items::Items;
-use base_data::memory::Memory;
-use core_language::record::CompiledLibrary;
 use stx_frames::given::GivenFrames;
 use stx_frames::shared::SharedFrames;
-use core_known::given::GivenBindings;
-use core_known::known::KnownBindings;
-use core_known::shared::SharedBindings;
 use stx_scope::scope::Frames;
 
 /// The tables of a run, which each expansion shares while it lasts.

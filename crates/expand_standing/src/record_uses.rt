@@ -6,7 +6,6 @@ ghost use Rattle.expand_standing.specs.RecordUses.{defines_type, count_record_ty
 
 use crate::expansion::Expansion;
 use crate::uses::UsedForm;
-use std::sync::ledger::Ledger;
 use base_data::fault::Stop;
 use base_data::name::Mark;
 use base_data::span::Span;
@@ -15,6 +14,7 @@ use core_language::core_form::CoreForm;
 use core_records::context::RecordContext;
 use core_records::forms::record_forms;
 use core_records::names::record_uid;
+use std::sync::ledger::Ledger;
 use stx_object::syn::Syn;
 
 /// Whether it is `define-record-type`.

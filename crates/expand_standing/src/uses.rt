@@ -11,7 +11,6 @@ ghost use Rattle.expand_standing.specs.Uses.{macro_expression, use_keyword, asks
 use crate::binders::{BinderContext, BoundSpec};
 use crate::expansion::Expansion;
 use crate::means::{Counts, Means};
-use std::sync::ledger::Ledger;
 use base_data::fault::{FaultKind, Stop};
 use base_data::items::Items;
 use base_data::memory::Memory;
@@ -25,6 +24,7 @@ use core_shapes::shape::BindingSpec;
 use eval_stage::context::StageContext;
 use eval_stage::earlier::Earlier;
 use eval_stage::uses::MacroUse;
+use std::sync::ledger::Ledger;
 use stx_object::syn::Syn;
 
 /// A form that is used.

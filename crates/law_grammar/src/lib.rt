@@ -22,13 +22,13 @@ ghost use Rattle.law_grammar.specs.Reads.{Reads, SpellingsAre};
 ghost use Rattle.read_reader.specs.FirstFault.{OnFault};
 ghost use Rattle.read_reader.specs.Read.{most_nesting};
 
-use std::alloc::Global;
 use base_data::datum::Datum;
 use base_data::fault::Stop;
 use base_data::symbol::Symbol;
 use law_faults::{bytes_go_wrong_in_gaps_and_tokens, starts_are_marks_and_lines};
 use read_lexer::laws::lexemes_are_tokens_behind_gaps;
 use read_reader::read::read_deep;
+use std::alloc::Global;
 
 /// What `read_reader` calls spelled by the lexemes of a source is exactly what the relation `Reads` says
 /// of its bytes.

@@ -8,14 +8,14 @@ ghost use Rattle.base_data.specs.Op.{name_count, op_text};
 ghost use Rattle.base_data.specs.declared.library.LibName.TheVariants as name;
 
 use crate::library::{Library, Run};
-use std::alloc::Global;
-use std::rc::Rc;
 use base_data::items::Items;
 use base_data::library::LibName;
 use base_data::memory::Memory;
 use base_data::name::{Label, Name};
 use base_data::op::{Op, names, op_text};
 use base_data::symbol::Symbol;
+use std::alloc::Global;
+use std::rc::Rc;
 
 /// The definitions of the derived library, in order, each with the number of its name where it is
 /// exported. `case-clauses`, `lv-formals` and `lv-clauses` are not.

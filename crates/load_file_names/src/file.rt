@@ -4,11 +4,11 @@ ghost use Rattle.std.specs.Prelude.{◌≡◌, ◌++◌, IfOk, OnOk};
 ghost use Rattle.std.specs.String.{string_bytes};
 ghost use Rattle.load_file_names.specs.File.{below, parts_of, file_of};
 
-use percent_encoding::{AsciiSet, NON_ALPHANUMERIC, ascii_set, percent_encode};
-use std::alloc::{AllocError, Global};
 use base_data::library::LibName;
 use base_data::memory::Memory;
 use base_data::symbol::Symbol;
+use percent_encoding::{AsciiSet, NON_ALPHANUMERIC, ascii_set, percent_encode};
+use std::alloc::{AllocError, Global};
 
 /// What is percent-encoded in the name of a file, besides all that isn't ASCII.
 pub const ESCAPED: AsciiSet = ascii_set!(

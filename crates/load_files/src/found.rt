@@ -3,13 +3,13 @@
 ghost use Rattle.std.specs.Prelude.{◌≡◌, [], ◌++◌, ◌∷◌, length, drop, OnOk, option_copied, slice_get};
 ghost use Rattle.load_files.specs.Found.{nothing_loaded};
 
-use std::alloc::Global;
 use base_data::datum::Datum;
 use base_data::items::Items;
 use base_data::symbol::Symbol;
 use load_forms::form::LibraryForm;
 use load_forms::set::Import;
 use load_import::table::NameTable;
+use std::alloc::Global;
 
 /// A path that was read, and the bytes there, if it was there.
 #[derive(Drop)]

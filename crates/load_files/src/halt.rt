@@ -4,10 +4,10 @@ ghost use Rattle.std.specs.Prelude.{◌≡◌};
 ghost use Rattle.load_files.specs.Halting.{halt_of_stop, halt_of_outside};
 ghost use Rattle.load_files.specs.declared.halt.LoadHalt.TheVariants as halt;
 
-use std::alloc::AllocFailed;
 use base_data::fault::{Fault, Stop};
 use base_data::memory::Memory;
 use base_outside::OutsideError;
+use std::alloc::AllocFailed;
 
 /// Why loading stops.
 #[derive(Drop)]

@@ -14,12 +14,12 @@ use crate::halt::LoadHalt;
 use crate::open::{FILE_LIMIT, add_source, at_start, program_in};
 use crate::search::{PathContents, Search, read_at};
 use crate::walk::load_all;
-use std::alloc::Global;
 use base_data::fault::{FaultKind, Stop};
 use base_data::items::Items;
 use base_data::memory::Memory;
 use base_data::symbol::Symbol;
 use base_outside::Files;
+use std::alloc::Global;
 
 // The program of a source, and all that it imports.
 fn load_source<F: Files>(

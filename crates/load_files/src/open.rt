@@ -13,19 +13,19 @@ use crate::found::{Loading, Opened, Source};
 use crate::halt::LoadHalt;
 use crate::refer::{about, library_word};
 use crate::search::{Search, Sought, look_for};
-use std::alloc::Global;
 use base_data::datum::Datum;
 use base_data::fault::{Fault, FaultKind, Stop};
 use base_data::items::Items;
 use base_data::library::LibName;
 use base_data::memory::Memory;
 use base_data::symbol::Symbol;
+use base_outside::Files;
 use load_file_names::file::file_of;
 use load_forms::form::{LibraryForm, read_library, read_program};
 use load_forms::set::start;
 use load_import::set::ImportSet;
-use base_outside::Files;
 use read_reader::read::read_all;
+use std::alloc::Global;
 
 /// The most bytes of a file.
 pub const FILE_LIMIT: usize = 4_194_304;

@@ -8,7 +8,6 @@ ghost use Rattle.load_files.specs.Found.{is_marked, is_needed_by, marks_with, wi
 ghost use Rattle.load_files.specs.Load.{about, builtin_version, fitting, joined, by_begun, by_done, known_of};
 
 use crate::found::{Found, Loading};
-use std::alloc::Global;
 use base_data::fault::{Fault, FaultKind, Stop};
 use base_data::items::Items;
 use base_data::library::LibName;
@@ -19,6 +18,7 @@ use load_file_names::file::file_of;
 use load_forms::version::version_fits;
 use load_import::set::ImportSet;
 use load_report::name::put_library_name;
+use std::alloc::Global;
 
 /// The version of each library that this implementation gives.
 pub const VERSION: [u64; 1] = [6];

@@ -9,12 +9,12 @@ ghost use Rattle.load_files.specs.Load.{look_for};
 ghost use Rattle.load_files.specs.Search.{answer_reading, capped, IsWithin, IsSoughtWithin};
 
 use crate::found::Source;
-use std::alloc::Global;
 use base_data::items::Items;
 use base_data::memory::Memory;
 use base_data::symbol::Symbol;
-use load_file_names::file::path_below;
 use base_outside::{FileAnswer, Files, OutsideError};
+use load_file_names::file::path_below;
+use std::alloc::Global;
 
 /// How libraries are looked for: under these roots, and what is found takes this memory.
 #[derive(Drop)]

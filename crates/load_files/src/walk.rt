@@ -14,14 +14,14 @@ use crate::halt::LoadHalt;
 use crate::open::{MOST_LIBRARIES, open_file, too_many};
 use crate::refer::{Known, about, known_of, with_needs};
 use crate::search::Search;
-use std::alloc::Global;
 use base_data::fault::{FaultKind, Stop};
 use base_data::items::Items;
 use base_data::memory::Memory;
+use base_outside::Files;
 use load_file_names::file::file_of;
 use load_forms::version::version_fits;
 use load_import::set::ImportSet;
-use base_outside::Files;
+use std::alloc::Global;
 
 /// What comes of a turn.
 #[derive(Drop)]
@@ -115,7 +115,12 @@ fn known_next(alloc: Global, at: &Open, loading: &Loading) -> Result<Option<Know
 }
 
 // A file that was opened in another is loaded: the other goes on.
-fn back_in(alloc: Global, outer: Open, found: Found, loading: &mut Loading) -> Result<Open, LoadHalt>
+fn back_in(
+    alloc: Global,
+    outer: Open,
+    found: Found,
+    loading: &mut Loading,
+) -> Result<Open, LoadHalt>
     ensures given { LoadsAfter result loading.new (returned outer found loading.old) }
     ensures unread { result ≢ Err LoadHalt.Read }
 {

@@ -2,10 +2,10 @@
 
 ghost use Rattle.std.specs.Prelude.{◌≡◌, IfOk};
 
-use std::alloc::Global;
 use base_data::datum::{Datum, Node};
 use base_data::memory::Memory;
 use base_data::span::share_span;
+use std::alloc::Global;
 
 /// A copy of a datum, which shares its texts.
 #[cycle(copied)]

@@ -8,7 +8,6 @@ ghost use Rattle.load_forms.specs.Export.{export_pair_in, export_pair, export_re
 
 use crate::set::name_at;
 use crate::words::is_word;
-use std::alloc::Global;
 use base_data::datum::Datum;
 use base_data::fault::{Fault, FaultKind, Stop};
 use base_data::items::Items;
@@ -16,6 +15,7 @@ use base_data::memory::Memory;
 use base_data::symbol::Symbol;
 use load_import::set::NameAt;
 use load_import::table::NameTable;
+use std::alloc::Global;
 
 /// An identifier of the library, and the name that it is exported as.
 #[derive(Drop)]

@@ -8,9 +8,8 @@ ghost use Rattle.std.specs.Prelude.{codes};
 
 use crate::export::{Export, export_spec, exported};
 use crate::name::{VersionedName, named};
-use crate::set::{Import, import_spec, datum_place, start};
+use crate::set::{Import, datum_place, import_spec, start};
 use crate::words::is_word;
-use std::alloc::Global;
 use base_data::datum::Datum;
 use base_data::fault::{Fault, FaultKind, Stop};
 use base_data::items::Items;
@@ -19,6 +18,7 @@ use base_data::span::Span;
 use base_data::symbol::Symbol;
 use load_import::set::NameAt;
 use load_import::table::NameTable;
+use std::alloc::Global;
 
 /// What a library or a program says before its body.
 #[derive(Drop)]

@@ -4,13 +4,13 @@ ghost use Rattle.std.specs.Prelude.{◌≡◌, [], IfOk};
 ghost use Rattle.load_forms.specs.Name.{leading, behind, int_of_atom, int_of, number_of_int, number, version, version_in, named_by, named};
 ghost use Rattle.load_forms.specs.All.{all_of};
 
-use std::alloc::Global;
 use base_data::atom::Atom;
 use base_data::datum::Datum;
 use base_data::items::Items;
 use base_data::library::LibName;
 use base_data::memory::Memory;
 use base_data::symbol::Symbol;
+use std::alloc::Global;
 
 /// The name of a library, and its version.
 #[derive(Drop)]

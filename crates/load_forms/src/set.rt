@@ -11,7 +11,6 @@ use crate::copied::copied;
 use crate::name::{behind, int_of, leading};
 use crate::version::is_reference;
 use crate::words::{SetWord, StepWord, is_word, set_word};
-use std::alloc::Global;
 use base_data::atom::Atom;
 use base_data::datum::{Datum, Node};
 use base_data::items::Items;
@@ -19,7 +18,8 @@ use base_data::library::LibName;
 use base_data::memory::Memory;
 use base_data::span::Span;
 use base_data::symbol::Symbol;
-use load_import::set::{ImportSet, NameAt, Renaming, ImportStep};
+use load_import::set::{ImportSet, ImportStep, NameAt, Renaming};
+use std::alloc::Global;
 
 /// What an import spec imports, and where its set stands.
 #[derive(Drop)]

@@ -8,11 +8,11 @@ ghost use Rattle.load_import.specs.Shared.{IsOwn, places_of, among, names_at};
 
 use crate::names::Names;
 use crate::set::NameAt;
-use std::alloc::Global;
 use base_data::items::Items;
 use base_data::memory::Memory;
 use base_data::name::Label;
 use base_data::symbol::Symbol;
+use std::alloc::Global;
 
 // An element more, where there is one.
 fn push_some<T: Drop>(items: &mut Items<T>, item: Option<T>) -> Result<(), Memory>

@@ -7,15 +7,15 @@ ghost use Rattle.load_import.specs.Table.{value_of, put_all};
 ghost use Rattle.load_import.specs.Turns.{turns};
 ghost use Rattle.base_data.specs.Same.{same_name};
 
-use crate::set::{ImportSet, NameAt, Renaming, ImportStep};
+use crate::set::{ImportSet, ImportStep, NameAt, Renaming};
 use crate::table::NameTable;
-use std::alloc::Global;
 use base_data::fault::{Fault, FaultKind, Stop};
 use base_data::items::Items;
 use base_data::memory::Memory;
 use base_data::name::Label;
 use base_data::span::Span;
 use base_data::symbol::Symbol;
+use std::alloc::Global;
 
 /// Names, each once, and the labels that they stand for.
 pub type Names = NameTable<Label>;

@@ -15,17 +15,17 @@ use crate::names::{
     Names, join_names, joined, joined_table, kept, left, need_in, prefixed, renamed, rows, sources,
     taken,
 };
-use crate::set::{NameAt, Renaming, ImportStep};
+use crate::set::{ImportStep, NameAt, Renaming};
 use crate::sources::ImportSource;
-use std::alloc::Global;
-use std::marker::Model;
-use std::rc::Rc;
 use base_data::fault::Stop;
 use base_data::items::Items;
 use base_data::memory::Memory;
 use base_data::name::Label;
 use base_data::span::Span;
 use base_data::symbol::Symbol;
+use std::alloc::Global;
+use std::marker::Model;
+use std::rc::Rc;
 
 // Names in order and by name.
 #[derive(Drop)]

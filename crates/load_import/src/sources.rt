@@ -13,7 +13,6 @@ ghost use Rattle.load_import.specs.declared.sources.ImportSource.{ImportSource};
 use crate::names::{Names, rows};
 use crate::set::ImportSet;
 use crate::shared::{Exports, join_set};
-use std::alloc::Global;
 use base_data::fault::Stop;
 use base_data::items::Items;
 use base_data::library::LibName;
@@ -22,6 +21,7 @@ use base_data::memory::Memory;
 use base_data::name::Label;
 use base_data::span::Span;
 use base_data::symbol::Symbol;
+use std::alloc::Global;
 
 /// A library that a form imports from.
 #[derive(Drop)]

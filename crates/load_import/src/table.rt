@@ -6,12 +6,12 @@ ghost use Rattle.std.specs.Prelude.{◌≡◌, ◌≤◌, ℕ, List, [], ◌∷�
 ghost use Rattle.load_import.specs.Table.{value_of, put_first, pair_now};
 ghost use Rattle.load_import.specs.Shared.{place_of, IsOwn};
 
-use indexmap::map::IntoValues;
-use std::alloc::Global;
-use std::marker::Model;
 use base_data::map::{NameMap, new_map};
 use base_data::memory::Memory;
 use base_data::symbol::Symbol;
+use indexmap::map::IntoValues;
+use std::alloc::Global;
+use std::marker::Model;
 
 /// Values by name, seen as a list of pairs in order.
 #[derive(Drop)]

@@ -4,9 +4,9 @@ ghost use Rattle.std.specs.Prelude.{◌≡◌, ◌++◌, OnOk};
 ghost use Rattle.std.specs.String.{string_bytes};
 ghost use Rattle.load_report.specs.Name.{name_text, parts_text, further_parts};
 
-use std::alloc::AllocError;
 use base_data::library::LibName;
 use base_data::symbol::Symbol;
+use std::alloc::AllocError;
 
 /// Adds the name of a library, as `(util stack)`: its parts as they are, with one space between them. A
 /// library that no file gives has no parts.

@@ -5,9 +5,9 @@ ghost use Rattle.std.specs.String.{string_bytes};
 ghost use Rattle.load_report.specs.Report.{fate_text, line, report_text};
 
 use crate::name::put_library_name;
-use std::alloc::{AllocError, Global};
 use base_data::library::LibName;
 use base_data::memory::Memory;
+use std::alloc::{AllocError, Global};
 
 /// How the record of a library was come by.
 #[derive(Clone, Copy, PartialEq, Eq)]

@@ -8,7 +8,6 @@ ghost use Rattle.read_lexer.specs.Characters.{named, hex_character, long_charact
 use crate::faults::refuse;
 use crate::text::TokenText;
 use crate::token::{Lexeme, Token};
-use std::alloc::Global;
 use base_data::atom::Atom;
 use base_data::fault::{FaultKind, Stop};
 use base_data::symbol::Symbol;
@@ -16,6 +15,7 @@ use read_spelling::escapes::scalar_of;
 use read_spelling::numbers::is_digits;
 use read_spelling::source::{SourcePiece, behind, byte_at, front};
 use read_spelling::whitespace::{is_delimited, run_end};
+use std::alloc::Global;
 
 /// The character whose `#\` is the first of the bytes.
 pub(crate) fn character_at(

@@ -4,11 +4,11 @@ ghost use Rattle.std.specs.Prelude.{◌≡◌};
 ghost use Rattle.base_data.specs.Gives.{Gives};
 ghost use Rattle.read_lexer.specs.Faults.{refused};
 
-use std::alloc::Global;
 use base_data::fault::{Fault, FaultKind, Stop};
 use base_data::items::Items;
 use base_data::span::Span;
 use base_data::symbol::Symbol;
+use std::alloc::Global;
 
 /// Refuses the bytes from `from` up to `to`.
 pub(crate) fn refuse<T>(

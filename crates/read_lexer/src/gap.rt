@@ -6,11 +6,11 @@ ghost use Rattle.read_lexer.specs.Gap.{gap_end, atmosphere_end, rest_of_line, en
 ghost use Rattle.read_spelling.specs.Source.{characters};
 
 use crate::faults::refuse;
-use std::alloc::Global;
 use base_data::fault::{FaultKind, Stop};
 use base_data::symbol::Symbol;
 use read_spelling::source::{byte_at, front};
 use read_spelling::whitespace::{ends_line, is_delimited, whitespace_end};
+use std::alloc::Global;
 
 /// What a line goes up to.
 #[derive(Clone, Copy)]

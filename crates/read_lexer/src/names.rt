@@ -5,13 +5,13 @@ ghost use Rattle.std.specs.Prelude.{◌≡◌, IfOk, bytes_eq};
 ghost use Rattle.std.proofs.Common.{ap};
 ghost use Rattle.base_data.specs.Head.{symbol_fed};
 
+use base_data::head::head_of;
+use base_data::memory::Memory;
+use base_data::symbol::Symbol;
 use indexmap::{Equivalent, IndexSet};
 use std::alloc::Global;
 use std::hash::{Hash, Hasher};
 use std::marker::Model;
-use base_data::head::head_of;
-use base_data::memory::Memory;
-use base_data::symbol::Symbol;
 
 /// The symbols that a source has had so far. A symbol that comes again is another owner of the first one's text, so a
 /// source holds each of its names once. What is read doesn't depend on them, and contracts see nothing of them.

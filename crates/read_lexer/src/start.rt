@@ -5,9 +5,9 @@ ghost use Rattle.base_data.specs.Gives.{Gives};
 ghost use Rattle.read_lexer.specs.Start.{start_of, mark_end, is_run_line};
 
 use crate::gap::{Until, rest_of_line};
-use std::alloc::Global;
 use base_data::fault::Stop;
 use base_data::symbol::Symbol;
+use std::alloc::Global;
 
 /// How many bytes the start takes that is skipped: a byte order mark, and then a first line that
 /// begins with `#!/` or `#! `, up to its line end.

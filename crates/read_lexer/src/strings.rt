@@ -11,7 +11,6 @@ ghost use Rattle.read_lexer.specs.Strings.{char_here, simple_escape, hex_part, l
 
 use crate::faults::refuse;
 use crate::token::{Lexeme, Token};
-use std::alloc::{AllocError, Global};
 use base_data::atom::Atom;
 use base_data::fault::{FaultKind, Stop};
 use base_data::place::line_end;
@@ -20,6 +19,7 @@ use read_spelling::escapes::escape;
 use read_spelling::numbers::digits_size;
 use read_spelling::source::{SourcePiece, behind, byte_at, front};
 use read_spelling::whitespace::blanks_end;
+use std::alloc::{AllocError, Global};
 
 /// The string that is read: the file that spans and faults name, and the offset of the opening quote.
 #[derive(Drop)]

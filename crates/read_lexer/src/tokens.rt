@@ -13,7 +13,6 @@ use crate::names::SymbolTable;
 use crate::strings::string_at;
 use crate::text::TokenText;
 use crate::token::{Abbreviation, Bracket, Lexeme, Token};
-use std::alloc::Global;
 use base_data::atom::Atom;
 use base_data::fault::{FaultKind, Stop};
 use base_data::memory::Memory;
@@ -23,6 +22,7 @@ use read_spelling::identifiers::{identifier_of, plain_identifier};
 use read_spelling::numbers::{integer_of, is_integer, spelt};
 use read_spelling::source::{behind, byte_at, front};
 use read_spelling::whitespace::{is_delimited, run_end, runs_on};
+use std::alloc::Global;
 
 /// The lexeme behind the gap at `at`, or none where the source ends there.
 pub fn next_lexeme(
@@ -46,7 +46,12 @@ pub fn next_lexeme(
     Ok(Some(lexeme))
 }
 
-fn lexeme_at(names: &mut SymbolTable, file: &Symbol, bytes: &[u8], from: u32) -> Result<Lexeme, Stop>
+fn lexeme_at(
+    names: &mut SymbolTable,
+    file: &Symbol,
+    bytes: &[u8],
+    from: u32,
+) -> Result<Lexeme, Stop>
     requires some { 0 < length bytes.now }
     requires fits { from + length bytes.now < 2 ^ 32 }
     ensures gives { Gives (λ x. x) result (lexeme_at file.now bytes.now from) }

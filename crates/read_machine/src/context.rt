@@ -1,8 +1,8 @@
 //! What is known of a source whose data are read.
 
 use crate::keywords::Keywords;
-use std::alloc::Global;
 use base_data::symbol::Symbol;
+use std::alloc::Global;
 
 /// What the tokens of a source become data with.
 #[derive(Drop)]

@@ -3,12 +3,12 @@
 ghost use Rattle.std.specs.Prelude.{◌≡◌, IfOk};
 ghost use Rattle.read_machine.specs.Extent.{span_at, fault_at};
 
-use std::alloc::Global;
 use base_data::fault::{Fault, FaultKind};
 use base_data::items::Items;
 use base_data::memory::Memory;
 use base_data::span::Span;
 use base_data::symbol::Symbol;
+use std::alloc::Global;
 
 /// The bytes of a source from `from` up to `to`.
 #[derive(Clone, Copy)]

@@ -8,7 +8,6 @@ ghost use Rattle.read_machine.specs.Form.{joined, abbreviated, keyword_of, byte_
 
 use crate::context::SourceContext;
 use crate::extent::{Extent, span_at};
-use std::alloc::Global;
 use base_data::atom::Atom;
 use base_data::bytes::Bytes;
 use base_data::datum::{Datum, Node};
@@ -17,6 +16,7 @@ use base_data::memory::Memory;
 use base_data::span::Span;
 use base_data::symbol::Symbol;
 use read_lexer::token::Abbreviation;
+use std::alloc::Global;
 
 /// The empty list that ends a list.
 pub fn nil() -> Datum

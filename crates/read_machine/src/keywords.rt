@@ -3,11 +3,11 @@
 ghost use Rattle.std.specs.Prelude.{◌≡◌, IfOk};
 ghost use Rattle.read_machine.specs.Form.{keyword_of};
 
-use std::alloc::Global;
-use std::marker::Model;
 use base_data::memory::Memory;
 use base_data::symbol::Symbol;
 use read_lexer::token::Abbreviation;
+use std::alloc::Global;
+use std::marker::Model;
 
 /// The symbols that abbreviations stand for (R6RS 4.3.5), so that all data of a source share each.
 #[derive(Drop)]

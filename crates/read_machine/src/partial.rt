@@ -4,13 +4,13 @@ ghost use Rattle.std.specs.Prelude.{◌≡◌, [], ◌∷◌, List, OnOk, MatchO
 ghost use Rattle.read_machine.specs.Partial.{misplaced_in};
 
 use crate::extent::{Extent, Misplaced};
-use std::alloc::Global;
-use std::marker::Model;
 use base_data::datum::Datum;
 use base_data::fault::FaultKind;
 use base_data::items::Items;
 use base_data::memory::Memory;
 use read_lexer::token::{Abbreviation, Bracket};
+use std::alloc::Global;
+use std::marker::Model;
 
 /// What stands behind the elements of an open list: nothing, a dot, or a dot and the tail.
 #[derive(Drop)]

@@ -9,7 +9,7 @@ ghost use Rattle.read_machine.specs.Step.{list_with, bytes_with, deliver, tail_o
 use crate::context::SourceContext;
 use crate::extent::{Extent, fault_at, span_at};
 use crate::form::{abbreviated, byte_of, bytevector, constant, exact, joined, named, nil, vector};
-use crate::partial::{Partial, OpenParts, ReaderState, OpenTail};
+use crate::partial::{OpenParts, OpenTail, Partial, ReaderState};
 use base_data::datum::Datum;
 use base_data::fault::{FaultKind, Stop};
 use base_data::items::Items;
@@ -18,7 +18,11 @@ use read_lexer::token::{Bracket, Lexeme, Token};
 
 /// The state after one more token. A fault is at the token, but
 /// where a dot isn't before the last datum of its list it is at that dot.
-pub fn step(context: &SourceContext, mut state: ReaderState, lexeme: Lexeme) -> Result<ReaderState, Stop>
+pub fn step(
+    context: &SourceContext,
+    mut state: ReaderState,
+    lexeme: Lexeme,
+) -> Result<ReaderState, Stop>
     ensures { Gives (λ s. s) result (step context.now.file.now context.now.nesting state lexeme) }
 {
     match stepped(context, &mut state, lexeme) {
@@ -69,7 +73,12 @@ pub fn finish(context: &SourceContext, mut state: ReaderState) -> Result<Vec<Dat
 }
 
 /// A form other than a comment is opened that counts.
-fn opened(context: &SourceContext, state: &mut ReaderState, parts: OpenParts, at: Extent) -> Result<(), Stop>
+fn opened(
+    context: &SourceContext,
+    state: &mut ReaderState,
+    parts: OpenParts,
+    at: Extent,
+) -> Result<(), Stop>
     ensures { Gives (λ _. state.new) result (opened context.now.file.now context.now.nesting state.old parts at) }
 {
     if let Some(wrong) = state.stack.misplaced(at) {
@@ -79,7 +88,12 @@ fn opened(context: &SourceContext, state: &mut ReaderState, parts: OpenParts, at
 }
 
 /// A form is opened that counts one of nesting.
-fn nested(context: &SourceContext, state: &mut ReaderState, parts: OpenParts, at: Extent) -> Result<(), Stop>
+fn nested(
+    context: &SourceContext,
+    state: &mut ReaderState,
+    parts: OpenParts,
+    at: Extent,
+) -> Result<(), Stop>
     ensures { Gives (λ _. state.new) result (nested context.now.file.now context.now.nesting state.old parts at) }
 {
     let room = state.stack.room(context.nesting);

@@ -4,8 +4,8 @@ ghost use Rattle.std.specs.Prelude.{◌≡◌, ◌++◌, OnOk};
 ghost use Rattle.std.specs.String.{string_bytes};
 ghost use Rattle.read_printer.specs.Characters.{character_text, character_name, unnamed};
 
-use std::alloc::AllocError;
 use base_data::hex::put_hex;
+use std::alloc::AllocError;
 
 /// Adds a character: `#\` and itself where it is printable ASCII, else its name, else `#\xHEX`.
 pub(crate) fn put_character(out: &mut String, c: char) -> Result<(), AllocError>

@@ -7,11 +7,11 @@ ghost use Rattle.read_printer.specs.DatumText.{datum_text, atom_text, bytes_text
 use crate::characters::put_character;
 use crate::strings::put_string;
 use crate::symbols::put_symbol;
-use itoa::Buffer;
-use std::alloc::{AllocError, Global};
 use base_data::atom::Atom;
 use base_data::datum::{Datum, Node};
 use base_data::memory::Memory;
+use itoa::Buffer;
+use std::alloc::{AllocError, Global};
 
 /// The text of a datum. It recurses as deep as the datum is nested.
 pub fn datum_text(alloc: Global, datum: &Datum) -> Result<String, Memory>

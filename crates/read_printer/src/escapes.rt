@@ -4,8 +4,8 @@ ghost use Rattle.std.specs.Prelude.{◌≡◌, ◌++◌, OnOk};
 ghost use Rattle.std.specs.String.{string_bytes};
 ghost use Rattle.read_printer.specs.Escapes.{escape_text};
 
-use std::alloc::AllocError;
 use base_data::hex::put_hex;
+use std::alloc::AllocError;
 
 /// Adds `\xHEX;`, which stands for a character in strings and symbols.
 pub(crate) fn put_escape(out: &mut String, c: char) -> Result<(), AllocError>

@@ -8,7 +8,6 @@ ghost use Rattle.read_reader.specs.FirstFault.{OnFault, IsFaultOf};
 ghost use Rattle.read_reader.specs.Read.{data_of, file_nesting, most_nesting};
 ghost use Rattle.read_reader.specs.Spells.{Spells};
 
-use std::alloc::Global;
 use base_data::datum::Datum;
 use base_data::fault::Stop;
 use base_data::symbol::Symbol;
@@ -19,6 +18,7 @@ use read_machine::context::SourceContext;
 use read_machine::keywords::Keywords;
 use read_machine::partial::ReaderState;
 use read_machine::step::{finish, step};
+use std::alloc::Global;
 
 /// How many forms may be nested in a program or library.
 pub const NESTING: u32 = 500;

@@ -6,9 +6,9 @@ ghost use Rattle.read_spelling.specs.Identifiers.{is_ascii_letter, is_special_in
 
 use crate::escapes::{Letter, escape};
 use crate::source::{behind, byte_at, front};
-use std::alloc::Global;
 use base_data::memory::Memory;
 use base_data::symbol::Symbol;
+use std::alloc::Global;
 use unicode::properties::GeneralCategory;
 
 /// What stands at the begin of an identifier, or behind it.

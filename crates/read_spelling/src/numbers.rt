@@ -5,9 +5,9 @@ ghost use Rattle.std.specs.List.{list_all};
 ghost use Rattle.read_spelling.specs.Numbers.{digit_value, is_digit, is_digits, digits_size, value_from, unsigned, is_integer, integer, signed, is_spelt, spelt, is_ascii, is_part, is_positive, is_ratio_of, is_ratio, is_exponent_mark, is_exponent, is_fraction, is_decimal_of, is_decimal};
 
 use crate::source::{behind, byte_at};
-use std::alloc::Global;
 use base_data::memory::Memory;
 use base_data::symbol::Symbol;
+use std::alloc::Global;
 
 fn digit_value(b: u8) -> u8
     ensures gives { result ≡ digit_value b }

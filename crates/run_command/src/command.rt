@@ -5,9 +5,9 @@ ghost use Rattle.clap.specs.Words.{app_of, rows_of, found_of, first_of, rule_of,
 ghost use Rattle.run_command.specs.Command as spec;
 ghost use Rattle.run_command.specs.Given.{given_of, is_on, seen};
 
+use base_data::memory::Memory;
 use clap::{Arg, ArgAction, ArgMatches, Command};
 use std::alloc::Global;
-use base_data::memory::Memory;
 
 /// The values that the words give.
 #[derive(Drop)]

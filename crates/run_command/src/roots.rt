@@ -4,10 +4,10 @@ ghost use Rattle.std.specs.Prelude.{◌≡◌, IfOk, map, length, ◌==◌};
 ghost use Rattle.std.specs.List.{list_any};
 ghost use Rattle.run_command.specs.Roots.{directories, are_refused, roots_of};
 
-use std::alloc::Global;
 use base_data::items::Items;
 use base_data::memory::Memory;
 use base_data::symbol::Symbol;
+use std::alloc::Global;
 
 /// The directories that the word of `--root` joins by `:`, where it is one of one to sixteen, none of
 /// them empty.

@@ -9,11 +9,11 @@ use crate::command::{Given, command, values_given};
 use crate::job::{Job, Kind};
 use crate::number::number_of;
 use crate::roots::roots_of;
-use clap::error::ErrorKind;
-use std::alloc::Global;
 use base_data::items::Items;
 use base_data::memory::Memory;
 use base_data::symbol::Symbol;
+use clap::error::ErrorKind;
+use std::alloc::Global;
 
 /// The line that is written where the words are refused.
 pub const USAGE: &[u8] =

@@ -14,8 +14,6 @@ ghost use Rattle.run_derived.specs.Derived.{tree_at, trees, forms_of, record_of,
 
 use crate::implementation::Implementation;
 use crate::names::{exports, names, path, start};
-use std::alloc::Global;
-use std::sync::ledger::Ledger;
 use base_data::datum::Datum;
 use base_data::fault::{Bare, BareStop, Fault, Stop};
 use base_data::items::Items;
@@ -24,16 +22,18 @@ use base_data::memory::Memory;
 use base_data::name::Label;
 use base_data::span::Span;
 use base_data::symbol::Symbol;
-use load_builtin::derived::derived_source;
 use core_language::record::CompiledLibrary;
+use eval_prims::table::PrimTable;
+use eval_stage::earlier::Earlier;
 use expand_forms::expander::{Expander, LibraryBody};
 use expand_forms::tally::Tally;
-use eval_prims::table::PrimTable;
-use read_reader::read::read_all;
-use eval_stage::earlier::Earlier;
 use expand_standing::means::Means;
 use expand_standing::ready::ReadyRecords;
 use expand_standing::start::{Environment, Supplies};
+use load_builtin::derived::derived_source;
+use read_reader::read::read_all;
+use std::alloc::Global;
+use std::sync::ledger::Ledger;
 use stx_object::syn::Syn;
 
 fn tree_at(alloc: Global, place: &Span, datum: &Datum) -> Result<Syn, Stop>

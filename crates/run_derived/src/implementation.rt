@@ -1,7 +1,7 @@
 //! What the implementation gives to each expansion of a run.
 
-use run_prelude::prelude::Prelude;
 use eval_prims::table::PrimTable;
+use run_prelude::prelude::Prelude;
 
 /// The procedures of the implementation: those that are texts, by their codes, and the primitives, which are computed.
 #[derive(Drop)]

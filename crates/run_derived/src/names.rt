@@ -6,8 +6,6 @@ ghost use Rattle.base_data.specs.declared.library.LibName.TheVariants as library
 ghost use Rattle.load_builtin.specs.Exports.{derived};
 ghost use Rattle.run_derived.specs.Names.{path, start, is_defined, name_at, names_from, names, export_at, exports_of};
 
-use std::alloc::Global;
-use std::rc::Rc;
 use base_data::items::Items;
 use base_data::library::LibName;
 use base_data::memory::Memory;
@@ -16,6 +14,8 @@ use base_data::op::{NAME_COUNT, Op, op_text};
 use base_data::span::Span;
 use base_data::symbol::Symbol;
 use load_builtin::exports::DERIVED;
+use std::alloc::Global;
+use std::rc::Rc;
 use stx_object::syn::Syn;
 use stx_tree::marks::Marks;
 

@@ -12,7 +12,6 @@ ghost use Rattle.run_library.specs.Records.{needed_records};
 ghost use Rattle.load_files.specs.Load.{fitting, builtin_version};
 
 use crate::records::Needed;
-use std::alloc::Global;
 use base_data::fault::{FaultKind, Stop};
 use base_data::items::Items;
 use base_data::library::LibName;
@@ -21,17 +20,18 @@ use base_data::memory::Memory;
 use base_data::name::Label;
 use base_data::span::Span;
 use base_data::symbol::Symbol;
-use load_builtin::exports::exports;
 use core_language::record::CompiledLibrary;
-use run_derived::derived::relabelled;
+use core_language::share::share_library;
+use load_builtin::exports::exports;
+use load_files::refer::{VERSION, about, check_version, is_builtin};
 use load_forms::set::Import;
 use load_import::names::Names;
 use load_import::set::ImportSet;
 use load_import::shared::Exports;
 use load_import::sources::{Sources, add_source, has_source, join_source};
 use load_import::table::NameTable;
-use load_files::refer::{VERSION, about, check_version, is_builtin};
-use core_language::share::share_library;
+use run_derived::derived::relabelled;
+use std::alloc::Global;
 
 /// The names that the imports of a form give, each once and in order, with their labels. First each library
 /// must be there in a version that fits, and then each name is looked for.
@@ -62,7 +62,11 @@ fn referred(alloc: Global, needed: &Needed, set: &ImportSet) -> Result<(), Stop>
     }
 }
 
-fn record_referred(alloc: Global, set: &ImportSet, one: Option<&CompiledLibrary>) -> Result<(), Stop>
+fn record_referred(
+    alloc: Global,
+    set: &ImportSet,
+    one: Option<&CompiledLibrary>,
+) -> Result<(), Stop>
     ensures { Gives (λ u. u) result (record_referred set.now (option_map (λ r. r.now) one.entry)) }
 {
     match one {
@@ -167,7 +171,10 @@ fn all_relabelled(
     Ok(all)
 }
 
-fn record_exports(alloc: Global, one: Option<&CompiledLibrary>) -> Result<Items<(Symbol, Label)>, Memory>
+fn record_exports(
+    alloc: Global,
+    one: Option<&CompiledLibrary>,
+) -> Result<Items<(Symbol, Label)>, Memory>
     ensures { IfOk result (λ names. names ≡ record_exports (option_map (λ r. r.now) one.entry)) }
 {
     match one {

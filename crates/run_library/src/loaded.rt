@@ -11,9 +11,6 @@ ghost use Rattle.run_library.specs.Loaded.{expand_found, expand_next, all_record
 
 use crate::library::{Unexpanded, body_of, expand_body};
 use crate::records::{Needed, Records};
-use std::alloc::Global;
-use std::mem::forget;
-use std::sync::ledger::Ledger;
 use base_data::fault::{Fault, Stop};
 use base_data::items::Items;
 use base_data::memory::Memory;
@@ -21,14 +18,17 @@ use base_data::symbol::Symbol;
 use core_language::link::Link;
 use core_language::record::CompiledLibrary;
 use core_output::whole::core_text;
-use run_derived::derived::derived_record;
-use run_derived::implementation::Implementation;
+use core_plan::planned::planned;
 use expand_forms::tally::Tally;
 use expand_forms::top::Linked;
+use load_files::found::{Found, Opened};
 use load_forms::form::{LibraryForm, library_body, program_body};
 use load_import::table::NameTable;
-use load_files::found::{Found, Opened};
-use core_plan::planned::planned;
+use run_derived::derived::derived_record;
+use run_derived::implementation::Implementation;
+use std::alloc::Global;
+use std::mem::forget;
+use std::sync::ledger::Ledger;
 
 // The marks of the libraries that are needed, behind that of the derived library, which all need.
 fn with_derived(alloc: Global, needs: &[bool]) -> Result<Items<bool>, Memory>
@@ -194,7 +194,11 @@ fn all_records<N: Ledger, L: Ledger>(
 }
 
 // A program, with the libraries that it needs when it runs before it.
-fn planned_text(alloc: Global, records: &[CompiledLibrary], program: &CompiledLibrary) -> Result<String, Stop>
+fn planned_text(
+    alloc: Global,
+    records: &[CompiledLibrary],
+    program: &CompiledLibrary,
+) -> Result<String, Stop>
     ensures { Gives string_bytes result (planned_text records.now program.now) }
 {
     let plan = planned(alloc, records, program)?;

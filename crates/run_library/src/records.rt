@@ -7,14 +7,14 @@ ghost use Rattle.run_library.specs.Chosen.{named_at};
 ghost use Rattle.run_library.specs.Imports.{named};
 ghost use Rattle.run_library.specs.Records.{first_place, place_in, with_place, needed_records};
 
-use std::alloc::Global;
-use std::marker::Model;
 use base_data::library::LibName;
 use base_data::map::{NameMap, new_map};
 use base_data::memory::Memory;
 use core_language::record::CompiledLibrary;
-use expand_standing::ready::ReadyRecords;
 use core_language::share::share_library;
+use expand_standing::ready::ReadyRecords;
+use std::alloc::Global;
+use std::marker::Model;
 
 /// Records, and for each name the place of its first. So looking for a library costs the same, however many
 /// libraries there are.

@@ -4,9 +4,9 @@ ghost use Rattle.std.specs.Prelude.{◌≡◌, ◌+◌, ◌-◌, ◌++◌, [], �
 ghost use Rattle.std.specs.String.{string_bytes};
 ghost use Rattle.run_make.specs.Made.{filled, each, library_pattern, library_path, library_file, libraries, program_path, program_text, made_files, paths_of, filled_byte};
 
+use base_data::memory::Memory;
 use itoa::Buffer;
 use std::alloc::{AllocError, Global};
-use base_data::memory::Memory;
 
 /// The path of the program.
 pub const PROGRAM: &str = "./made.sps";

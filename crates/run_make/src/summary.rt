@@ -4,9 +4,9 @@ ghost use Rattle.std.specs.Prelude.{◌≡◌, IfOk};
 ghost use Rattle.std.specs.String.{string_bytes};
 ghost use Rattle.run_make.specs.Summary.{lines_in, summary};
 
+use base_data::memory::Memory;
 use itoa::Buffer;
 use std::alloc::Global;
-use base_data::memory::Memory;
 
 fn lines_in(text: &[u8]) -> usize
     ensures { result ≡ lines_in text.now }

@@ -11,9 +11,6 @@ ghost use Rattle.expand_standing.specs.Start.{first_frame};
 ghost use Rattle.run_prelude.specs.Prelude.{is_core, core_names, names, names_of, path_of, text_place, first_tree, tree_in, procedure_of, text_code, prelude_codes, prelude_spent};
 ghost use Rattle.run_prelude.specs.Spent.{UnlessMemory};
 
-use std::alloc::Global;
-use std::rc::Rc;
-use std::sync::ledger::Ledger;
 use base_data::datum::Datum;
 use base_data::fault::{Bare, BareStop, Fault, FaultKind, Stop};
 use base_data::items::Items;
@@ -27,18 +24,21 @@ use base_data::op::names::{
 use base_data::op::{NAME_COUNT, Op, op_text};
 use base_data::span::Span;
 use base_data::symbol::Symbol;
-use load_builtin::exports::exports;
-use load_builtin::prelude::prelude_source;
+use base_fuel::fuel::Unspent;
 use core_language::code::{Code, Core, Lambda};
 use core_language::formals::Formals;
 use expand_forms::at::OuterAt;
 use expand_forms::expander::Expander;
 use expand_forms::tally::Tally;
-use base_fuel::fuel::Unspent;
-use read_reader::read::read_all;
 use expand_standing::means::{Counts, Means};
 use expand_standing::ready::ReadyRecords;
 use expand_standing::start::{Environment, Supplies};
+use load_builtin::exports::exports;
+use load_builtin::prelude::prelude_source;
+use read_reader::read::read_all;
+use std::alloc::Global;
+use std::rc::Rc;
+use std::sync::ledger::Ledger;
 use stx_object::syn::Syn;
 
 // The procedures that have a text, in the order of their codes.

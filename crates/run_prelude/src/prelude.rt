@@ -7,9 +7,6 @@ ghost use Rattle.eval_stage.specs.Libraries.{earlier_in};
 ghost use Rattle.run_prelude.specs.Prelude.{filled, kept, prelude_table, prelude_spent};
 
 use crate::codes::prelude_codes;
-use std::alloc::Global;
-use std::rc::Rc;
-use std::sync::ledger::Ledger;
 use base_data::fault::{Fault, Stop};
 use base_data::items::Items;
 use base_data::map::{NameMap, new_map};
@@ -19,6 +16,9 @@ use core_language::code::Code;
 use eval_code::codes::add_procedure;
 use expand_forms::tally::Tally;
 use expand_standing::means::Means;
+use std::alloc::Global;
+use std::rc::Rc;
+use std::sync::ledger::Ledger;
 
 /// The codes of the texts, or the first fault in one. No text has a fault.
 #[derive(Drop)]

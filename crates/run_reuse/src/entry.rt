@@ -7,8 +7,6 @@ ghost use Rattle.run_reuse.specs.Entries.{bytes_of, entry_in, held_or_none, if_f
 ghost use Rattle.run_reuse.specs.Groups.{chosen, picked};
 
 use crate::groups::{Group, chosen, picked, share_all};
-use std::alloc::Global;
-use std::marker::Model;
 use base_data::items::Items;
 use base_data::memory::Memory;
 use base_data::symbol::Symbol;
@@ -18,6 +16,8 @@ use core_cache::place::place;
 use core_cache::seal::seal;
 use core_language::record::CompiledLibrary;
 use load_files::found::{Found, Source};
+use std::alloc::Global;
+use std::marker::Model;
 
 /// The most bytes of an entry.
 pub const ENTRY_LIMIT: usize = 8_388_608;

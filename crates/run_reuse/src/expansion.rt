@@ -8,8 +8,6 @@ ghost use Rattle.run_library.specs.Loaded.{expand_found, link_found, planned_tex
 ghost use Rattle.run_prelude.specs.Prelude.{kept};
 ghost use Rattle.run_reuse.specs.Expansion.{body_in, text_after};
 
-use std::alloc::Global;
-use std::sync::ledger::Ledger;
 use base_data::datum::Datum;
 use base_data::fault::Stop;
 use base_data::items::Items;
@@ -17,15 +15,17 @@ use base_data::memory::Memory;
 use base_data::symbol::Symbol;
 use core_language::record::CompiledLibrary;
 use core_output::whole::core_text;
-use run_derived::implementation::Implementation;
-use expand_forms::tally::Tally;
-use expand_forms::top::Linked;
-use load_forms::form::{LibraryForm, library_body, program_body};
-use run_library::library::{Unexpanded, body_of, expand_body};
-use run_library::records::{Needed, Records};
-use load_files::found::{Found, Opened};
 use core_pattern_bytes::held::HeldReading;
 use core_plan::planned::planned;
+use expand_forms::tally::Tally;
+use expand_forms::top::Linked;
+use load_files::found::{Found, Opened};
+use load_forms::form::{LibraryForm, library_body, program_body};
+use run_derived::implementation::Implementation;
+use run_library::library::{Unexpanded, body_of, expand_body};
+use run_library::records::{Needed, Records};
+use std::alloc::Global;
+use std::sync::ledger::Ledger;
 
 /// What a file holds.
 #[derive(Clone, Copy)]
@@ -125,7 +125,11 @@ pub(crate) fn record_of<N: Ledger, L: Ledger>(
 }
 
 // A program, with the libraries that it needs when it runs before it.
-fn planned_text(alloc: Global, records: &[CompiledLibrary], program: &CompiledLibrary) -> Result<String, Stop>
+fn planned_text(
+    alloc: Global,
+    records: &[CompiledLibrary],
+    program: &CompiledLibrary,
+) -> Result<String, Stop>
     ensures { Gives string_bytes result (planned_text records.now program.now) }
 {
     let plan = planned(alloc, records, program)?;

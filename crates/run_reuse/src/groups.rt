@@ -5,12 +5,12 @@ ghost use Rattle.std.specs.List.{flat_map};
 ghost use Rattle.load_files.specs.Found.{places_from};
 ghost use Rattle.run_reuse.specs.Groups.{AreGroups, chosen, group_behind, group_of, groups_from, or_skip, picked, places, places_if, places_on};
 
-use std::alloc::Global;
 use base_data::items::Items;
 use base_data::memory::Memory;
 use base_data::symbol::Symbol;
-use load_import::table::NameTable;
 use load_files::found::{Found, Source};
+use load_import::table::NameTable;
+use std::alloc::Global;
 
 /// Where the sources of a file stand: the paths under earlier roots, at which nothing stood, and its own path last.
 #[derive(Clone, Copy)]

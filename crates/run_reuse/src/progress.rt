@@ -4,14 +4,14 @@ ghost use Rattle.std.specs.Prelude.{◌≡◌, [], ◌∷◌, ◌++◌, Bool, If
 ghost use Rattle.run_reuse.specs.Progress.{begun, with_record};
 ghost use Rattle.run_library.specs.Records.{needed_records};
 
-use std::alloc::Global;
-use std::marker::Model;
 use base_data::items::Items;
 use base_data::memory::Memory;
 use core_language::record::CompiledLibrary;
+use core_pattern_bytes::held::HeldReading;
 use expand_follows::earlier::{NeededEarlier, Places};
 use run_library::records::Records;
-use core_pattern_bytes::held::HeldReading;
+use std::alloc::Global;
+use std::marker::Model;
 
 /// The records so far, that of the derived library first, what they bind and define, and which of the others were reused.
 #[derive(Drop)]

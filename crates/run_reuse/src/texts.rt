@@ -11,13 +11,13 @@ ghost use Rattle.run_reuse.specs.declared.texts.Came.TheVariants as came;
 use crate::expansion::text_after;
 use crate::progress::Turned;
 use crate::turns::{Turning, take_turns};
-use std::sync::ledger::Ledger;
 use base_data::fault::{Fault, Stop};
 use base_data::items::Items;
-use expand_forms::tally::Tally;
-use load_import::table::NameTable;
-use load_files::found::Found;
 use base_outside::Store;
+use expand_forms::tally::Tally;
+use load_files::found::Found;
+use load_import::table::NameTable;
+use std::sync::ledger::Ledger;
 
 /// What loading came to: a program, or the fault that ended it.
 #[derive(Drop)]

@@ -17,20 +17,20 @@ ghost use Rattle.run_reuse.specs.Turns.{Asked, Keeps, PutsEntry, Records, TakesT
 use crate::entry::{Cache, Due, ENTRY_LIMIT, spelled};
 use crate::expansion::{ExpansionInputs, File, record_of, with_derived};
 use crate::progress::Turned;
-use std::alloc::Global;
-use std::sync::ledger::Ledger;
 use base_data::fault::Stop;
 use base_data::memory::Memory;
+use base_outside::{OutsideError, Store, StoreAnswer};
 use core_cache::entry::Entry;
 use core_language::record::CompiledLibrary;
+use core_pattern_bytes::held::HeldReading;
+use expand_follows::follows::follows;
+use expand_forms::tally::Tally;
+use load_files::found::Found;
+use load_import::table::NameTable;
 use run_derived::derived::derived_record;
 use run_derived::implementation::Implementation;
-use expand_forms::tally::Tally;
-use expand_follows::follows::follows;
-use load_import::table::NameTable;
-use load_files::found::Found;
-use base_outside::{OutsideError, Store, StoreAnswer};
-use core_pattern_bytes::held::HeldReading;
+use std::alloc::Global;
+use std::sync::ledger::Ledger;
 
 /// What each turn of a run is given.
 #[derive(Drop)]
@@ -59,7 +59,12 @@ fn of_expansion(entry: Entry) -> Recorded
 }
 
 // Whether a record can stand for that of a library.
-fn suits(alloc: Global, turned: &Turned, found: &Found, one: &CompiledLibrary) -> Result<bool, Memory>
+fn suits(
+    alloc: Global,
+    turned: &Turned,
+    found: &Found,
+    one: &CompiledLibrary,
+) -> Result<bool, Memory>
     ensures { IfOk result (λ b. b ≡ suits turned.now.records found.now one.now) }
 {
     let form = &found.opened.form;

@@ -10,26 +10,26 @@ ghost use Rattle.run_top.specs.Fuel.{ComesSpending, SpendsCached, SpendsFrom};
 
 use crate::inputs::Inputs;
 use crate::prepare::{Prepared, Unfinished, libraries, line_of, prelude};
-use std::alloc::Global;
-use std::sync::ledger::Ledger;
 use base_data::fault::Stop;
 use base_data::items::Items;
 use base_data::memory::Memory;
 use base_data::symbol::Symbol;
-use run_derived::implementation::Implementation;
+use base_outside::{Files, Store};
+use core_language::share::share_library;
+use eval_prims::table::PrimTable;
 use expand_forms::tally::Tally;
 use load_files::found::{Loading, Source};
 use load_files::halt::LoadHalt;
 use load_files::load::load;
-use base_outside::{Files, Store};
-use eval_prims::table::PrimTable;
 use load_report::report::{Fate, Told, report_text};
+use run_command::job::Job;
+use run_derived::implementation::Implementation;
 use run_reuse::entry::Cache;
 use run_reuse::groups::groups_of;
 use run_reuse::texts::{Came, LoadedLibraries, WrittenProgram, write_program};
 use run_reuse::turns::Turning;
-use core_language::share::share_library;
-use run_command::job::Job;
+use std::alloc::Global;
+use std::sync::ledger::Ledger;
 
 /// A job whose libraries are kept in a directory.
 #[derive(Drop)]

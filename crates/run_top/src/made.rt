@@ -11,18 +11,18 @@ ghost use Rattle.run_top.specs.Whole.{made_job, of_job, of_made};
 ghost use Rattle.run_top.specs.declared.prepare.Unfinished.TheVariants as unfinished;
 
 use crate::prepare::{Prepared, Unfinished, prepare};
-use std::alloc::Global;
-use std::marker::Model;
-use std::sync::ledger::Ledger;
 use base_data::items::Items;
 use base_data::memory::Memory;
 use base_data::symbol::Symbol;
-use expand_forms::tally::Tally;
-use run_make::made::{PROGRAM, made_files};
-use run_make::summary::summary;
 use base_outside::{FileAnswer, Files, MemFiles, OutsideError};
 use eval_prims::table::PrimTable;
+use expand_forms::tally::Tally;
 use run_command::job::{Job, Kind};
+use run_make::made::{PROGRAM, made_files};
+use run_make::summary::summary;
+use std::alloc::Global;
+use std::marker::Model;
+use std::sync::ledger::Ledger;
 
 // Files in memory, of which no read fails.
 #[derive(Drop)]

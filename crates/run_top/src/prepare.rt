@@ -15,30 +15,30 @@ ghost use Rattle.run_top.specs.Whole.{libraries, report_if, held_at, source_of, 
 ghost use Rattle.run_top.specs.Prepared.{Prepares};
 ghost use Rattle.run_top.specs.declared.prepare.Unfinished.TheVariants as unfinished;
 
-use std::alloc::Global;
-use std::sync::ledger::Ledger;
 use base_data::fault::{Fault, Stop};
 use base_data::fault_line::fault_line;
 use base_data::items::Items;
 use base_data::memory::Memory;
 use base_data::symbol::Symbol;
-use run_derived::implementation::Implementation;
+use base_outside::Files;
+use core_language::share::share_library;
+use eval_prims::table::PrimTable;
+use eval_stage::earlier::Earlier;
 use expand_forms::tally::Tally;
-use load_import::table::NameTable;
-use run_library::loaded::{first_fault, program_links, program_text};
+use expand_standing::means::Means;
 use load_files::found::{Found, Loading, Source};
 use load_files::halt::LoadHalt;
 use load_files::load::load;
-use base_outside::Files;
-use run_prelude::prelude::Prelude;
-use eval_prims::table::PrimTable;
+use load_import::table::NameTable;
 use load_report::report::{Fate, Told, report_text};
-use eval_stage::earlier::Earlier;
-use expand_standing::means::Means;
-use core_language::share::share_library;
 use run_command::job::{Job, Kind};
+use run_derived::implementation::Implementation;
+use run_library::loaded::{first_fault, program_links, program_text};
+use run_prelude::prelude::Prelude;
 use run_xref::map::binding_map;
 use run_xref::text::xref_text;
+use std::alloc::Global;
+use std::sync::ledger::Ledger;
 
 /// What is to be written of a program without fault.
 #[derive(Drop)]

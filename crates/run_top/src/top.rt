@@ -14,13 +14,13 @@ use crate::made::prepare_made;
 use crate::prepare::{Prepared, Unfinished, prepare};
 use crate::status::Status;
 use crate::words::words_asked;
-use std::alloc::Global;
-use std::sync::ledger::Ledger;
-use expand_forms::tally::Tally;
 use base_outside::{Files, Sink, Store};
 use eval_prims::table::PrimTable;
+use expand_forms::tally::Tally;
 use run_command::job::Job;
 use run_command::words::Words;
+use std::alloc::Global;
+use std::sync::ledger::Ledger;
 
 /// The line that is written where the words are refused.
 pub const USAGE: &[u8] =

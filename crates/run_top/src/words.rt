@@ -3,9 +3,9 @@
 ghost use Rattle.std.specs.Prelude.{◌≡◌, IfOk};
 ghost use Rattle.run_top.specs.Words.{texts, words_asked};
 
-use std::alloc::Global;
 use base_data::memory::Memory;
 use run_command::words::{Words, read_words};
+use std::alloc::Global;
 
 /// What the words ask for.
 pub(crate) fn words_asked(alloc: Global, words: &[String]) -> Result<Words, Memory>

@@ -6,12 +6,12 @@ ghost use Rattle.run_xref.specs.Links.{is_binder};
 
 use crate::files::at_of;
 use crate::rows::{Aim, At};
-use indexmap::IndexMap;
-use std::alloc::Global;
 use base_data::memory::Memory;
 use base_data::name::Label;
 use core_language::link::{Link, LinkKind};
+use indexmap::IndexMap;
 use load_import::table::NameTable;
+use std::alloc::Global;
 
 fn is_binder(kind: &LinkKind) -> bool
     ensures { result ≡ is_binder kind.now }

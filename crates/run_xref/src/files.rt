@@ -4,12 +4,12 @@ ghost use Rattle.std.specs.Prelude.{◌≡◌, IfOk};
 ghost use Rattle.run_xref.specs.Rows.{files_of, number_of, file_at, at_of, span_at};
 
 use crate::rows::At;
-use std::alloc::Global;
 use base_data::memory::Memory;
 use base_data::span::Span;
 use base_data::symbol::Symbol;
 use core_language::link::Link;
 use load_import::table::NameTable;
+use std::alloc::Global;
 
 /// The files of links, each once in the order of first links.
 pub(crate) fn files_of(alloc: Global, links: &[Link]) -> Result<NameTable<()>, Memory>

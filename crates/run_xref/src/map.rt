@@ -10,13 +10,13 @@ use crate::files::{at_of, files_of, span_at};
 use crate::pair::Pair;
 use crate::ranked::ranked;
 use crate::rows::{Aim, At, LinkRow};
-use indexmap::IndexMap;
-use std::alloc::Global;
 use base_data::items::Items;
 use base_data::memory::Memory;
 use base_data::name::Label;
 use core_language::link::{Link, Target};
+use indexmap::IndexMap;
 use load_import::table::NameTable;
+use std::alloc::Global;
 
 fn row_of(files: &NameTable<()>, binders: &IndexMap<Label, At>, link: &Link) -> LinkRow
     ensures { result ≡ row_by files.now binders.now.entries link.now }

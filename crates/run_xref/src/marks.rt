@@ -4,10 +4,10 @@ ghost use Rattle.std.specs.Prelude.{◌≡◌, ◌<◌, ◌≤◌, length, min, 
 ghost use Rattle.base_data.specs.Place.{place, piece, char_size};
 ghost use Rattle.run_xref.specs.Marks.{ArePlaced, IsPlaced, Leads, first_mark, next_mark, kept, mark_before};
 
-use std::alloc::Global;
 use base_data::items::Items;
 use base_data::memory::Memory;
 use base_data::place::line_end;
+use std::alloc::Global;
 
 /// At most so many bytes and a piece lie between two marks.
 const STRIDE: usize = 64;

@@ -6,16 +6,16 @@ ghost use Rattle.run_xref.specs.Text.{AreLines, held_at, lines_at, or_held, name
 
 use crate::marks::MarkedSource;
 use crate::pair::Pair;
-use std::alloc::{AllocError, Global};
-use std::fmt::Write;
 use base_data::fault_line::put_text;
 use base_data::memory::Memory;
 use base_data::op::{NAME_COUNT, Op, op_text};
 use base_data::span::Span;
 use base_data::symbol::Symbol;
 use core_language::link::Target;
-use load_import::table::NameTable;
 use load_files::found::Source;
+use load_import::table::NameTable;
+use std::alloc::{AllocError, Global};
+use std::fmt::Write;
 
 /// A file with marks along it, if it was there; the first with its path stays.
 fn put_file<'a>(
@@ -69,7 +69,11 @@ fn name_of(op: Op) -> &'static str
     if op.0 < NAME_COUNT { op_text(&op) } else { "" }
 }
 
-fn put_target(out: &mut String, files: &NameTable<MarkedSource>, target: &Target) -> Result<(), Memory>
+fn put_target(
+    out: &mut String,
+    files: &NameTable<MarkedSource>,
+    target: &Target,
+) -> Result<(), Memory>
     ensures { OnOk result (string_bytes out.new ≡ string_bytes out.old ++ target_shown (lines_at files.now) target.now) }
 {
     match target {

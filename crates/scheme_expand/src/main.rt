@@ -18,11 +18,11 @@
 mod system;
 
 use crate::system::run_over_system;
+use run_top::status::Status;
 use std::alloc::Global;
 use std::io::ErrorKind;
 use std::process::ExitCode;
 use std::{env, io};
-use run_top::status::Status;
 
 fn arguments(rt: &HostRuntime, alloc: Global) -> io::Result<Vec<String>> {
     let mut words = Vec::new(alloc);

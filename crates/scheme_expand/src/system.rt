@@ -2,13 +2,10 @@
 
 ghost use Rattle.std.specs.Prelude.{◌≡◌, ◌<◌};
 
-use std::alloc::Global;
-use std::marker::Brand;
-use std::sync::ledger::{Blank, Book, Ledger};
 use base_data::memory::Memory;
 use base_data::steps::Steps;
-use expand_forms::tally::Tally;
 use base_fuel::fuel::{Counted, Fuel};
+use base_outside::{HostFiles, HostSink, HostStore};
 use eval_ops::basics::basics;
 use eval_ops::characters::characters;
 use eval_ops::data::{data, trees};
@@ -19,18 +16,21 @@ use eval_ops::parts::{parts, unpacked};
 use eval_ops::raised::raising;
 use eval_ops::strings::{number_strings, string_comparisons, strings};
 use eval_ops::syntax::{identifiers, temporaries};
-use base_outside::{HostFiles, HostSink, HostStore};
 use eval_prims::rows::{
     APPENDED, BASICS, CHARACTERS, DATA, EQUALITY, GATHERED, IDENTIFIERS, INDEXED, LISTS,
     NUMBER_STRINGS, NUMBERS, PARTS, RAISING, STRING_COMPARISONS, STRINGS, TEMPORARIES, TREES,
     UNPACKED,
 };
 use eval_prims::table::{PrimRow, PrimTable};
+use expand_forms::tally::Tally;
+use expand_standing::means::Counts;
 use run_top::inputs::Inputs;
 use run_top::status::Status;
 use run_top::top;
 use run_top::top::Outside;
-use expand_standing::means::Counts;
+use std::alloc::Global;
+use std::marker::Brand;
+use std::sync::ledger::{Blank, Book, Ledger};
 
 // At most so many libraries are expanded in one run.
 const MOST_EXPANSIONS: u64 = 1_000_000_000;

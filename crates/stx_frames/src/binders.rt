@@ -4,13 +4,13 @@ ghost use Rattle.std.specs.Prelude.{◌≡◌, [], ◌∷◌, true, false, None,
 ghost use Rattle.base_data.specs.declared.name.FrameNo.{FrameNo};
 ghost use Rattle.stx_frames.specs.Binders.{may_be, AreAll, binders_at, Covers, AllNoted, NamesAll, may_bind};
 
-use std::alloc::Global;
-use std::marker::Model;
 use base_data::items::Items;
 use base_data::map::{NameMap, new_map};
 use base_data::memory::Memory;
 use base_data::name::FrameNo;
 use base_data::symbol::Symbol;
+use std::alloc::Global;
+use std::marker::Model;
 use stx_tree::frame_row::FrameRow;
 
 /// So many frames are told apart. A symbol that more frames bind is bound near where it stands, as a rule.

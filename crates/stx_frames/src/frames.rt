@@ -10,9 +10,6 @@ ghost use Rattle.stx_frames.specs.Scope.{has_frame, rows_at, label_at, bound, wi
 
 use crate::key::Key;
 use crate::table::FrameTable;
-use std::alloc::Global;
-use std::collections::BTreeMap;
-use std::marker::Model;
 use base_data::fault::BareStop;
 use base_data::items::Items;
 use base_data::library::LibName;
@@ -20,6 +17,9 @@ use base_data::map::{NameMap, new_map};
 use base_data::memory::Memory;
 use base_data::name::{FrameNo, Label};
 use base_data::symbol::Symbol;
+use std::alloc::Global;
+use std::collections::BTreeMap;
+use std::marker::Model;
 use stx_tree::frame_row::FrameRow;
 use stx_tree::marks::Marks;
 

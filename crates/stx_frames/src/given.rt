@@ -5,11 +5,11 @@ ghost use Rattle.stx_frames.specs.Given.{are_rows_of};
 ghost use Rattle.stx_frames.specs.Scope.{adopted};
 
 use crate::frames::FrameMap;
+use base_data::library::LibName;
+use base_data::memory::Memory;
 use std::alloc::Global;
 use std::marker::Model;
 use std::rc::Rc;
-use base_data::library::LibName;
-use base_data::memory::Memory;
 use stx_tree::frame_row::FrameRow;
 
 /// A library that is complete and its frames, in tables that are made once for all that need it.

@@ -7,12 +7,12 @@ ghost use Rattle.stx_frames.specs.Scope.{has_frame, bound, adopted, are_new};
 
 use crate::binders::BinderIndex;
 use crate::frames::FrameMap;
-use std::alloc::Global;
-use std::marker::Model;
 use base_data::fault::BareStop;
 use base_data::memory::Memory;
 use base_data::name::{FrameNo, Label};
 use base_data::symbol::Symbol;
+use std::alloc::Global;
+use std::marker::Model;
 use stx_tree::frame_row::FrameRow;
 use stx_tree::marks::Marks;
 

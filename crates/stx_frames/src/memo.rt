@@ -3,13 +3,13 @@
 ghost use Rattle.std.specs.Prelude.{◌≡◌, ◌⊎◌, [], IfOk, IfSome};
 ghost use Rattle.stx_frames.specs.Kept.{KeptAnswer, kept, Has};
 
-use indexmap::{IndexMap, IndexSet};
-use std::alloc::Global;
-use std::marker::Model;
 use base_data::items::Items;
 use base_data::memory::Memory;
 use base_data::name::Label;
 use base_data::symbol::Symbol;
+use indexmap::{IndexMap, IndexSet};
+use std::alloc::Global;
+use std::marker::Model;
 use stx_tree::marks::Marks;
 use stx_tree::stamp::Stamp;
 

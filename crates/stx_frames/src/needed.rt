@@ -9,10 +9,10 @@ ghost use Rattle.stx_frames.specs.Needed.{if_mark, needed_parts, AreApart};
 
 use crate::frames::FrameMap;
 use crate::shared::SharedFrames;
-use std::marker::Model;
-use std::rc::Rc;
 use base_data::items::Items;
 use base_data::library::LibName;
+use std::marker::Model;
+use std::rc::Rc;
 
 /// A table of a run and marks of what is needed of it. A look-up costs the same, however many libraries there
 /// are and are needed.

@@ -6,12 +6,12 @@ ghost use Rattle.stx_frames.specs.Needed.{AreLibraries};
 
 use crate::frames::FrameMap;
 use crate::given::GivenFrames;
-use std::alloc::Global;
-use std::marker::Model;
-use std::rc::Rc;
 use base_data::library::LibName;
 use base_data::map::{NameMap, new_map};
 use base_data::memory::Memory;
+use std::alloc::Global;
+use std::marker::Model;
+use std::rc::Rc;
 
 /// The frames of each library that a run has completed, in the order of coming. All that need some of them
 /// share the table, so that to need a library costs a mark.

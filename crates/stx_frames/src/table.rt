@@ -7,14 +7,14 @@ ghost use Rattle.stx_frames.specs.Rows.{Row, label_in, row_of, rows_of, put_row,
 ghost use Rattle.stx_frames.specs.Listed.{row_from, rows_from};
 
 use crate::key::Key;
-use std::alloc::Global;
-use std::marker::Model;
 use base_data::fault::{Bare, BareStop, FaultKind};
 use base_data::items::Items;
 use base_data::map::{NameMap, new_map};
 use base_data::memory::Memory;
 use base_data::name::{FrameNo, Label};
 use base_data::symbol::Symbol;
+use std::alloc::Global;
+use std::marker::Model;
 use stx_tree::frame_row::FrameRow;
 
 /// So many rows are looked through one by one. Most frames have one, for which an index would take more memory than it

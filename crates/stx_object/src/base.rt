@@ -6,11 +6,11 @@ ghost use Rattle.stx_tree.specs.Context.{blank, act, entered, stamped, unmarked,
 ghost use Rattle.stx_tree.specs.Marks.{is_first};
 
 use crate::stack::Stack;
-use std::alloc::Global;
-use std::marker::Model;
 use base_data::library::LibName;
 use base_data::memory::Memory;
 use base_data::name::{FrameNo, Mark};
+use std::alloc::Global;
+use std::marker::Model;
 use stx_tree::change::Change;
 use stx_tree::marks::Marks;
 use stx_tree::stamp::Stamp;

@@ -10,13 +10,13 @@ ghost use Rattle.stx_object.specs.KeptView.{seen, InShape, IsExtent};
 
 use crate::base::Base;
 use crate::wrap::Wrap;
-use std::alloc::Global;
-use std::marker::Model;
-use std::rc::Rc;
 use base_data::atom::Atom;
 use base_data::memory::Memory;
 use base_data::span::Span;
 use base_data::symbol::Symbol;
+use std::alloc::Global;
+use std::marker::Model;
+use std::rc::Rc;
 use stx_tree::change::Change;
 
 /// A shared tree, and then the changes, seen as the tree that is meant.

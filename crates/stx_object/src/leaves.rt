@@ -14,13 +14,13 @@ use crate::base::Base;
 use crate::kept::{Kept, TreeShape};
 use crate::pairs::empty_list;
 use crate::wrap::Wrap;
-use std::alloc::Global;
-use std::marker::Model;
 use base_data::datum::{self, Datum};
 use base_data::fault::BareStop;
 use base_data::memory::Memory;
 use base_data::span::{Span, share_span};
 use base_data::symbol::Symbol;
+use std::alloc::Global;
+use std::marker::Model;
 
 /// The empty list without a span, made once for all lists of a datum to end in.
 #[derive(Drop)]

@@ -13,12 +13,12 @@ ghost use Rattle.stx_object.specs.Refuses.{Refuses};
 use crate::kept::{HeightAndSize, Kept, TreeShape};
 use crate::syn::Syn;
 use crate::wrap::Wrap;
-use std::alloc::Global;
 use base_data::atom::Atom;
 use base_data::fault::{Bare, BareStop, FaultKind};
 use base_data::items::Items;
 use base_data::memory::Memory;
 use base_data::span::Span;
+use std::alloc::Global;
 
 const MAX_HEIGHT: u32 = 1000;
 
@@ -86,7 +86,12 @@ impl Kept {
         requires fits { Fits (pair None self rest) }
         ensures { IfOk result (λ k. k ≡ pair span self rest) }
     {
-        Kept::new(alloc, Wrap::none(), span, TreeShape::Pair(extent, self, rest))
+        Kept::new(
+            alloc,
+            Wrap::none(),
+            span,
+            TreeShape::Pair(extent, self, rest),
+        )
     }
 
     /// This element before a rest, where the list stays within the limits. The span is the list's.

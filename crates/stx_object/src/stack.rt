@@ -2,10 +2,10 @@
 
 ghost use Rattle.std.specs.Prelude.{◌≡◌, ◌==◌, [], ◌∷◌, length, map, drop, slice_get, IfOk, IfSome, IfNone, option_map};
 
+use base_data::memory::Memory;
 use std::alloc::Global;
 use std::marker::Model;
 use std::rc::Rc;
-use base_data::memory::Memory;
 
 /// Elements, the newest first.
 #[cycle(stack)]

@@ -7,10 +7,10 @@ ghost use Rattle.stx_tree.specs.Leaves.{strip};
 ghost use Rattle.stx_object.specs.Kept.{IsRest, IsElements};
 
 use crate::kept::{Kept, SyntaxNode, TreeShape};
-use std::alloc::Global;
 use base_data::datum::{self, Datum};
 use base_data::memory::Memory;
 use base_data::span::{Span, share_span};
+use std::alloc::Global;
 
 impl Kept {
     /// The datum. Pending changes don't matter.

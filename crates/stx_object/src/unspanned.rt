@@ -6,8 +6,8 @@ ghost use Rattle.stx_tree.specs.Measures.{Fits};
 ghost use Rattle.stx_object.specs.Kept.{IsRest};
 
 use crate::kept::{Kept, SyntaxNode, TreeShape};
-use std::alloc::Global;
 use base_data::memory::Memory;
+use std::alloc::Global;
 
 impl Kept {
     /// The tree without any spans.

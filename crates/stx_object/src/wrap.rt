@@ -4,10 +4,10 @@ ghost use Rattle.std.specs.Prelude.{◌≡◌, ◌==◌, [], ◌∷◌, ◌++◌
 ghost use Rattle.stx_tree.specs.Context.{LeafContext, blank, act, acts};
 
 use crate::base::Base;
+use base_data::memory::Memory;
 use std::alloc::Global;
 use std::marker::Model;
 use std::rc::Rc;
-use base_data::memory::Memory;
 use stx_tree::change::Change;
 
 /// Changes, the first one first. Lists that begin alike share their beginning, and no changes take

@@ -4,9 +4,9 @@ ghost use Rattle.std.specs.Prelude.{◌≡◌, IfOk};
 ghost use Rattle.stx_scope.specs.Stands.{symbol_of};
 ghost use Rattle.stx_scope.specs.Same.{same_binder};
 
-use std::alloc::Global;
 use base_data::memory::Memory;
 use base_data::symbol::Symbol;
+use std::alloc::Global;
 use stx_object::syn::{OpenedTree, Syn};
 
 /// The symbol of a leaf, and the empty one of what is no leaf.

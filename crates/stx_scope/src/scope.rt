@@ -11,15 +11,15 @@ ghost use Rattle.stx_scope.specs.Stands.{row_for, stands, is_for};
 ghost use Rattle.stx_object.specs.Among as among;
 
 use crate::same::symbol_of;
-use std::alloc::Global;
-use std::marker::Model;
-use std::rc::Rc;
 use base_data::fault::BareStop;
 use base_data::items::Items;
 use base_data::library::LibName;
 use base_data::memory::Memory;
 use base_data::name::{FrameNo, Label};
 use base_data::symbol::Symbol;
+use std::alloc::Global;
+use std::marker::Model;
+use std::rc::Rc;
 use stx_frames::kept::KeptFrames;
 use stx_frames::key::Key;
 use stx_frames::shared::SharedFrames;

@@ -6,10 +6,10 @@ ghost use Rattle.stx_tree.specs.Context.{blank, act, entered, stamped, left};
 use crate::change::Change;
 use crate::marks::Marks;
 use crate::stamp::Stamp;
-use std::alloc::Global;
-use std::marker::Model;
 use base_data::memory::Memory;
 use base_data::name::{FrameNo, Mark};
+use std::alloc::Global;
+use std::marker::Model;
 
 /// The marks and stamps of a leaf. A refusal may leave one in part changed; it is then of no use.
 #[derive(Drop)]

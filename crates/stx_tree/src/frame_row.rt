@@ -3,10 +3,10 @@
 ghost use Rattle.std.specs.Prelude.{◌≡◌, IfOk};
 
 use crate::marks::Marks;
-use std::alloc::Global;
 use base_data::memory::Memory;
 use base_data::name::{FrameNo, Label};
 use base_data::symbol::Symbol;
+use std::alloc::Global;
 
 /// A frame gives the symbol with these marks a label.
 #[derive(Drop)]

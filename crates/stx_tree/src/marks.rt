@@ -7,14 +7,14 @@ ghost use Rattle.stx_tree.specs.SameMarks.{same_mark_per, same_mark_equiv, mark_
 ghost use Rattle.stx_tree.specs.Remarks.{remark};
 
 use crate::change::Change;
+use base_data::library::LibName;
+use base_data::memory::Memory;
+use base_data::name::{Mark, Name};
 use smallvec::SmallVec;
 use std::alloc::Global;
 use std::hash::{Hash, Hasher};
 use std::marker::Model;
 use std::rc::Rc;
-use base_data::library::LibName;
-use base_data::memory::Memory;
-use base_data::name::{Mark, Name};
 
 /// A place for a mark. A short list has its places ready before it has marks.
 #[derive(Drop, Default)]

@@ -3,9 +3,9 @@
 ghost use Rattle.std.specs.Prelude.{◌≡◌, IfOk};
 
 use crate::marks::Marks;
-use std::alloc::Global;
 use base_data::memory::Memory;
 use base_data::name::FrameNo;
+use std::alloc::Global;
 
 /// A frame, and the marks of the leaf when it was stamped with it.
 #[derive(PartialEq, Eq, Hash, Drop)]

@@ -1,6 +1,3 @@
-use std::alloc::Global;
-use std::rc::Rc;
-use std::test::Fail;
 use base_data::atom::Atom;
 use base_data::bytes::Bytes;
 use base_data::fault::{Fault, FaultKind};
@@ -12,6 +9,9 @@ use base_data::op::{NAME_COUNT, Op, op_text};
 use base_data::place::line_and_column;
 use base_data::span::Span;
 use base_data::symbol::Symbol;
+use std::alloc::Global;
+use std::rc::Rc;
+use std::test::Fail;
 
 fn place_at(source: &[u8], offset: u32) -> (u64, u64) {
     if (offset as usize) <= source.len() {

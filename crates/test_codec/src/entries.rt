@@ -1,7 +1,4 @@
 use crate::notation::bytes_of;
-use std::alloc::Global;
-use std::mem::forget;
-use std::test::Fail;
 use base_data::items::Items;
 use base_data::symbol::Symbol;
 use core_cache::entry::{Entry, decode_entry, encode_entry};
@@ -9,6 +6,9 @@ use core_cache::fits::fits;
 use core_cache::place::place;
 use core_cache::seal::{seal, unseal};
 use load_files::found::Source;
+use std::alloc::Global;
+use std::mem::forget;
+use std::test::Fail;
 
 // A library with a source that was absent and its own, of one byte.
 const ENTRY: &str =

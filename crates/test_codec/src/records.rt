@@ -1,10 +1,10 @@
 use crate::notation::bytes_of;
 use crate::rows;
+use core_record_bytes::record::{decode, encode};
 use std::alloc::Global;
 use std::mem::forget;
 use std::process::Abort;
 use std::test::Fail;
-use core_record_bytes::record::{decode, encode};
 
 // What is encoded of the record that the bytes spell; nothing where they spell none.
 fn again(alloc: Global, bytes: &[u8]) -> Result<Option<Vec<u8>>, Fail> {

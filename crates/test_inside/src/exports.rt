@@ -1,12 +1,12 @@
-use std::alloc::Global;
-use std::fmt::Write;
-use std::process::Abort;
-use std::test::Fail;
 use base_data::items::Items;
 use base_data::library::LibName;
 use base_data::op::{Op, names};
 use base_data::symbol::Symbol;
 use load_builtin::exports::{exports, op_name};
+use std::alloc::Global;
+use std::fmt::Write;
+use std::process::Abort;
+use std::test::Fail;
 
 // The parts of a library's name and a place, and how many names the library exports, with the name at that place, the library
 // of its label and its number; or that no library is given.

@@ -1,14 +1,14 @@
-use std::alloc::Global;
-use std::fmt::Write;
-use std::mem::forget;
-use std::process::Abort;
-use std::test::Fail;
 use base_data::items::Items;
 use base_data::library::LibName;
 use base_data::memory::Memory;
 use base_data::symbol::Symbol;
 use core_language::record::CompiledLibrary;
 use core_plan::plan::run_plan;
+use std::alloc::Global;
+use std::fmt::Write;
+use std::mem::forget;
+use std::process::Abort;
+use std::test::Fail;
 
 // Libraries with their references, the references of the program, and the places in the plan.
 const PLANS: &str = "a:b b:a c: / a => 0 1
@@ -48,7 +48,11 @@ fn record(alloc: Global, name: LibName, refs: &str) -> Result<CompiledLibrary, M
     })
 }
 
-fn put_record(alloc: Global, records: &mut Vec<CompiledLibrary>, spelt: &str) -> Result<(), Memory> {
+fn put_record(
+    alloc: Global,
+    records: &mut Vec<CompiledLibrary>,
+    spelt: &str,
+) -> Result<(), Memory> {
     let (name, refs) = spelt.split_once(":").unwrap_or((spelt, ""));
     let name = library(alloc, name)?;
     match record(alloc, name, refs) {
@@ -67,7 +71,11 @@ fn put(records: &mut Vec<CompiledLibrary>, record: CompiledLibrary) -> Result<()
     }
 }
 
-fn put_records(alloc: Global, records: &mut Vec<CompiledLibrary>, libraries: &str) -> Result<(), Memory> {
+fn put_records(
+    alloc: Global,
+    records: &mut Vec<CompiledLibrary>,
+    libraries: &str,
+) -> Result<(), Memory> {
     for spelt in libraries.split(" ") {
         put_record(alloc, records, spelt)?;
     }

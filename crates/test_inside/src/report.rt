@@ -1,9 +1,9 @@
-use std::alloc::Global;
-use std::test::Fail;
 use base_data::items::Items;
 use base_data::library::LibName;
 use base_data::symbol::Symbol;
 use load_report::report::{Fate, Told, report_text};
+use std::alloc::Global;
+use std::test::Fail;
 
 fn told(alloc: Global, fate: Fate, parts: &[&str]) -> Result<Told, Fail> {
     let mut symbols = Items::new(alloc);

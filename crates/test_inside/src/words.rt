@@ -1,9 +1,9 @@
+use run_command::job::{Job, Kind};
+use run_command::words::{Words, read_words};
 use std::alloc::Global;
 use std::fmt::Write;
 use std::process::Abort;
 use std::test::Fail;
-use run_command::job::{Job, Kind};
-use run_command::words::{Words, read_words};
 
 // Words, each behind a bar, and what they ask for: `make N`, `usage`, or the kind, the roots, the cache and the report where
 // they are asked for, and the program.

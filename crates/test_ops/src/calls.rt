@@ -1,4 +1,3 @@
-use std::alloc::Global;
 use base_data::fault::BareStop;
 use base_data::memory::Memory;
 use eval_ops::basics::basics;
@@ -19,6 +18,7 @@ use eval_prims::rows::{
     UNPACKED,
 };
 use eval_prims::table::{PrimRow, PrimTable};
+use std::alloc::Global;
 use stx_scope::scope::Frames;
 
 fn first_rows(alloc: Global, rows: &mut Vec<PrimRow>) -> Result<(), Memory> {

@@ -1,17 +1,17 @@
 use crate::calls::{called, full_rows, full_table};
-use std::alloc::Global;
-use std::process::Abort;
-use std::test::Fail;
 use base_data::atom::Atom;
 use base_data::fault::BareStop;
 use base_data::memory::Memory;
 use base_data::op::{Op, names};
+use base_region::region::Region;
 use eval_prims::made::PrimResult;
 use eval_prims::prim_call::PrimCall;
 use eval_prims::table::{PrimRow, PrimTable};
-use base_region::region::Region;
 use eval_value::cell::Cell;
 use eval_value::value::Value;
+use std::alloc::Global;
+use std::process::Abort;
+use std::test::Fail;
 
 /// The place at which rows are refused, and how many rows come back.
 fn refused(rows: Vec<PrimRow>) -> Option<(usize, usize)> {

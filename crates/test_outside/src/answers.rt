@@ -1,13 +1,13 @@
+use base_outside::{
+    FileAnswer, Files, HostFiles, HostSink, HostStore, MemFiles, MemSink, MemStore, OutsideError,
+    PutFailed, Sink, Store, StoreAnswer, TornStore,
+};
 use std::alloc::{AllocError, Global};
 use std::io::{ErrorKind, Write};
 use std::path::PathBuf;
 use std::process::Abort;
 use std::test::Fail;
 use std::{env, fs, io, process};
-use base_outside::{
-    FileAnswer, Files, HostFiles, HostSink, HostStore, MemFiles, MemSink, MemStore, OutsideError,
-    PutFailed, Sink, Store, StoreAnswer, TornStore,
-};
 
 /// A list of pairs in memory.
 fn pairs(alloc: Global, texts: &[(&str, &[u8])]) -> Result<Vec<(String, Vec<u8>)>, AllocError> {

@@ -1,9 +1,9 @@
-use std::alloc::Global;
-use std::test::Fail;
 use base_data::fault::Stop;
 use base_data::symbol::Symbol;
 use read_printer::datum_text::datum_text;
 use read_reader::read::read_deep;
+use std::alloc::Global;
+use std::test::Fail;
 
 // So many of a text, then a, then so many of another.
 fn nested(alloc: Global, count: usize, open: &str, close: &str) -> Result<String, Fail> {

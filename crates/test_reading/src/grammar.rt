@@ -1,6 +1,6 @@
-use std::test::Fail;
 use base_data::symbol::Symbol;
 use law_grammar::read_source;
+use std::test::Fail;
 
 #[test]
 fn a_source_is_read(rt: HostRuntime) -> Result<(), Fail> {

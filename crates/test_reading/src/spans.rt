@@ -1,13 +1,13 @@
 use crate::rows::SPANS;
-use std::alloc::Global;
-use std::fmt::Write;
-use std::process::Abort;
-use std::test::Fail;
 use base_data::datum::{Datum, Node};
 use base_data::fault::{Fault, Stop};
 use base_data::span::Span;
 use base_data::symbol::Symbol;
 use read_reader::read::read_all;
+use std::alloc::Global;
+use std::fmt::Write;
+use std::process::Abort;
+use std::test::Fail;
 
 fn put_spelt(bytes: &mut Vec<u8>, spelt: &str) -> Result<(), Fail> {
     for byte in spelt.split(" ") {

@@ -1,14 +1,14 @@
 ghost use Rattle.std.specs.Prelude.{◌≡◌, ◌<◌};
 
 use crate::told::{Stamped, are_stamps, frame, has_marks, mark};
+use base_data::memory::Memory;
+use base_data::steps::Steps;
+use base_data::symbol::Symbol;
 use std::alloc::Global;
 use std::marker::Brand;
 use std::process::Abort;
 use std::sync::ledger::{Blank, Ledger};
 use std::test::Fail;
-use base_data::memory::Memory;
-use base_data::steps::Steps;
-use base_data::symbol::Symbol;
 use stx_object::syn::Syn;
 use stx_tree::marks::Marks;
 
@@ -66,7 +66,11 @@ fn is_stamped(alloc: Global, tree: &Syn, rows: &[Stamped]) -> Result<bool, Memor
 }
 
 /// Steps on the leaf x without marks, and the marks and the stamps that it has then.
-type Change = (&'static [ChangeStep], &'static [u64], &'static [Stamped<'static>]);
+type Change = (
+    &'static [ChangeStep],
+    &'static [u64],
+    &'static [Stamped<'static>],
+);
 
 fn gives(alloc: Global, change: &Change) -> Result<bool, Memory> {
     let tree = after(alloc, change.0)?;
@@ -92,14 +96,26 @@ fn leaves_change_as_the_algorithm_says(rt: HostRuntime) -> Result<(), Fail> {
             (&[ChangeStep::Enter(1)], &[1], &[]),
             (&[ChangeStep::Enter(1), ChangeStep::Leave(1)], &[], &[]),
             (&[ChangeStep::LeaveWith(1, 2)], &[1], &[(2, &[1])]),
-            (&[ChangeStep::Enter(1), ChangeStep::LeaveWith(1, 2)], &[], &[]),
             (
-                &[ChangeStep::Enter(1), ChangeStep::Stamp(2), ChangeStep::Leave(1)],
+                &[ChangeStep::Enter(1), ChangeStep::LeaveWith(1, 2)],
+                &[],
+                &[],
+            ),
+            (
+                &[
+                    ChangeStep::Enter(1),
+                    ChangeStep::Stamp(2),
+                    ChangeStep::Leave(1),
+                ],
                 &[],
                 &[(2, &[1])],
             ),
             (
-                &[ChangeStep::Enter(1), ChangeStep::Leave(3), ChangeStep::Stamp(4)],
+                &[
+                    ChangeStep::Enter(1),
+                    ChangeStep::Leave(3),
+                    ChangeStep::Stamp(4),
+                ],
                 &[3, 1],
                 &[(4, &[3, 1])],
             ),

@@ -1,7 +1,7 @@
 use crate::told::{are_stamps, frame, has_marks, mark};
+use base_data::memory::Memory;
 use std::alloc::Global;
 use std::test::Fail;
-use base_data::memory::Memory;
 use stx_tree::change::Change;
 use stx_tree::context::Context;
 use stx_tree::marks::Marks;

@@ -1,14 +1,14 @@
 use crate::leaves::{frame, label, leaf, number, row};
 use crate::steps::FAR;
+use base_data::fault::BareStop;
+use base_data::library::LibName;
+use base_data::name::Label;
 use std::alloc::Global;
 use std::fmt::Write;
 use std::rc::Rc;
 use std::test::Fail;
-use base_data::fault::BareStop;
-use base_data::library::LibName;
-use base_data::name::Label;
-use stx_scope::scope::Frames;
 use stx_object::syn::Syn;
+use stx_scope::scope::Frames;
 
 fn added(library: &Rc<LibName>, frames: &mut Frames, at: &str) -> Result<bool, Fail> {
     let at = frame(library, at)?;

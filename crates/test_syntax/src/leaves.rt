@@ -1,11 +1,11 @@
 //! Names by their numbers, and leaves by their marks and stamps.
 
-use std::alloc::Global;
-use std::rc::Rc;
-use std::test::Fail;
 use base_data::library::LibName;
 use base_data::name::{FrameNo, Label, Mark, Name};
 use base_data::symbol::Symbol;
+use std::alloc::Global;
+use std::rc::Rc;
+use std::test::Fail;
 use stx_object::syn::Syn;
 use stx_tree::frame_row::FrameRow;
 use stx_tree::marks::Marks;

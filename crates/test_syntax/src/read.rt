@@ -1,5 +1,3 @@
-use std::alloc::Global;
-use std::test::Fail;
 use base_data::atom::Atom;
 use base_data::fault::BareStop;
 use base_data::memory::Memory;
@@ -7,6 +5,8 @@ use base_region::region::Region;
 use eval_value::cell::{Cell, add_cell};
 use eval_value::to_syntax::to_syntax;
 use eval_value::value::Value;
+use std::alloc::Global;
+use std::test::Fail;
 
 /// What reading a value comes to: the size of the tree, the fuel that is left, and the number of the fault.
 type Answer = (u32, u64, u16);

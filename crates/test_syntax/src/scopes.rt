@@ -1,11 +1,11 @@
 use crate::frames::step;
 use crate::leaves::row;
 use crate::steps::{GIVEN, STEPS, STEPS_OVER};
+use base_data::items::Items;
+use base_data::library::LibName;
 use std::alloc::Global;
 use std::rc::Rc;
 use std::test::Fail;
-use base_data::items::Items;
-use base_data::library::LibName;
 use stx_frames::given::GivenFrames;
 use stx_frames::shared::SharedFrames;
 use stx_scope::scope::Frames;
@@ -36,7 +36,12 @@ impl TestLibraries {
     }
 }
 
-fn check_step(alloc: Global, at: &TestLibraries, frames: &mut Frames, line: &str) -> Result<(), Fail> {
+fn check_step(
+    alloc: Global,
+    at: &TestLibraries,
+    frames: &mut Frames,
+    line: &str,
+) -> Result<(), Fail> {
     let (asked, wanted) = line.split_once(" => ").ok_or("no answer")?;
     let (library, rest) = asked.split_once(" ").ok_or("no library")?;
     let (verb, words) = rest.split_once(" ").unwrap_or((rest, ""));

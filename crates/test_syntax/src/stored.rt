@@ -1,5 +1,3 @@
-use std::alloc::Global;
-use std::test::Fail;
 use base_data::atom::Atom;
 use base_data::datum::{Datum, Node};
 use base_data::memory::Memory;
@@ -8,6 +6,8 @@ use base_region::region::Region;
 use eval_value::cell::Cell;
 use eval_value::from_datum::from_datum;
 use eval_value::value::Value;
+use std::alloc::Global;
+use std::test::Fail;
 
 fn atom(value: Atom) -> Datum {
     Datum {

@@ -1,10 +1,10 @@
 //! Names by their numbers, and whether marks and stamps are those of a row.
 
-use std::alloc::Global;
-use std::rc::Rc;
 use base_data::library::LibName;
 use base_data::memory::Memory;
 use base_data::name::{FrameNo, Mark, Name};
+use std::alloc::Global;
+use std::rc::Rc;
 use stx_tree::marks::Marks;
 use stx_tree::stamp::Stamp;
 

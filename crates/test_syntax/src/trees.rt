@@ -1,14 +1,14 @@
 ghost use Rattle.std.specs.Prelude.{◌≡◌, ◌<◌};
 
 use crate::told::{frame, mark};
-use std::alloc::Global;
-use std::marker::Brand;
-use std::sync::ledger::{Blank, Ledger};
-use std::test::Fail;
 use base_data::atom::Atom;
 use base_data::fault::BareStop;
 use base_data::memory::Memory;
 use base_data::steps::Steps;
+use std::alloc::Global;
+use std::marker::Brand;
+use std::sync::ledger::{Blank, Ledger};
+use std::test::Fail;
 use stx_object::syn::{OpenedTree, Syn};
 
 /// The tree, or none where it would pass a limit.
