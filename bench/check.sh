@@ -1,8 +1,8 @@
 #!/bin/bash
 # How long core texts are checked, for sizes that double, and in how much memory. `procedures` defines a procedure with
 # two formals in each line, so that the names grow with the text; `calls` has lines of 100 bytes that bind nothing; and
-# `one line` is a single call. Each row is one of `row` in times.sh, with
-# the bytes of the text; the one before it is half as long or, in the last, a tenth.
+# `one line` is a single call. Each row is one of `row` in times.sh, with the bytes of the text; the one before it is
+# half as long or, in the last, a tenth.
 top=$(cd "$(dirname "$0")/.." && pwd) || exit 1
 folder=$(mktemp -d) || exit 1
 trap 'rm -rf "$folder"' EXIT

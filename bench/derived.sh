@@ -1,7 +1,6 @@
 #!/bin/sh
 # How long programs of derived forms take, for sizes that double: n procedures, each of nested `let`, `let*`, named
-# `let`, `cond`, `case`, `do`, `and` and `or`. Each row is one of `row` in
-# times.sh; the one before it is half as long.
+# `let`, `cond`, `case`, `do`, `and` and `or`. Each row is one of `row` in times.sh; the one before it is half as long.
 top=$(cd "$(dirname "$0")/.." && pwd) || exit 1
 folder=$(mktemp -d) || exit 1
 trap 'rm -rf "$folder"' EXIT

@@ -1,6 +1,7 @@
 #!/bin/sh
 # Macros whose uses never come to an end: each program is stopped at its use 1,000,001. Each row has the seconds of
-# processor time that this took, the most memory, and the line of the fault. The tables of tests/cases leave these programs out, since they take seconds.
+# processor time that this took, the most memory, and the line of the fault. The tables of tests/cases leave these
+# programs out, since they take seconds.
 top=$(cd "$(dirname "$0")/.." && pwd) || exit 1
 folder=$(mktemp -d) || exit 1
 trap 'rm -rf "$folder"' EXIT

@@ -1,7 +1,6 @@
 #!/bin/sh
-# How long programs take, for sizes that double: n definitions, each of which calls the one before it, and n
-# forms of ten nested scopes each. Each row is one of `row` in times.sh; the one
-# before it is half as long.
+# How long programs take, for sizes that double: n definitions, each of which calls the one before it, and n forms of
+# ten nested scopes each. Each row is one of `row` in times.sh; the one before it is half as long.
 top=$(cd "$(dirname "$0")/.." && pwd) || exit 1
 folder=$(mktemp -d) || exit 1
 trap 'rm -rf "$folder"' EXIT

@@ -1,7 +1,6 @@
 #!/bin/sh
-# How long import sets take, for sizes that double: n sets of one library in a program, n names in one set, and a library
-# of n exports that 20 others import. Each row is one of `row` in times.sh; the one
-# before it is half as long.
+# How long import sets take, for sizes that double: n sets of one library in a program, n names in one set, and a
+# library of n exports that 20 others import. Each row is one of `row` in times.sh; the one before it is half as long.
 top=$(cd "$(dirname "$0")/.." && pwd) || exit 1
 folder=$(mktemp -d) || exit 1
 trap 'rm -rf "$folder"' EXIT

@@ -1,7 +1,7 @@
 #!/bin/sh
 # How long the binding maps of programs take, for sizes that double: n definitions, each of which refers to the one
-# before it. Each row has the seconds of processor time of the best of three runs, the ratio to the row before it, which is half as long,
-# and the ratio to the core text of the same program.
+# before it. Each row has the seconds of processor time of the best of three runs, the ratio to the row before it, which
+# is half as long, and the ratio to the core text of the same program.
 top=$(cd "$(dirname "$0")/.." && pwd) || exit 1
 folder=$(mktemp -d) || exit 1
 trap 'rm -rf "$folder"' EXIT

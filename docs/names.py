@@ -9,7 +9,8 @@ its place among the rows, so those of a library stand together. A row of primiti
 table, its row there, the least and the most arguments (`-` where there is no limit), and its name.
 
 What is written: the constants, the texts and their table in the definitions, which names are keywords, what each library
-exports, which definition each derived name has, and the three tables of primitives. `rattle fmt --write` lays it out.
+exports, which definition each derived name has, the three tables of primitives, and the slots by which they are found.
+`rattle fmt --write` lays it out.
 """
 import os, re, sys
 
@@ -127,6 +128,15 @@ def primitives(names, table):
     return len(rows), '\n'.join(items)
 
 
+def slots(names):
+    """For each op its place in the tables of primitives, one behind the other, counted from 1; 0 where it has none."""
+    rows = [row for table in TABLES for row in rows_of('primitives.tsv') if row[0] == table]
+    place = {}
+    for at, row in enumerate(rows, 1):
+        place.setdefault(names.number[row[4]], at)
+    return [place.get(op, 0) for op in range(max(place) + 1)]
+
+
 def pieces(names):
     """Each piece: its file below crates/, a pattern whose first group stands before it and whose last stands behind, and its text."""
     code, spec = is_keyword(names)
@@ -150,6 +160,9 @@ def pieces(names):
     for table in TABLES:
         count, items = primitives(names, table)
         yield (f'eval_prims/src/primitive/{table}.rt', rf'(pub const {table.upper()}: )(.*?)(;\n*\Z)', f'[Primitive; {count}] = [\n{items}\n]')
+    found = slots(names)
+    yield ('eval_prims/src/primitive/slots.rt', r'(pub const SLOTS: )(.*?)(;\n*\Z)',
+           f'[u8; {len(found)}] = [\n    ' + ', '.join(map(str, found)) + ',\n]')
 
 
 def plain(text):
