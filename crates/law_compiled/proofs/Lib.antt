@@ -1,3 +1,3 @@
 mod Joining
-mod Templates
+pub mod Templates
 mod Compiled

@@ -49,7 +49,8 @@ AreFree fs escaped (t ∷ ts) = IsFree fs escaped t
 -- forms are so many ellipses, and then these
 pub data AreDotted (fs : Scope) (escaped : Bool) : List Tree → ℕ → List Tree → Type 0 where
   undotted : {ts : List Tree} → AreFree fs escaped ts → AreDotted fs escaped ts 0 ts
-  dotted : {e : Tree} {ts rest : List Tree} {n : ℕ} → escaped ≡ false → IsKeywordIdentifier fs form.Ellipsis e → AreDotted fs escaped ts n rest → AreDotted fs escaped (e ∷ ts) (suc n) rest
+  dotted : {e : Tree} {ts rest : List Tree} {n : ℕ} → escaped ≡ false → IsKeywordIdentifier fs form.Ellipsis e
+      → AreDotted fs escaped ts n rest → AreDotted fs escaped (e ∷ ts) (suc n) rest
 
 -- for each of so many ellipses behind a template there is a variable in it that the ellipsis repeats
 abbrev pub IsRepeated : ℕ → PlainTemplate → Type 0
@@ -86,15 +87,18 @@ vector_by is (Some us) = template.constant (vector None (chain us nil))
 mutual
   pub data IsTemplate (c : TemplateScope) : Bool → ℕ → Tree → PlainTemplate → Type 0 where
     a_datum : {escaped : Bool} {under : ℕ} {span : Option Span} {a : Atom} → IsTemplate c escaped under (atom span a) (template.constant (atom None a))
-    an_identifier : {escaped : Bool} {under : ℕ} {t : Tree} → IsFree c.frames escaped t → IsOther c t → IsTemplate c escaped under t (template.constant (unspanned t))
+    an_identifier : {escaped : Bool} {under : ℕ} {t : Tree} → IsFree c.frames escaped t → IsOther c t
+        → IsTemplate c escaped under t (template.constant (unspanned t))
     -- a pattern variable of the template's level, under at least as many ellipses as its depth
     a_variable : {escaped : Bool} {under : ℕ} {t : Tree} {l : Label} {depth : ℕ}
         → IsId t → IsFree c.frames escaped t → IsBoundAt c t l c.level depth → depth ≤ under → IsTemplate c escaped under t (template.variable l depth)
     -- `(... template)` is the template, in which ellipses are plain
-    an_escape : {under : ℕ} {e t u : Tree} {p : PlainTemplate} → IsKeywordIdentifier c.frames form.Ellipsis e → IsList (e ∷ u ∷ []) t → IsTemplate c true under u p → IsTemplate c false under t p
+    an_escape : {under : ℕ} {e t u : Tree} {p : PlainTemplate} → IsKeywordIdentifier c.frames form.Ellipsis e → IsList (e ∷ u ∷ []) t
+        → IsTemplate c true under u p → IsTemplate c false under t p
     -- `(subtemplate ...)` and `(subtemplate ... . template)`
     a_list : {escaped : Bool} {under : ℕ} {t r x : Tree} {xs : List Tree} {is : PlainItems} {p : PlainTemplate}
-        → IsChain (x ∷ xs) r t → AreSubtemplates c escaped under (x ∷ xs) is → IsTemplate c escaped under r p → IsTemplate c escaped under t (list_by is (constants is) p)
+        → IsChain (x ∷ xs) r t → AreSubtemplates c escaped under (x ∷ xs) is → IsTemplate c escaped under r p
+        → IsTemplate c escaped under t (list_by is (constants is) p)
     -- `#(subtemplate ...)`
     a_vector : {escaped : Bool} {under : ℕ} {span : Option Span} {t : Tree} {xs : List Tree} {is : PlainItems}
         → IsList xs t → AreSubtemplates c escaped under xs is → IsTemplate c escaped under (vector span t) (vector_by is (constants is))
@@ -103,7 +107,8 @@ mutual
   pub data AreSubtemplates (c : TemplateScope) : Bool → ℕ → List Tree → PlainItems → Type 0 where
     no_item : {escaped : Bool} {under : ℕ} → AreSubtemplates c escaped under [] template.none
     an_item : {escaped : Bool} {under n : ℕ} {x : Tree} {xs rest : List Tree} {p : PlainTemplate} {is : PlainItems}
-        → AreDotted c.frames escaped xs n rest → IsTemplate c escaped (under + n) x p → IsRepeated n p → AreSubtemplates c escaped under rest is → AreSubtemplates c escaped under (x ∷ xs) (template.more p n is)
+        → AreDotted c.frames escaped xs n rest → IsTemplate c escaped (under + n) x p → IsRepeated n p
+        → AreSubtemplates c escaped under rest is → AreSubtemplates c escaped under (x ∷ xs) (template.more p n is)
 
 -- Faults.
 
@@ -113,7 +118,8 @@ pub data IsBadPart (c : TemplateScope) : Tree → Fault → Type 0 where
   a_bad_ellipsis : {t : Tree} → IsKeywordIdentifier c.frames form.Ellipsis t → IsBadPart c t (fault_at kind.BadTemplate t c.place [])
   a_shallow_variable : {t : Tree} {l : Label} {depth : ℕ} → IsBoundAt c t l c.level depth → 1 ≤ depth → IsBadPart c t (fault_at kind.BadTemplate t c.place [])
   a_distant_variable : {span : Option Span} {x : List ℕ} {k : LeafContext} {l : Label} {level depth : ℕ}
-      → IsBoundAt c (leaf span x k) l level depth → (level ≡ c.level → ⊥) → IsBadPart c (leaf span x k) (fault_at kind.OutOfContext (leaf span x k) c.place (x ∷ []))
+      → IsBoundAt c (leaf span x k) l level depth → (level ≡ c.level → ⊥)
+      → IsBadPart c (leaf span x k) (fault_at kind.OutOfContext (leaf span x k) c.place (x ∷ []))
   too_large : {t : Tree} → IsBadPart c t (fault_at kind.TooDeep t c.place [])
 
 pub record IsBadTemplate (c : TemplateScope) (t : Tree) (f : Fault) : Type 0 where

@@ -58,4 +58,5 @@ leaves-rise own first P rises = record {
   later = λ m n le. leaves_wider (P m) (P n) (λ c h. rises.later m n c le h);
   temporaries = λ m n low lt. rises.temporary m n low lt;
   code = λ n p A h. h.1;
+  template = λ n x A h. h;
 }

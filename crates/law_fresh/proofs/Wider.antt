@@ -38,7 +38,7 @@ module _ (P Q : LeafContext → Type 0) (more_met : (c : LeafContext) → P c �
     patterns_wider (pattern.dots p ps) h = (pattern_wider p h.0, patterns_wider ps h.1)
 
   pub leaves_wider : Wider (leaves P) (leaves Q)
-  leaves_wider = record { atoms = λ x h. h; symbols = λ s h. h; texts = λ s h. h; trees = tree_wider; constants = λ d h. h; clauses = λ p A B f h. (pattern_wider p h.0, f h.1) }
+  leaves_wider = record { atoms = λ x h. h; symbols = λ s h. h; texts = λ s h. h; trees = tree_wider; constants = λ d h. h; clauses = λ p A B f h. (pattern_wider p h.0, f h.1); templates = λ x A B f h. f h }
 
   pub value_wider : (v : Value) → ValueHolds P v → ValueHolds Q v
   value_wider v h = invariants.value_wider (leaves P) (leaves Q) leaves_wider v h

@@ -36,12 +36,15 @@ pub record HasNoOthers (there : LeafContext → Bool) (own : LibName) (w : Plain
 -- Each leaf of a value that an evaluation comes to, and each leaf in the cells then, was in the code, the arguments, the cells or the
 -- variables of libraries, or it is a temporary of a name that the evaluation took.
 pub record LeavesWereThere : Type 0 where
-  pub expressions : (there : LeafContext → Bool) (own : LibName) (w : PlainSetting) (c : PlainCore) (scope : Place) (s : WorldState) (n : ℕ) → HasNoOthers there own w s
+  pub expressions : (there : LeafContext → Bool) (own : LibName) (w : PlainSetting) (c : PlainCore) (scope : Place) (s : WorldState)
+      (n : ℕ) → HasNoOthers there own w s
       → CoreHolds (WasThere there) c → OutcomeHolds own (WasThereOrNew there own s.names.number) s.names.number (eval_of w c scope s n)
   pub calls : (there : LeafContext → Bool) (own : LibName) (w : PlainSetting) (vs : List Value) (s : WorldState) (n : ℕ) → HasNoOthers there own w s
       → ValuesHold (WasThere there) vs → OutcomeHolds own (WasThereOrNew there own s.names.number) s.names.number (applied w (eval_of w) vs s n)
-  pub libraries : (there : LeafContext → Bool) (own : LibName) (w : PlainSetting) (ls : List Line) (scope : Place) (s : WorldState) (n : ℕ) → HasNoOthers there own w s
+  pub libraries : (there : LeafContext → Bool) (own : LibName) (w : PlainSetting) (ls : List Line) (scope : Place) (s : WorldState) (n : ℕ)
+      → HasNoOthers there own w s
       → LinesHold (WasThere there) ls → OutcomeHolds own (WasThereOrNew there own s.names.number) s.names.number (lines_from (eval_of w) ls scope s n)
   -- and each leaf of a tree that is read of a value was in it or in the cells
-  pub trees : (there : LeafContext → Bool) (cells : List Cell) (v : Value) (fuel left : ℕ) (t : Tree) → CellsHold (WasThere there) cells → ValueHolds (WasThere there) v
+  pub trees : (there : LeafContext → Bool) (cells : List Cell) (v : Value) (fuel left : ℕ) (t : Tree) → CellsHold (WasThere there) cells
+      → ValueHolds (WasThere there) v
       → to_syntax cells v fuel ≡ Ok (t, left) → TreeHolds (WasThere there) t

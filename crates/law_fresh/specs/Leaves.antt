@@ -47,6 +47,7 @@ module _ (P : LeafContext → Type 0) where
     trees = TreeHolds;
     constants = λ d. Unit {0};
     clauses = λ p A. PatternHolds p × A;
+    templates = λ x A. A;
   }
 
   abbrev pub ValueHolds : Value → Type 0

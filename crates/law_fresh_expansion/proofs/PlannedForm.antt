@@ -1,4 +1,4 @@
--- Forms are settled, and all forms keep that all in the state of an expansion may be met.
+-- Uses in forms are expanded, and all forms keep that all in the state of an expansion may be met.
 use Rattle.std.proofs.Common.{ℕ, zero, suc, Bool, true, false, List, Option, None, Some, arith}
 use Rattle.std.specs.Prelude.{nat_lt}
 use Rattle.base_data.specs.Act.{after, give}

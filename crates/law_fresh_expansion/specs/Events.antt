@@ -43,11 +43,13 @@ HasKnownEvents libs own n c = HasEvents (IsKnown libs own n) (IsKnownFrame libs 
 -- leaves have one, all that it comes to from these, and those that it puts into its record.
 pub record EventsStay : Type 0 where
   pub around_keeps : (libs : List LibName) (own : LibName) (go : Inside) → Among libs library.Core → IsNewAmong libs own
-      → KeepsFresh own (IsKnown libs own) (IsKnownFrame libs own) (HasKnownEvents libs own) go → KeepsFresh own (IsKnown libs own) (IsKnownFrame libs own) (HasKnownEvents libs own) (around go)
+      → KeepsFresh own (IsKnown libs own) (IsKnownFrame libs own) (HasKnownEvents libs own) go
+      → KeepsFresh own (IsKnown libs own) (IsKnownFrame libs own) (HasKnownEvents libs own) (around go)
   pub inside_keeps : (libs : List LibName) (own : LibName) (records : List CompiledLibrary) (room : ℕ) → Among libs library.Core → IsNewAmong libs own
       → KeepsFresh own (IsKnown libs own) (IsKnownFrame libs own) (HasKnownEvents libs own) (inside records room)
   pub starts : (own : LibName) (records : List CompiledLibrary) (imports : List (List ℕ × Label)) (codes : Codes) → IsNewAmong (libraries_of records) own
       → Each (RecordHasOnly HasEvents (libraries_of records)) records → CodesHold (HasOnly HasEvents (libraries_of records)) codes
-      → FreshStateHolds own (IsKnown (libraries_of records) own) (HasKnownEvents (libraries_of records) own) (started own records imports codes).names.number (started own records imports codes)
+      → FreshStateHolds own (IsKnown (libraries_of records) own) (HasKnownEvents (libraries_of records) own)
+      (started own records imports codes).names.number (started own records imports codes)
       × RecordsHold (HasKnownEvents (libraries_of records) own (started own records imports codes).names.number) records
   pub records : RecordsKeep HasEvents

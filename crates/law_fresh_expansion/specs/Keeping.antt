@@ -27,11 +27,15 @@ use Rattle.law_fresh_expansion.specs.States.{RecordsHold, FreshStateHolds}
 -- What is done with forms, behind some records, keeps that all in the state may be met, frees no name that was taken, and gives no leaf that
 -- may not be met then; where that is so of the state, the records and the forms that it begins with.
 pub record KeepsFresh (own : LibName) (K : ℕ → Mark → Type 0) (J : ℕ → FrameNo → Type 0) (P : ℕ → LeafContext → Type 0) (go : Inside) : Type 0 where
-  pub form : (place : Span) (level depth : ℕ) (t : Tree) (s u : State) (c : PlainCore) → FreshStateHolds own K P s.names.number s → RecordsHold (P s.names.number) go.earlier → TreeHolds (P s.names.number) t
+  pub form : (place : Span) (level depth : ℕ) (t : Tree) (s u : State) (c : PlainCore) → FreshStateHolds own K P s.names.number s
+      → RecordsHold (P s.names.number) go.earlier → TreeHolds (P s.names.number) t
       → go.form place level depth t s ≡ Ok (c, u) → FreshStateHolds own K P s.names.number u × CoreHolds (P u.names.number) c
-  pub procedure : (place : Span) (level depth : ℕ) (t : Tree) (ids : FormalIds) (forms : List Tree) (s u : State) (c : Lambda) → FreshStateHolds own K P s.names.number s → RecordsHold (P s.names.number) go.earlier
-      → FormalsHold (P s.names.number) ids → TreesHold (P s.names.number) forms → go.procedure place level depth t ids forms s ≡ Ok (c, u) → FreshStateHolds own K P s.names.number u × CoreHolds (P u.names.number) c.body
-  pub item : (at : BodyAt) (depth : ℕ) (d e : Taken) (t : Tree) (s u : State) → FreshStateHolds own K P s.names.number s → RecordsHold (P s.names.number) go.earlier → TakenHolds (P s.names.number) d → TreeHolds (P s.names.number) t → J s.names.number at.frame
+  pub procedure : (place : Span) (level depth : ℕ) (t : Tree) (ids : FormalIds) (forms : List Tree) (s u : State) (c : Lambda)
+      → FreshStateHolds own K P s.names.number s → RecordsHold (P s.names.number) go.earlier
+      → FormalsHold (P s.names.number) ids → TreesHold (P s.names.number) forms → go.procedure place level depth t ids forms s ≡ Ok (c, u)
+      → FreshStateHolds own K P s.names.number u × CoreHolds (P u.names.number) c.body
+  pub item : (at : BodyAt) (depth : ℕ) (d e : Taken) (t : Tree) (s u : State) → FreshStateHolds own K P s.names.number s
+      → RecordsHold (P s.names.number) go.earlier → TakenHolds (P s.names.number) d → TreeHolds (P s.names.number) t → J s.names.number at.frame
       → go.item at depth d t s ≡ Ok (e, u) → FreshStateHolds own K P s.names.number u × TakenHolds (P u.names.number) e
 
 -- what is done with forms round others
@@ -42,11 +46,15 @@ around go = record { earlier = go.earlier; form = form_at go; procedure = lambda
 -- done with these that keeps it; so each state with which a form inside is begun is such a one. And it is kept however deep forms nest.
 pub record MarksStayKnown : Type 0 where
   pub around_keeps : (libs : List LibName) (own : LibName) (go : Inside) → Among libs library.Core
-      → KeepsFresh own (IsKnown libs own) (IsKnownFrame libs own) (HasKnown libs own) go → KeepsFresh own (IsKnown libs own) (IsKnownFrame libs own) (HasKnown libs own) (around go)
-  pub inside_keeps : (libs : List LibName) (own : LibName) (records : List CompiledLibrary) (room : ℕ) → Among libs library.Core → KeepsFresh own (IsKnown libs own) (IsKnownFrame libs own) (HasKnown libs own) (inside records room)
+      → KeepsFresh own (IsKnown libs own) (IsKnownFrame libs own) (HasKnown libs own) go
+      → KeepsFresh own (IsKnown libs own) (IsKnownFrame libs own) (HasKnown libs own) (around go)
+  pub inside_keeps : (libs : List LibName) (own : LibName) (records : List CompiledLibrary) (room : ℕ) → Among libs library.Core
+      → KeepsFresh own (IsKnown libs own) (IsKnownFrame libs own) (HasKnown libs own) (inside records room)
 
 -- So it is kept that each leaf has a history: what it was made as, and then one enter, leave or stamp after another, with known marks and frames.
 pub record HistoriesStay : Type 0 where
   pub around_keeps : (libs : List LibName) (own : LibName) (go : Inside) → Among libs library.Core
-      → KeepsFresh own (IsKnown libs own) (IsKnownFrame libs own) (HasKnownHistory libs own) go → KeepsFresh own (IsKnown libs own) (IsKnownFrame libs own) (HasKnownHistory libs own) (around go)
-  pub inside_keeps : (libs : List LibName) (own : LibName) (records : List CompiledLibrary) (room : ℕ) → Among libs library.Core → KeepsFresh own (IsKnown libs own) (IsKnownFrame libs own) (HasKnownHistory libs own) (inside records room)
+      → KeepsFresh own (IsKnown libs own) (IsKnownFrame libs own) (HasKnownHistory libs own) go
+      → KeepsFresh own (IsKnown libs own) (IsKnownFrame libs own) (HasKnownHistory libs own) (around go)
+  pub inside_keeps : (libs : List LibName) (own : LibName) (records : List CompiledLibrary) (room : ℕ) → Among libs library.Core
+      → KeepsFresh own (IsKnown libs own) (IsKnownFrame libs own) (HasKnownHistory libs own) (inside records room)

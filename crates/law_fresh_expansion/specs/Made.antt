@@ -19,4 +19,5 @@ StampedByMade own n c = Each (λ (t : Stamp). IsMade own n t.frame) c.stamps
 -- A tree with known marks and frames is such a one: a frame that is made later is on none of its leaves, so no row that comes into it changes
 -- what they stand for.
 abbrev pub StampsAreMade : Type 0
-StampsAreMade = (libs : List LibName) (own : LibName) (n : ℕ) (t : Tree) → IsNewAmong libs own → TreeHolds (HasKnown libs own n) t → TreeHolds (StampedByMade own n) t
+StampsAreMade = (libs : List LibName) (own : LibName) (n : ℕ) (t : Tree) → IsNewAmong libs own → TreeHolds (HasKnown libs own n) t
+    → TreeHolds (StampedByMade own n) t

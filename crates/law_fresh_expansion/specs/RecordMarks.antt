@@ -41,8 +41,10 @@ abbrev pub KnownBy : ((Mark → Type 0) → (FrameNo → Type 0) → LeafContext
 KnownBy Q libs own n c = Q (IsKnown libs own n) (IsKnownFrame libs own n) c
 
 abbrev pub StartsKnownBy : ((Mark → Type 0) → (FrameNo → Type 0) → LeafContext → Type 0) → Type 0
-StartsKnownBy Q = (own : LibName) (records : List CompiledLibrary) (imports : List (List ℕ × Label)) (codes : Codes) → Each (RecordHasOnly Q (libraries_of records)) records → CodesHold (HasOnly Q (libraries_of records)) codes
-    → FreshStateHolds own (IsKnown (libraries_of records) own) (KnownBy Q (libraries_of records) own) (started own records imports codes).names.number (started own records imports codes)
+StartsKnownBy Q = (own : LibName) (records : List CompiledLibrary) (imports : List (List ℕ × Label)) (codes : Codes)
+    → Each (RecordHasOnly Q (libraries_of records)) records → CodesHold (HasOnly Q (libraries_of records)) codes
+    → FreshStateHolds own (IsKnown (libraries_of records) own) (KnownBy Q (libraries_of records) own)
+    (started own records imports codes).names.number (started own records imports codes)
     × RecordsHold (KnownBy Q (libraries_of records) own (started own records imports codes).names.number) records
 
 -- Behind records with no other marks and frames than those of their libraries and of the implementation, and codes of texts without others,
@@ -56,8 +58,10 @@ abbrev pub WasRead : Tree → Type 0
 WasRead t = TreeHolds (λ c. c ≡ blank) t
 
 abbrev pub RecordsKeep : ((Mark → Type 0) → (FrameNo → Type 0) → LeafContext → Type 0) → Type 0
-RecordsKeep Q = (own : LibName) (path : List ℕ) (records : List CompiledLibrary) (imports : List (List ℕ × Label)) (version : List ℕ) (place : Span) (exports : List (List ℕ × Tree)) (forms : List Tree) (codes : Codes) (r : CompiledLibrary)
-    → IsNewAmong (libraries_of records) own → Each (RecordHasOnly Q (libraries_of records)) records → CodesHold (HasOnly Q (libraries_of records)) codes → Each WasRead forms
+RecordsKeep Q = (own : LibName) (path : List ℕ) (records : List CompiledLibrary) (imports : List (List ℕ × Label)) (version : List ℕ)
+    (place : Span) (exports : List (List ℕ × Tree)) (forms : List Tree) (codes : Codes) (r : CompiledLibrary)
+    → IsNewAmong (libraries_of records) own → Each (RecordHasOnly Q (libraries_of records)) records
+    → CodesHold (HasOnly Q (libraries_of records)) codes → Each WasRead forms
     → library_record (ready own path records imports codes) records version place exports forms ≡ Ok r → RecordHasOnly Q (own ∷ libraries_of records) r
 
 -- Where the marks and frames in the records before are of their libraries or of the implementation, and so are those in the codes of texts, those

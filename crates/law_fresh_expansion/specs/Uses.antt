@@ -39,11 +39,15 @@ pub record IsNewIn (m : Mark) (s : State) : Type 0 where
 pub record UsesTakeNewMarks : Type 0 where
   -- A use of a keyword transforms the form under the mark of the name that is next when the transformer is there. This mark is new then, on
   -- the stage and in the form.
-  pub keywords : (libs : List LibName) (own : LibName) (place : Span) (records : List CompiledLibrary) (t : Tree) (l : Label) (e : Option PlainCore) (frame : Option FrameNo) (g h : PlainStage) (v : Value) → Among libs library.Core → (Among libs own → ⊥)
-      → StageHolds own (IsKnown libs own) (HasKnown libs own) g.names.number g → RecordsHold (HasKnown libs own g.names.number) records → ExpressionHolds (HasKnown libs own g.names.number) e → TreeHolds (HasKnown libs own g.names.number) t
+  pub keywords : (libs : List LibName) (own : LibName) (place : Span) (records : List CompiledLibrary) (t : Tree) (l : Label)
+      (e : Option PlainCore) (frame : Option FrameNo) (g h : PlainStage) (v : Value) → Among libs library.Core → (Among libs own → ⊥)
+      → StageHolds own (IsKnown libs own) (HasKnown libs own) g.names.number g → RecordsHold (HasKnown libs own g.names.number) records
+      → ExpressionHolds (HasKnown libs own g.names.number) e → TreeHolds (HasKnown libs own g.names.number) t
       → keyword_value place records l e g ≡ Ok (v, h)
-      → (used place records t l e frame g ≡ transform_marked place v t frame (record { 0 = h.names }) (record h { names = name_after h.names })) × (IsNewOn (record { 0 = h.names }) h × Untouched (record { 0 = h.names }) t)
+      → (used place records t l e frame g ≡ transform_marked place v t frame (record { 0 = h.names })
+      (record h { names = name_after h.names })) × (IsNewOn (record { 0 = h.names }) h × Untouched (record { 0 = h.names }) t)
   -- A use of a record form is read under the mark of the next name, which is new in the state and in the form.
   pub records : (libs : List LibName) (own : LibName) (place : Span) (t : Tree) (f : CoreForm) (frame : Option FrameNo) (s : State) → (Among libs own → ⊥)
       → FreshStateHolds own (IsKnown libs own) (HasKnown libs own) s.names.number s → TreeHolds (HasKnown libs own s.names.number) t
-      → (use_record place t f frame s ≡ record_marked place t f frame (record { 0 = s.names }) (record s { names = name_after s.names })) × (IsNewIn (record { 0 = s.names }) s × Untouched (record { 0 = s.names }) t)
+      → (use_record place t f frame s ≡ record_marked place t f frame (record { 0 = s.names }) (record s { names = name_after s.names }))
+      × (IsNewIn (record { 0 = s.names }) s × Untouched (record { 0 = s.names }) t)

@@ -45,9 +45,9 @@ use Rattle.law_invariants.specs.Stages.{RecordsHold}
 use Rattle.law_invariants.specs.Invariant.{OptionHolds}
 use Rattle.law_invariant_expansion.proofs.Items.{WaitsAt, WaitingAt, TakenAt}
 use Rattle.law_invariant_expansion.proofs.Shapes.{FormalsHold, LambdaHolds, PatternCaseHolds}
-use Rattle.law_invariant_expansion.proofs.Standing.{F, Ts, C, Gave, gave-after, gave-if, gave-each, gave-gather, gave-within, gave-apart, counted-holds, SpecAt, BoundHolds, bind-formals-holds, bind-specs-holds, bind-keywords-holds, finish-keyword-holds, pattern-holds, literals-hold, bind-pattern-holds}
+use Rattle.law_invariant_expansion.proofs.Standing.{F, Ts, C, Gave, gave-after, gave-if, gave-each, gave-gather, gave-within, gave-apart, counted-holds, SpecAt, BoundHolds, bind-formals-holds, bind-specs-holds, bind-keywords-holds, finish-keyword-holds, PatternAt, pattern-holds, literals-hold, bind-pattern-holds}
 use Rattle.law_invariants.specs.Invariant.{Invariant}
-use Rattle.law_invariant_expansion.specs.Kept.{IsKeptByExpansion}
+use Rattle.law_invariant_expansion.specs.Kept.{IsPattern, IsKeptByExpansion}
 
 module _ (I : Invariant) (kept : IsKeptByExpansion I) where
   abbrev pub CaseAt : Lambda → Type 0
@@ -89,15 +89,15 @@ module _ (I : Invariant) (kept : IsKeptByExpansion I) where
   inits-hold (i ∷ is) h = (h.0, inits-hold is h.1)
 
   abbrev ClauseAt : Clause → Type 0
-  ClauseAt c = OptionHolds (C I kept) c.fender × C I kept c.output
+  ClauseAt c = IsPattern I c.pattern × (OptionHolds (C I kept) c.fender × C I kept c.output)
 
   clauses-hold : (cs : List Clause) → Each ClauseAt cs → ClausesHold I (clauses cs)
   clauses-hold [] h = tt
-  clauses-hold (c ∷ cs) h = by c.fender h.0.0 (clauses-hold cs h.1)
+  clauses-hold (c ∷ cs) h = by c.fender h.0.1.0 (clauses-hold cs h.1)
     where
       by : (o : Option PlainCore) → OptionHolds (C I kept) o → ClausesHold I (clauses cs) → ClausesHold I (clauses (record c { fender = o } ∷ cs))
-      by None k j = kept.clauses c.pattern (CoreHolds I c.output × ClausesHold I (clauses cs)) (h.0.1, j)
-      by (Some f) k j = kept.clauses c.pattern (CoreHolds I f × (CoreHolds I c.output × ClausesHold I (clauses cs))) (k, (h.0.1, j))
+      by None k j = kept.clauses c.pattern (CoreHolds I c.output × ClausesHold I (clauses cs)) h.0.0 (h.0.1.1, j)
+      by (Some f) k j = kept.clauses c.pattern (CoreHolds I f × (CoreHolds I c.output × ClausesHold I (clauses cs))) h.0.0 (k, (h.0.1.1, j))
 
   abbrev pub LineAt : Line → Type 0
   LineAt x = LineHolds I x
@@ -290,7 +290,7 @@ module _ (I : Invariant) (kept : IsKeptByExpansion I) where
 
     clause-in-holds : (place : Span) (level depth : ℕ) (literals : List Tree) (c : PatternCase) (f : FrameNo) (s : State) → F I kept s → PatternCaseHolds I kept.built.closed c → Gave I kept ClauseAt (clause_in go place level depth literals c f s)
     clause-in-holds place level depth literals c f s h k =
-        gave-after I kept Any ClauseAt (pattern_of literals place c.pattern s) _ (pattern-holds I kept literals place c.pattern s h)
+        gave-after I kept (PatternAt I kept) ClauseAt (pattern_of literals place c.pattern s) _ (pattern-holds I kept literals place c.pattern s h k.0)
         (λ p t i y. let ht = i in
         gave-after I kept Any ClauseAt (bind_pattern f place level p.variables t) _ (bind-pattern-holds I kept f place level p.variables t ht)
         (λ x u j z. let hu = j in
@@ -298,7 +298,7 @@ module _ (I : Invariant) (kept : IsKeptByExpansion I) where
         (λ e v q a. let hv = q in
         gave-after I kept (C I kept) ClauseAt (go.form place level depth (stamp f c.output) v) (λ o. give (record { pattern = p.pattern; fender = e; output = o }))
         (keeps.form place level depth (stamp f c.output) v hv (kept.steady.changed (change.Stamp f ∷ []) c.output k.1.1))
-        (λ o w b d. (b, (a, d))))))
+        (λ o w b d. (b, (y, (a, d)))))))
 
     abbrev PatternCaseAt : PatternCase → Type 0
     PatternCaseAt c = PatternCaseHolds I kept.built.closed c

@@ -26,7 +26,7 @@ use Rattle.expand_quasi.specs.Parts.{part, with_made, quasi_parts, all_quasi_par
 use Rattle.expand_quasi.specs.declared.form.QuasiForm.{QuasiForm}
 use Rattle.expand_quasi.specs.declared.form.QuasiForm.TheVariants as forms
 use Rattle.expand_quasi.specs.declared.parts.PartForm.{PartForm}
-use Rattle.std.specs.Prelude.{nat_lt}
+use Rattle.std.specs.Prelude.{nat_lt, ◌≤◌}
 use Rattle.core_shapes.specs.At.{place_of}
 use Rattle.expand_standing.specs.Binders.{put_row}
 use Rattle.expand_standing.specs.Patterns.{bind_pattern, template_of}
@@ -35,13 +35,13 @@ use Rattle.expand_heads.specs.Depth.{deeper, most_round}
 use Rattle.expand_forms.specs.Inside.{Inside}
 use Rattle.expand_forms.specs.Quasi.{part_core, parts_in_order, quasi_made, quasi_form}
 use Rattle.eval_value.specs.Cells.{Each}
-use Rattle.law_invariants.specs.Holds.{CoresHold, TemplateHolds}
+use Rattle.law_invariants.specs.Holds.{CoresHold}
 use Rattle.law_invariants.proofs.Eachs.{each_and}
 use Rattle.law_invariants.proofs.Trees.{OkHolds}
 use Rattle.law_invariant_expansion.proofs.Forms.{Keeps}
 use Rattle.law_invariant_expansion.proofs.Quasi.{QuasiHolds, QuasisHold, quasi-holds}
 use Rattle.law_invariant_expansion.proofs.QuasiSyntax.{quasi-syntax-holds}
-use Rattle.law_invariant_expansion.proofs.Standing.{F, C, Gave, gave-after, gave-each, gave-within, counted-holds, put-row-holds, template-holds, bind-pattern-holds}
+use Rattle.law_invariant_expansion.proofs.Standing.{F, C, Gave, gave-after, gave-each, gave-within, counted-holds, put-row-holds, TemplateAt, template-holds, bind-pattern-holds}
 use Rattle.law_invariants.specs.Invariant.{Invariant}
 use Rattle.law_invariant_expansion.specs.Kept.{IsKeptByExpansion}
 
@@ -53,7 +53,11 @@ module _ (I : Invariant) (kept : IsKeptByExpansion I) where
   Cs cs = Each (C I kept) cs
 
   abbrev InsertAt : Insert → Type 0
-  InsertAt i = I.trees i.leaf × I.trees i.expression
+  InsertAt i = I.trees i.leaf × (I.trees i.expression × (i.depth ≤ 1))
+
+  -- under one ellipsis at most
+  abbrev VariableAt : PatternVariable → Type 0
+  VariableAt v = v.depth ≤ 1
 
   -- what a form comes to
   abbrev pub FormAt : QuasiForm → Type 0
@@ -102,7 +106,7 @@ module _ (I : Invariant) (kept : IsKeptByExpansion I) where
 
   insert-parts-hold : (depth : ℕ) (is : List Insert) → Each InsertAt is → Each PartAt (map (insert_part depth) is)
   insert-parts-hold depth [] h = tt
-  insert-parts-hold depth (i ∷ is) h = (h.0.1, insert-parts-hold depth is h.1)
+  insert-parts-hold depth (i ∷ is) h = (h.0.1.0, insert-parts-hold depth is h.1)
 
   inserts-parts-hold : (t : Tree) (depth : ℕ) (is : List Insert) → I.trees t → Each InsertAt is → Each PartAt (inserts_parts t depth is)
   inserts-parts-hold t depth [] h k = with-made-holds t depth [] h tt
@@ -143,15 +147,15 @@ module _ (I : Invariant) (kept : IsKeptByExpansion I) where
 
   -- Inserts.
 
-  insert-variable-holds : (i : Insert) (s : State) → F I kept s → InsertAt i → Gave I kept Any (insert_variable i s)
+  insert-variable-holds : (i : Insert) (s : State) → F I kept s → InsertAt i → Gave I kept VariableAt (insert_variable i s)
   unfolding fresh
-  insert-variable-holds i s h k = (counted-holds I kept s h, tt)
+  insert-variable-holds i s h k = (counted-holds I kept s h, k.1.1)
 
-  insert-variables-hold : (is : List Insert) (s : State) → F I kept s → Each InsertAt is → Gave I kept (λ vs. Each (Any {A = PatternVariable}) vs) (insert_variables is s)
-  insert-variables-hold is s h k = gave-each I kept InsertAt (Any {A = PatternVariable}) insert_variable (λ i t j y. insert-variable-holds i t j y) [] is s h tt k
+  insert-variables-hold : (is : List Insert) (s : State) → F I kept s → Each InsertAt is → Gave I kept (λ vs. Each VariableAt vs) (insert_variables is s)
+  insert-variables-hold is s h k = gave-each I kept InsertAt VariableAt insert_variable (λ i t j y. insert-variable-holds i t j y) [] is s h tt k
 
-  match-holds : (vs : List PatternVariable) (x : PlainTemplate) (span : Span) (cs : List PlainCore) → TemplateHolds I x → Cs cs → C I kept (match_of vs x span cs)
-  match-holds vs x span cs h k = ((tt, cores-hold cs k), kept.clauses _ (TemplateHolds I x × Unit {0}) (h, tt))
+  match-holds : (vs : List PatternVariable) (x : PlainTemplate) (span : Span) (cs : List PlainCore) → Each VariableAt vs → TemplateAt I kept x → Cs cs → C I kept (match_of vs x span cs)
+  match-holds vs x span cs few h k = ((tt, cores-hold cs k), kept.inserts vs (TemplateAt I kept x × Unit {0}) few (h, tt))
 
   module _ (place : Span) (level : ℕ) (t : Tree) where
     bind-inserts-hold : (f : FrameNo) (vs : List PatternVariable) (s : State) → F I kept s → Gave I kept Any (bind_inserts f place level vs s)
@@ -160,13 +164,13 @@ module _ (I : Invariant) (kept : IsKeptByExpansion I) where
 
     inserted-in-holds : (q : QuasiSyntax) (cs : List PlainCore) (f : FrameNo) (s : State) → F I kept s → I.trees q.template → Each InsertAt q.inserts → Cs cs → Gave I kept (C I kept) (inserted_in place level t q cs f s)
     inserted-in-holds q cs f s h k g j =
-        gave-after I kept (λ vs. Each (Any {A = PatternVariable}) vs) (C I kept) (insert_variables q.inserts s) _ (insert-variables-hold q.inserts s h g)
+        gave-after I kept (λ vs. Each VariableAt vs) (C I kept) (insert_variables q.inserts s) _ (insert-variables-hold q.inserts s h g)
         (λ vs u i y. let hu = i in
         gave-after I kept Any (C I kept) (bind_inserts f place level vs u) _ (bind-inserts-hold f vs u hu)
         (λ x v a b. let hv = a in
-        gave-after I kept (λ x. TemplateHolds I x) (C I kept) (template_of place level (stamp f q.template) v) (λ x. give (match_of vs x (place_of t place) cs))
+        gave-after I kept (TemplateAt I kept) (C I kept) (template_of place level (stamp f q.template) v) (λ x. give (match_of vs x (place_of t place) cs))
         (template-holds I kept place level (stamp f q.template) v hv (kept.steady.changed (change.Stamp f ∷ []) q.template k))
-        (λ x w c d. (c, match-holds vs x (place_of t place) cs d j))))
+        (λ x w c d. (c, match-holds vs x (place_of t place) cs y d j))))
 
     inserted-holds : (q : QuasiSyntax) (cs : List PlainCore) (s : State) → F I kept s → I.trees q.template → Each InsertAt q.inserts → Cs cs → Gave I kept (C I kept) (inserted place level t q cs s)
     unfolding inserted fresh_frame
@@ -182,7 +186,7 @@ module _ (I : Invariant) (kept : IsKeptByExpansion I) where
     code-holds (forms.Syntax q) cs s h k j = by q.inserts
       where
         by : (is : List Insert) → Gave I kept (C I kept) (syntax_code place level t q cs is s)
-        by [] = gave-after I kept (λ x. TemplateHolds I x) (C I kept) (template_of place level q.template s) (λ x. give (instance x (place_of t place))) (template-holds I kept place level q.template s h k.0) (λ x u i y. (i, y))
+        by [] = gave-after I kept (TemplateAt I kept) (C I kept) (template_of place level q.template s) (λ x. give (instance x (place_of t place))) (template-holds I kept place level q.template s h k.0) (λ x u i y. (i, y))
         by (i ∷ is) = inserted-holds q cs s h k.0 k.1 j
 
     module _ (go : Inside) (keeps : Keeps I kept go) where

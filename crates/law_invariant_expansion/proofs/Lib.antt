@@ -1,4 +1,5 @@
 pub mod Shapes
+pub mod RecordForms
 pub mod Templates
 pub mod Quasi
 pub mod QuasiSyntax

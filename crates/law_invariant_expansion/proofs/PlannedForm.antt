@@ -1,4 +1,4 @@
--- Forms and items are settled and done with, and what lies inside forms keeps an invariant.
+-- The uses in forms and items are expanded, forms and items are done with, and what lies inside forms keeps an invariant.
 use Rattle.std.proofs.Common.{ℕ, zero, suc, Bool, true, false, List, Option, None, Some}
 use Rattle.std.specs.Prelude.{nat_lt}
 use Rattle.base_data.specs.Act.{after, give}

@@ -30,11 +30,10 @@ use Rattle.expand_heads.specs.Plan.{done, variable_at, refer, reference, constan
 use Rattle.expand_heads.specs.declared.plan.Plan.{Plan}
 use Rattle.expand_heads.specs.declared.plan.Plan.TheVariants as plans
 use Rattle.eval_value.specs.Cells.{Each}
-use Rattle.law_invariants.specs.Holds.{TemplateHolds}
 use Rattle.law_invariants.specs.Invariant.{OptionHolds}
 use Rattle.law_invariants.proofs.Trees.{OkHolds}
 use Rattle.law_invariant_expansion.proofs.Shapes.{FormalsHold, LambdaHolds, PatternCaseHolds, ShapeHolds, proper-holds, shape-holds}
-use Rattle.law_invariant_expansion.proofs.Standing.{F, Ts, C, Gave, gave-after, gave-if, SpecAt, template-holds}
+use Rattle.law_invariant_expansion.proofs.Standing.{F, Ts, C, Gave, gave-after, gave-if, SpecAt, TemplateAt, template-holds}
 use Rattle.law_invariants.specs.Invariant.{Invariant}
 use Rattle.law_invariant_expansion.specs.Kept.{IsKeptByExpansion}
 
@@ -146,7 +145,7 @@ module _ (I : Invariant) (kept : IsKeptByExpansion I) where
 
     operand-holds : (t : Tree) (f : CoreForm) (operand : Tree) → I.trees operand → Planned (operand_plan place level t f operand s)
     operand-holds t core_forms.Syntax operand k =
-        gave-after I kept (λ x. TemplateHolds I x) PlanAt (template_of place level operand s) (λ x. done (instance x (place_of t place))) (template-holds I kept place level operand s h k) (λ x u i y. (i, y))
+        gave-after I kept (TemplateAt I kept) PlanAt (template_of place level operand s) (λ x. done (instance x (place_of t place))) (template-holds I kept place level operand s h k) (λ x u i y. (i, y))
     operand-holds t core_forms.Quasiquote operand k = (as-it-is, k)
     operand-holds t core_forms.Quasisyntax operand k = (as-it-is, k)
     operand-holds t _ operand k = tt

@@ -1,6 +1,6 @@
 -- The template and the inserts of a `quasisyntax` form are kept where the form is.
-use Rattle.std.proofs.Common.{ℕ, zero, suc, ◌-◌, Bool, true, false, List, [], ◌∷◌, ◌++◌, length, take, drop, Option, None, Some, Result, Ok, Err, if◌then◌else◌}
-use Rattle.std.specs.Prelude.{◌||◌}
+use Rattle.std.proofs.Common.{ℕ, zero, suc, ◌-◌, Bool, true, false, List, [], ◌∷◌, ◌++◌, length, take, drop, Option, None, Some, Result, Ok, Err, arith, if◌then◌else◌}
+use Rattle.std.specs.Prelude.{◌||◌, ◌≤◌}
 use Rattle.base_data.specs.Gives.{◌>>=◌}
 use Rattle.base_data.specs.declared.fault.Bare.{Bare}
 use Rattle.base_data.specs.declared.span.Span.{Span}
@@ -32,7 +32,7 @@ use Rattle.law_invariant_expansion.specs.Kept.{IsBuilt}
 
 module _ (I : Invariant) (built : IsBuilt I) (of_insert : (k : ℕ) → I.trees (insert_leaf k)) where
   abbrev pub InsertHolds : Insert → Type 0
-  InsertHolds i = I.trees i.leaf × I.trees i.expression
+  InsertHolds i = I.trees i.leaf × (I.trees i.expression × (i.depth ≤ 1))
 
   abbrev Is : List Insert → Type 0
   Is is = Each InsertHolds is
@@ -54,8 +54,8 @@ module _ (I : Invariant) (built : IsBuilt I) (of_insert : (k : ℕ) → I.trees 
   both-if Q true r q h k = h
   both-if Q false r q h k = k
 
-  insert-holds : (depth : ℕ) (e : Tree) (is : List Insert) → I.trees e → InsertHolds (insert depth e is)
-  insert-holds depth e is h = (of_insert _, h)
+  insert-holds : (depth : ℕ) (e : Tree) (is : List Insert) → depth ≤ 1 → I.trees e → InsertHolds (insert depth e is)
+  insert-holds depth e is few h = (of_insert _, (h, few))
 
   abbrev TreesBoth : List Tree × List Insert → Type 0
   TreesBoth p = Each I.trees p.0 × Is p.1
@@ -63,13 +63,13 @@ module _ (I : Invariant) (built : IsBuilt I) (of_insert : (k : ℕ) → I.trees 
   leaves-hold : (ts es : List Tree) (is : List Insert) → Each I.trees ts → Each I.trees es → Is is → TreesBoth (leaves ts es is)
   leaves-hold ts [] is h k j = (h, j)
   leaves-hold ts (e ∷ es) is h k j =
-      leaves-hold (ts ++ insert_leaf (length is) ∷ []) es (is ++ insert 0 e is ∷ []) (each_and I.trees ts (insert_leaf (length is)) h (of_insert _)) k.1 (each_and InsertHolds is (insert 0 e is) j (insert-holds 0 e is k.0))
+      leaves-hold (ts ++ insert_leaf (length is) ∷ []) es (is ++ insert 0 e is ∷ []) (each_and I.trees ts (insert_leaf (length is)) h (of_insert _)) k.1 (each_and InsertHolds is (insert 0 e is) j (insert-holds 0 e is (omega arith) k.0))
 
   spliced-hold : (dots : Tree) → I.trees dots → (ts es : List Tree) (is : List Insert) → Each I.trees ts → Each I.trees es → Is is → TreesBoth (spliced dots ts es is)
   spliced-hold dots d ts [] is h k j = (h, j)
   spliced-hold dots d ts (e ∷ es) is h k j =
       spliced-hold dots d ((ts ++ insert_leaf (length is) ∷ []) ++ dots ∷ []) es (is ++ insert 1 e is ∷ [])
-      (each_and I.trees (ts ++ insert_leaf (length is) ∷ []) dots (each_and I.trees ts (insert_leaf (length is)) h (of_insert _)) d) k.1 (each_and InsertHolds is (insert 1 e is) j (insert-holds 1 e is k.0))
+      (each_and I.trees (ts ++ insert_leaf (length is) ∷ []) dots (each_and I.trees ts (insert_leaf (length is)) h (of_insert _)) d) k.1 (each_and InsertHolds is (insert 1 e is) j (insert-holds 1 e is (omega arith) k.0))
 
   abbrev RowHolds : QuasiRow → Type 0
   RowHolds r = Each I.trees r.trees
@@ -125,7 +125,7 @@ module _ (I : Invariant) (built : IsBuilt I) (of_insert : (k : ℕ) → I.trees 
 
     or-bad-holds : (o : Option Tree) (is : List Insert) → OptionHolds I.trees o → Is is → Both BegunHolds (operand_or_bad o is)
     or-bad-holds None is h j = tt
-    or-bad-holds (Some e) is h j = (of_insert _, each_and InsertHolds is (insert 0 e is) j (insert-holds 0 e is h))
+    or-bad-holds (Some e) is h j = (of_insert _, each_and InsertHolds is (insert 0 e is) j (insert-holds 0 e is (omega arith) h))
 
     begun-holds : (o : Option Tree) (row : Inserts QuasiRow) (x : Reach) (is : List Insert) → OptionHolds I.trees o → Both RowHolds (row is) → Is is → Both BegunHolds (begun_by o row x is)
     begun-holds o row reached.Operand is h k j = or-bad-holds o is h j

@@ -1,5 +1,5 @@
 -- Binders, keywords, uses, templates and patterns keep an invariant.
-use Rattle.std.proofs.Common.{◌+◌, ℕ, Bool, true, false, List, [], ◌∷◌, ◌++◌, length, Option, None, Some, Result, Ok, Err, if◌then◌else◌}
+use Rattle.std.proofs.Common.{◌+◌, ℕ, Bool, true, false, List, [], ◌∷◌, ◌++◌, length, Option, None, Some, Result, Ok, Err, refl, ◌≡◌, if◌then◌else◌}
 use Rattle.base_data.specs.Act.{after, give, each, gather}
 use Rattle.base_data.specs.Named.{Named}
 use Rattle.base_data.specs.declared.fault.Bare.{Bare}
@@ -56,7 +56,7 @@ use Rattle.law_invariants.proofs.Steady.{GaveStage, begin-holds, finish-holds, a
 use Rattle.law_invariant_expansion.proofs.Shapes.{FormalsHold, SpecHolds}
 use Rattle.law_invariant_expansion.proofs.Templates as of_templates
 use Rattle.law_invariants.specs.Invariant.{Invariant}
-use Rattle.law_invariant_expansion.specs.Kept.{IsKeptByExpansion}
+use Rattle.law_invariant_expansion.specs.Kept.{IsPattern, IsKeptByExpansion}
 use Rattle.stx_tree.specs.Tree.{Tree, atom, leaf, pair, vector, span_of}
 use Rattle.stx_scope.specs.Stands.{symbol_of, row_for}
 
@@ -294,27 +294,44 @@ module _ (I : Invariant) (kept : IsKeptByExpansion I) where
 
   -- Templates and patterns.
 
-  pub template-holds : (place : Span) (level : ℕ) (t : Tree) (s : State) → F s → I.trees t → Gave (λ x. TemplateHolds I x) (template_of place level t s)
-  unfolding template_of
-  template-holds place level t s h k =
-      by (templates.compiled (record { frames = s.frames; bindings = s.bindings; level = level; place = place }) t) (of_templates.compiled-holds I kept.built (record { frames = s.frames; bindings = s.bindings; level = level; place = place }) t k)
+  -- of a template's trees, and of the template
+  abbrev pub TemplateAt : PlainTemplate → Type 0
+  TemplateAt x = I.templates x (TemplateHolds I x)
+
+  template-in-holds : (c : templates.TemplateScope) (place : Span) (t : Tree) (s : State) → F s → I.trees t → Gave TemplateAt (template_in place t s (templates.compiled c t))
+  template-in-holds c place t s h k = by (templates.compiled c t) refl (of_templates.compiled-holds I kept.built c t k)
     where
-      outside : (o : Option Tree) → Gave (λ (x : PlainTemplate). TemplateHolds I x) (outside_fault place t o s)
+      outside : (o : Option Tree) → Gave TemplateAt (outside_fault place t o s)
       outside None = tt
       outside (Some id) = tt
 
-      by : (r : Result PlainTemplate Fault) → OkHolds (TemplateHolds I) r → Gave (λ x. TemplateHolds I x) (template_in place t s r)
-      by (Err f) j = tt
-      by (Ok x) j = gave-if (λ x. TemplateHolds I x) (has_variables s.scope x) (Ok (x, s)) (outside_fault place t (first_outside s t) s) (h, j) (outside (first_outside s t))
+      by : (r : Result PlainTemplate Fault) → templates.compiled c t ≡ r → OkHolds (TemplateHolds I) r → Gave TemplateAt (template_in place t s r)
+      by (Err f) e j = tt
+      by (Ok x) e j =
+          gave-if TemplateAt (has_variables s.scope x) (Ok (x, s)) (outside_fault place t (first_outside s t) s) (h, kept.templates c t x (TemplateHolds I x) k e j) (outside (first_outside s t))
+
+  pub template-holds : (place : Span) (level : ℕ) (t : Tree) (s : State) → F s → I.trees t → Gave TemplateAt (template_of place level t s)
+  unfolding template_of
+  template-holds place level t s h k = template-in-holds (record { frames = s.frames; bindings = s.bindings; level = level; place = place }) place t s h k
+
+  -- the pattern of a form, behind which names were taken
+  abbrev pub PatternAt : Compiled → Type 0
+  PatternAt m = IsPattern I m.pattern
+
+  pattern-named-holds : (c : patterns.PatternScope) (t : Tree) (names : Named) (s : State) → F s → I.trees t → Gave PatternAt (staged s (stage_patterns.named (stage_of s) (patterns.compiled c t names)))
+  pattern-named-holds c t names s h k = by (patterns.compiled c t names) refl
+    where
+      by : (r : Result (Compiled × Named) Fault) → patterns.compiled c t names ≡ r → Gave PatternAt (staged s (stage_patterns.named (stage_of s) r))
+      by (Err f) e = tt
+      by (Ok p) e = (
+        record { stage = record { cells = h.stage.cells; codes = h.stage.codes; globals = h.stage.globals; keywords = h.stage.keywords }; bindings = h.bindings },
+        record { scope = c; form = t; names = names; compiled = p; holds = k; made = e; is = refl },
+      )
 
   -- a pattern takes names, and changes nothing else
-  pub pattern-holds : (literals : List Tree) (place : Span) (t : Tree) (s : State) → F s → Gave Taken (pattern_of literals place t s)
+  pub pattern-holds : (literals : List Tree) (place : Span) (t : Tree) (s : State) → F s → I.trees t → Gave PatternAt (pattern_of literals place t s)
   unfolding stage_patterns.pattern_of
-  pattern-holds literals place t s h = by (patterns.compiled (record { frames = s.frames; literals = literals; place = place }) t s.names)
-    where
-      by : (r : Result (Compiled × Named) Fault) → Gave Taken (staged s (stage_patterns.named (stage_of s) r))
-      by (Err f) = tt
-      by (Ok p) = (record { stage = record { cells = h.stage.cells; codes = h.stage.codes; globals = h.stage.globals; keywords = h.stage.keywords }; bindings = h.bindings }, tt)
+  pattern-holds literals place t s h k = pattern-named-holds (record { frames = s.frames; literals = literals; place = place }) t s.names s h k
 
   pub literals-hold : (literals : List Tree) (place : Span) (s : State) → F s → Gave Taken (check_literals place literals s)
   unfolding stage_patterns.check_literals

@@ -26,11 +26,13 @@ pub record AreKeptByForms (t : Tests) : Type 0 where
   pub built : IsBuilt (passing t)
   pub insert : (k : ℕ) → IsTrue (t.trees (insert_leaf k))
   pub ellipsis : IsTrue (t.trees dots)
-  pub records : (fs : Scope) (u : Tree) (f : CoreForm) (place : Span) (own : LibName) (count : ℕ) → IsTrue (t.trees u) → OkHolds (λ (v : Tree). IsTrue (t.trees v)) (record_forms fs u f place (record_uid own u count))
+  pub records : (fs : Scope) (u : Tree) (f : CoreForm) (place : Span) (own : LibName) (count : ℕ) → IsTrue (t.trees u)
+      → OkHolds (λ (v : Tree). IsTrue (t.trees v)) (record_forms fs u f place (record_uid own u count))
 
 -- If the forms of a library pass, the records before it and the codes of texts, so does its record: the constants of its lines and of its keywords'
 -- expressions, and the symbols of its variables.
 abbrev pub ExpansionKeeps : Type 0
-ExpansionKeeps = (t : Tests) (own : LibName) (path : List ℕ) (records : List CompiledLibrary) (imports : List (List ℕ × Label)) (version : List ℕ) (place : Span) (exports : List (List ℕ × Tree)) (forms : List Tree) (codes : Codes) (r : CompiledLibrary)
+ExpansionKeeps = (t : Tests) (own : LibName) (path : List ℕ) (records : List CompiledLibrary) (imports : List (List ℕ × Label))
+    (version : List ℕ) (place : Span) (exports : List (List ℕ × Tree)) (forms : List Tree) (codes : Codes) (r : CompiledLibrary)
     → AreKeptByForms t → Each (RecordHolds (passing t)) records → CodesHold (passing t) codes → Each (λ (u : Tree). IsTrue (t.trees u)) forms
     → library_record (ready own path records imports codes) records version place exports forms ≡ Ok r → RecordHolds (passing t) r

@@ -20,5 +20,7 @@ module _ (I : Invariant) where
 
   -- Where it holds of the forms of a library, of the trees of the records before and of those in the codes of texts, it holds of those of its record.
   abbrev pub RecordsStay : Type 0
-  RecordsStay = (own : LibName) (path : List ℕ) (records : List CompiledLibrary) (imports : List (List ℕ × Label)) (version : List ℕ) (place : Span) (exports : List (List ℕ × Tree)) (forms : List Tree) (codes : Codes) (r : CompiledLibrary)
-      → Each RecordHolds records → CodesHold I codes → Each I.trees forms → library_record (ready own path records imports codes) records version place exports forms ≡ Ok r → RecordHolds r
+  RecordsStay = (own : LibName) (path : List ℕ) (records : List CompiledLibrary) (imports : List (List ℕ × Label)) (version : List ℕ)
+      (place : Span) (exports : List (List ℕ × Tree)) (forms : List Tree) (codes : Codes) (r : CompiledLibrary)
+      → Each RecordHolds records → CodesHold I codes → Each I.trees forms
+      → library_record (ready own path records imports codes) records version place exports forms ≡ Ok r → RecordHolds r

@@ -5,7 +5,7 @@ use Rattle.law_invariants.specs.Steady.{IsSteady}
 use Rattle.law_invariants.proofs.Steady.{GaveStage, holds-eval, holds-call, holds-lines, used-holds}
 
 pub steady : (t : Tests) → AreKept t → IsSteady (passing t)
-steady t k = record { closed = k.closed; temporaries = k.temporaries; changed = k.changed; code = λ p A h. h; clauses = λ p A B f h. f h }
+steady t k = record { closed = k.closed; temporaries = k.temporaries; changed = k.changed; code = λ p A h. h; clauses = λ p A B f h. f h; template = λ x A h. h; templates = λ x A B f h. f h }
 
 pub keeps : EvaluationKeeps
 keeps = record {

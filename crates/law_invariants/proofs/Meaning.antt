@@ -413,7 +413,7 @@ module _ (own : LibName) (m : ℕ) (I : ℕ → Invariant) (rises : Rises own m 
       holds-expressed (letrec star is c) scope s n k h = holds-letrec star is c scope s n k.0 k.1 h
       holds-expressed (call c cs) scope s n k h =
           holds-then s.names.number (E c scope s n) (λ f. operands w E cs scope (f ∷ [])) (always c scope s n k.0 h) (λ f t left i j. holds-operands cs scope (f ∷ []) t left k.1 (from s t h i) (j, tt))
-      holds-expressed (instance t sp) scope s n k h = holds-instanced t scope s n (state-self m s h) (template_wider (I m) (I s.names.number) (rise m s.names.number h.up) t k)
+      holds-expressed (instance t sp) scope s n k h = holds-instanced t scope s n (state-self m s h) (template_wider (I m) (I s.names.number) (rise m s.names.number h.up) t (rises.template m t (TemplateHolds (I m) t) k))
       holds-expressed (matching c cs sp) scope s n k h =
           holds-then s.names.number (E c scope s n) (λ v. tried w E cs v scope) (always c scope s n k.0 h)
           (λ v t left i j. holds-tried t.names.number cs v (omega (arith, h.up, i.up)) k.1 j scope t left (state-self s.names.number t i))

@@ -136,7 +136,7 @@ module _ (own : LibName) (K : ℕ → Mark → Type 0) (I : ℕ → Invariant) (
   ended-holds place m g unfit h k = tt
 
   rises-from : (n : ℕ) → Rises own n I
-  rises-from n = record { closed = alive.rises.closed; later = alive.rises.later; temporaries = λ a b low lt. alive.rises.temporaries a b (omega arith) lt; code = alive.rises.code }
+  rises-from n = record { closed = alive.rises.closed; later = alive.rises.later; temporaries = λ a b low lt. alive.rises.temporaries a b (omega arith) lt; code = alive.rises.code; template = alive.rises.template }
 
   setting-holds : (m : ℕ) (codes : Codes) (g : PlainStage) → G m g → CodesHold (I g.names.number) codes → SettingHolds (I g.names.number) (setting_on codes g)
   setting-holds m codes g h k = record { codes = k; globals = h.globals }

@@ -53,10 +53,10 @@ module _ (I : Invariant) (steady : IsSteady I) where
   Same n = I
 
   same : Wider I I
-  same = record { atoms = λ x h. h; symbols = λ s h. h; texts = λ s h. h; trees = λ t h. h; constants = λ d h. h; clauses = steady.clauses }
+  same = record { atoms = λ x h. h; symbols = λ s h. h; texts = λ s h. h; trees = λ t h. h; constants = λ d h. h; clauses = steady.clauses; templates = steady.templates }
 
   pub rises : (own : LibName) (first : ℕ) → Rises own first Same
-  rises own first = record { closed = λ n. steady.closed; later = λ m n le. same; temporaries = λ m n low lt. steady.temporaries (record { library = own; number = m }); code = λ n. steady.code }
+  rises own first = record { closed = λ n. steady.closed; later = λ m n le. same; temporaries = λ m n low lt. steady.temporaries (record { library = own; number = m }); code = λ n. steady.code; template = λ n. steady.template }
 
   -- Evaluations.
 

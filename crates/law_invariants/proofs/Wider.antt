@@ -82,7 +82,7 @@ module _ (I J : Invariant) (wider : Wider I J) where
     core_wider (procedure number cs plain) h = cases_wider cs h
     core_wider (letrec o is c) h = (inits_wider is h.0, core_wider c h.1)
     core_wider (call c cs) h = (core_wider c h.0, cores_wider cs h.1)
-    core_wider (instance t s) h = template_wider t h
+    core_wider (instance t s) h = wider.templates t (TemplateHolds I t) (TemplateHolds J t) (template_wider t) h
     core_wider (matching c cs s) h = (core_wider c h.0, clauses_wider cs h.1)
 
     pub cores_wider : (cs : PlainCores) → CoresHold I cs → CoresHold J cs

@@ -13,6 +13,7 @@ use Rattle.stx_tree.specs.Measures.{within}
 use Rattle.stx_tree.specs.Tree as tree
 use Rattle.stx_tree.specs.Tree.{Tree, rest_of, list_of, vector_of}
 use Rattle.core_language.specs.Pattern.{PlainPattern}
+use Rattle.core_language.specs.Template.{PlainTemplate}
 use Rattle.eval_value.specs.Cells.{Each}
 use Rattle.eval_prims.specs.Characters.{is_scalar}
 use Rattle.eval_prims.specs.Numbers.{is_small}
@@ -59,6 +60,7 @@ pub record Wider (I J : Invariant) : Type 1 where
   pub trees : (t : Tree) → I.trees t → J.trees t
   pub constants : (d : PlainDatum) → I.constants d → J.constants d
   pub clauses : (p : PlainPattern) (A B : Type 0) → (A → B) → I.clauses p A → J.clauses p B
+  pub templates : (x : PlainTemplate) (A B : Type 0) → (A → B) → I.templates x A → J.templates x B
 
 -- Such an invariant before each name of a library is taken: what held before holds later, and of temporaries of the names from a first one on.
 pub record Rises (own : LibName) (first : ℕ) (I : ℕ → Invariant) : Type 1 where
@@ -66,3 +68,4 @@ pub record Rises (own : LibName) (first : ℕ) (I : ℕ → Invariant) : Type 1 
   pub later : (m n : ℕ) → m ≤ n → Wider (I m) (I n)
   pub temporaries : (m n : ℕ) → first ≤ m → m < n → (I n).trees (temporary (record { library = own; number = m }))
   pub code : (n : ℕ) (p : PlainPattern) (A : Type 0) → (I n).clauses p A → A
+  pub template : (n : ℕ) (x : PlainTemplate) (A : Type 0) → (I n).templates x A → A

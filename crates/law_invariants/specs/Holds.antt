@@ -82,7 +82,7 @@ module _ (I : Invariant) where
     CoreHolds (procedure number cs plain) = CasesHold cs
     CoreHolds (letrec o is c) = InitsHold is × CoreHolds c
     CoreHolds (call c cs) = CoreHolds c × CoresHold cs
-    CoreHolds (instance t s) = TemplateHolds t
+    CoreHolds (instance t s) = I.templates t (TemplateHolds t)
     CoreHolds (matching c cs s) = CoreHolds c × ClausesHold cs
 
     pub CoresHold : PlainCores → Type 0

@@ -45,6 +45,7 @@ passing t = record {
   trees = λ u. IsTrue (t.trees u);
   constants = λ d. IsTrue (t.constants d);
   clauses = λ p A. A;
+  templates = λ x A. A;
 }
 
 -- Primitives make what passes of what passes; temporaries pass, and so do trees with other marks and stamps.
@@ -54,11 +55,14 @@ pub record AreKept (t : Tests) : Type 0 where
   pub changed : (cs : List Change) (u : Tree) → IsTrue (t.trees u) → IsTrue (t.trees (changed cs u))
 
 pub record EvaluationKeeps : Type 0 where
-  pub expressions : (t : Tests) (w : PlainSetting) (c : PlainCore) (scope : Place) (s : WorldState) (n : ℕ) → AreKept t → SettingHolds (passing t) w → SteadyState (passing t) s
+  pub expressions : (t : Tests) (w : PlainSetting) (c : PlainCore) (scope : Place) (s : WorldState) (n : ℕ) → AreKept t
+      → SettingHolds (passing t) w → SteadyState (passing t) s
       → CoreHolds (passing t) c → SteadyOutcome (passing t) (eval_of w c scope s n)
   pub calls : (t : Tests) (w : PlainSetting) (vs : List Value) (s : WorldState) (n : ℕ) → AreKept t → SettingHolds (passing t) w → SteadyState (passing t) s
       → ValuesHold (passing t) vs → SteadyOutcome (passing t) (applied w (eval_of w) vs s n)
-  pub libraries : (t : Tests) (w : PlainSetting) (ls : List Line) (scope : Place) (s : WorldState) (n : ℕ) → AreKept t → SettingHolds (passing t) w → SteadyState (passing t) s
+  pub libraries : (t : Tests) (w : PlainSetting) (ls : List Line) (scope : Place) (s : WorldState) (n : ℕ) → AreKept t
+      → SettingHolds (passing t) w → SteadyState (passing t) s
       → LinesHold (passing t) ls → SteadyOutcome (passing t) (lines_from (eval_of w) ls scope s n)
   pub uses : (t : Tests) (place : Span) (rs : List CompiledLibrary) (u v : Tree) (l : Label) (e : Option PlainCore) (f : Option FrameNo) (g h : PlainStage) → AreKept t → SteadyStage (passing t) g
-      → RecordsHold (passing t) rs → ExpressionHolds (passing t) e → IsTrue (t.trees u) → used place rs u l e f g ≡ Ok (v, h) → IsTrue (t.trees v) × SteadyStage (passing t) h
+      → RecordsHold (passing t) rs → ExpressionHolds (passing t) e → IsTrue (t.trees u) → used place rs u l e f g ≡ Ok (v, h)
+      → IsTrue (t.trees v) × SteadyStage (passing t) h

@@ -6,6 +6,7 @@ use Rattle.stx_tree.specs.Changes.{changed}
 use Rattle.stx_tree.specs.Tree.{Tree}
 use Rattle.stx_tree.specs.declared.change.Change.{Change}
 use Rattle.core_language.specs.Pattern.{PlainPattern}
+use Rattle.core_language.specs.Template.{PlainTemplate}
 use Rattle.eval_value.specs.Cells.{Each}
 use Rattle.eval_prims.specs.Perform.{temporary}
 use Rattle.eval_code.specs.State.{WorldState, Outcome, done, faulted, unfit}
@@ -23,6 +24,8 @@ pub record IsSteady (I : Invariant) : Type 1 where
   pub changed : (cs : List Change) (t : Tree) → I.trees t → I.trees (changed cs t)
   pub code : (p : PlainPattern) (A : Type 0) → I.clauses p A → A
   pub clauses : (p : PlainPattern) (A B : Type 0) → (A → B) → I.clauses p A → I.clauses p B
+  pub template : (x : PlainTemplate) (A : Type 0) → I.templates x A → A
+  pub templates : (x : PlainTemplate) (A B : Type 0) → (A → B) → I.templates x A → I.templates x B
 
 module _ (I : Invariant) where
   abbrev pub SteadyState : WorldState → Type 0

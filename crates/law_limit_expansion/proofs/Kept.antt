@@ -26,5 +26,7 @@ module _ (T : Tree → Type 0) (lawful : IsLawful T) where
     insert = λ k. lawful.leaves None _ _;
     ellipsis = lawful.leaves None _ _;
     records = λ fs t f place own count h. record-holds T lawful fs t f place (record_uid own t count);
-    clauses = λ p A h. h;
+    clauses = λ p A m h. h;
+    inserts = λ vs A d h. h;
+    templates = λ c t x A h e k. k;
   }

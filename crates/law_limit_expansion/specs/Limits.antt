@@ -15,5 +15,7 @@ use Rattle.eval_value.specs.Cells.{Each}
 -- Where each form of a library, and each tree in the records before and in the codes of texts, is at most 1,000 high and has at most 16,777,216 parts,
 -- so is each tree in its record; and each constant there is the datum of such a tree.
 abbrev pub RecordsStayWithin : Type 0
-RecordsStayWithin = (own : LibName) (path : List ℕ) (records : List CompiledLibrary) (imports : List (List ℕ × Label)) (version : List ℕ) (place : Span) (exports : List (List ℕ × Tree)) (forms : List Tree) (codes : Codes) (r : CompiledLibrary)
-    → Each (RecordHolds Fits) records → CodesHold Fits codes → Each Fits forms → library_record (ready own path records imports codes) records version place exports forms ≡ Ok r → RecordHolds Fits r
+RecordsStayWithin = (own : LibName) (path : List ℕ) (records : List CompiledLibrary) (imports : List (List ℕ × Label)) (version : List ℕ)
+    (place : Span) (exports : List (List ℕ × Tree)) (forms : List Tree) (codes : Codes) (r : CompiledLibrary)
+    → Each (RecordHolds Fits) records → CodesHold Fits codes → Each Fits forms
+    → library_record (ready own path records imports codes) records version place exports forms ≡ Ok r → RecordHolds Fits r

@@ -44,4 +44,4 @@ module _ (T : Tree → Type 0) (lawful : IsLawful T) where
   }
 
   pub trees-steady : IsSteady (trees T)
-  trees-steady = record { closed = trees-closed; temporaries = λ n. lawful.leaves None _ _; changed = lawful.changed; code = λ p A h. h; clauses = λ p A B f h. f h }
+  trees-steady = record { closed = trees-closed; temporaries = λ n. lawful.leaves None _ _; changed = lawful.changed; code = λ p A h. h; clauses = λ p A B f h. f h; template = λ x A h. h; templates = λ x A B f h. f h }

@@ -24,6 +24,7 @@ module _ (T : Tree → Type 0) where
     trees = T;
     constants = DatumHolds;
     clauses = λ p A. A;
+    templates = λ x A. A;
   }
 
   abbrev pub TemplateHolds : PlainTemplate → Type 0

@@ -18,4 +18,5 @@ use Rattle.law_limits.specs.Stages.{ExpressionHolds, RecordsHold, StageHolds}
 pub record UsesStayWithin : Type 0 where
   pub uses : (place : Span) (rs : List CompiledLibrary) (t : Tree) (l : Label) (e : Option PlainCore) (f : Option FrameNo) (g h : PlainStage) (u : Tree) → StageHolds Fits g → RecordsHold Fits rs → ExpressionHolds Fits e → Fits t
       → used place rs t l e f g ≡ Ok (u, h) → Fits u × StageHolds Fits h
-  pub definitions : (place : Span) (rs : List CompiledLibrary) (l : Label) (c : PlainCore) (g h : PlainStage) → StageHolds Fits g → RecordsHold Fits rs → CoreHolds Fits c → evaluate_transformer place rs l c g ≡ Ok (tt, h) → StageHolds Fits h
+  pub definitions : (place : Span) (rs : List CompiledLibrary) (l : Label) (c : PlainCore) (g h : PlainStage) → StageHolds Fits g
+      → RecordsHold Fits rs → CoreHolds Fits c → evaluate_transformer place rs l c g ≡ Ok (tt, h) → StageHolds Fits h

@@ -107,4 +107,4 @@ changed-holds xs (pair s a d) h = (changed-holds xs a h.0, changed-holds xs d h.
 changed-holds xs (vector s d) h = (changed-holds xs d h.0, changed-proper xs d h.1)
 
 pub readable-steady : IsSteady readable
-readable-steady = record { closed = readable-closed; temporaries = λ n. temp_name; changed = changed-holds; code = λ p A h. h; clauses = λ p A B f h. f h }
+readable-steady = record { closed = readable-closed; temporaries = λ n. temp_name; changed = changed-holds; code = λ p A h. h; clauses = λ p A B f h. f h; template = λ x A h. h; templates = λ x A B f h. f h }

@@ -23,16 +23,21 @@ use Rattle.law_readable.specs.Readable.{ReadableDatum, ReadableTree, ReadableVal
 
 -- what a primitive makes
 abbrev pub PrimitivesMakeReadables : Type 0
-PrimitivesMakeReadables = (op : ℕ) (args : List Value) (cells : List Cell) (frames : Scope) (name : Named) (m : PrimResult) → ReadableCells cells → ReadableValues args → delta op args cells frames ≡ Ok m
+PrimitivesMakeReadables = (op : ℕ) (args : List Value) (cells : List Cell) (frames : Scope) (name : Named) (m : PrimResult)
+    → ReadableCells cells → ReadableValues args → delta op args cells frames ≡ Ok m
     → ReadableValue (performed m name cells).0 × ReadableCells (performed m name cells).1
 
 -- what expressions, calls and the lines of libraries come to
 pub record ReadablesStay : Type 0 where
-  pub expressions : (w : PlainSetting) (c : PlainCore) (scope : Place) (s : WorldState) (n : ℕ) → ReadableSetting w → ReadableState s → ReadableCore c → ReadableOutcome (eval_of w c scope s n)
-  pub calls : (w : PlainSetting) (vs : List Value) (s : WorldState) (n : ℕ) → ReadableSetting w → ReadableState s → ReadableValues vs → ReadableOutcome (applied w (eval_of w) vs s n)
-  pub libraries : (w : PlainSetting) (ls : List Line) (scope : Place) (s : WorldState) (n : ℕ) → ReadableSetting w → ReadableState s → ReadableLines ls → ReadableOutcome (lines_from (eval_of w) ls scope s n)
+  pub expressions : (w : PlainSetting) (c : PlainCore) (scope : Place) (s : WorldState) (n : ℕ) → ReadableSetting w → ReadableState s
+      → ReadableCore c → ReadableOutcome (eval_of w c scope s n)
+  pub calls : (w : PlainSetting) (vs : List Value) (s : WorldState) (n : ℕ) → ReadableSetting w → ReadableState s → ReadableValues vs
+      → ReadableOutcome (applied w (eval_of w) vs s n)
+  pub libraries : (w : PlainSetting) (ls : List Line) (scope : Place) (s : WorldState) (n : ℕ) → ReadableSetting w → ReadableState s
+      → ReadableLines ls → ReadableOutcome (lines_from (eval_of w) ls scope s n)
   -- and the trees that values are read as
-  pub trees : (cells : List Cell) (v : Value) (fuel left : ℕ) (t : Tree) → ReadableCells cells → ReadableValue v → to_syntax cells v fuel ≡ Ok (t, left) → ReadableTree t
+  pub trees : (cells : List Cell) (v : Value) (fuel left : ℕ) (t : Tree) → ReadableCells cells → ReadableValue v
+      → to_syntax cells v fuel ≡ Ok (t, left) → ReadableTree t
 
 -- Such a datum is read back from its text, where some number of forms may be nested.
 abbrev pub ReadablesAreRead : Type 0

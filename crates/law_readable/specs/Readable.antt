@@ -62,6 +62,7 @@ readable = record {
   trees = ReadableTree;
   constants = ReadableDatum;
   clauses = λ p A. A;
+  templates = λ x A. A;
 }
 
 abbrev pub ReadableValue : Value → Type 0

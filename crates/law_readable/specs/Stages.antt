@@ -34,4 +34,5 @@ ReadableStage = SteadyStage readable
 pub record UsesMakeReadables : Type 0 where
   pub uses : (place : Span) (rs : List CompiledLibrary) (t : Tree) (l : Label) (e : Option PlainCore) (f : Option FrameNo) (g h : PlainStage) (u : Tree) → ReadableStage g → ReadableRecords rs → ReadableExpression e → ReadableTree t
       → used place rs t l e f g ≡ Ok (u, h) → ReadableTree u × ReadableStage h
-  pub definitions : (place : Span) (rs : List CompiledLibrary) (l : Label) (c : PlainCore) (g h : PlainStage) → ReadableStage g → ReadableRecords rs → ReadableCore c → evaluate_transformer place rs l c g ≡ Ok (tt, h) → ReadableStage h
+  pub definitions : (place : Span) (rs : List CompiledLibrary) (l : Label) (c : PlainCore) (g h : PlainStage) → ReadableStage g
+      → ReadableRecords rs → ReadableCore c → evaluate_transformer place rs l c g ≡ Ok (tt, h) → ReadableStage h

@@ -4,11 +4,12 @@ use Rattle.std.specs.Prelude.{codes}
 use Rattle.core_records.specs.Names.{record_uid}
 use Rattle.law_round.specs.Readable.{IsName}
 use Rattle.law_invariant_expansion.specs.Kept.{IsBuilt, IsKeptByExpansion}
+use Rattle.law_invariant_expansion.proofs.RecordForms.{record-holds}
 use Rattle.law_readable.specs.Readable.{readable}
 use Rattle.law_readable.proofs.Steady.{readable-closed, readable-steady}
 use Rattle.law_readable.proofs.Texts.{small_text}
 use Rattle.law_readable.proofs.Trees.{spanned_holds, unspanned_holds, strip_holds}
-use Rattle.law_readable_expansion.proofs.Records.{record-holds, uid-name}
+use Rattle.law_readable_expansion.proofs.Records.{introduces, uid-name}
 
 name-of-insert : IsName (118 ∷ [])
 name-of-insert = (small_text (118 ∷ []) refl, omega arith)
@@ -32,6 +33,8 @@ readable-kept = record {
   steady = readable-steady;
   insert = λ k. name-of-insert;
   ellipsis = name-of-dots;
-  records = λ fs t f place own count h. record-holds fs t f place (record_uid own t count) (uid-name own t count) h;
-  clauses = λ p A h. h;
+  records = λ fs t f place own count h. record-holds readable readable-built introduces fs t f place (record_uid own t count) (uid-name own t count) h;
+  clauses = λ p A m h. h;
+  inserts = λ vs A d h. h;
+  templates = λ c t x A h e k. k;
 }

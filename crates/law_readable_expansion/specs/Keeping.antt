@@ -20,10 +20,13 @@ use Rattle.law_readable_expansion.specs.States.{ReadableIn}
 -- What is done with forms, behind some records, keeps that all in the state can be read, and gives what can; where that is so of the state, the
 -- records and the forms that it begins with.
 pub record KeepsReadable (go : Inside) : Type 0 where
-  pub form : (place : Span) (level depth : ℕ) (t : Tree) (s u : State) (c : PlainCore) → ReadableIn s → ReadableRecords go.earlier → ReadableTree t → go.form place level depth t s ≡ Ok (c, u) → ReadableIn u × ReadableCore c
-  pub procedure : (place : Span) (level depth : ℕ) (t : Tree) (ids : FormalIds) (forms : List Tree) (s u : State) (c : Lambda) → ReadableIn s → ReadableRecords go.earlier → ReadableFormals ids → ReadableTrees forms
+  pub form : (place : Span) (level depth : ℕ) (t : Tree) (s u : State) (c : PlainCore) → ReadableIn s → ReadableRecords go.earlier
+      → ReadableTree t → go.form place level depth t s ≡ Ok (c, u) → ReadableIn u × ReadableCore c
+  pub procedure : (place : Span) (level depth : ℕ) (t : Tree) (ids : FormalIds) (forms : List Tree) (s u : State) (c : Lambda)
+      → ReadableIn s → ReadableRecords go.earlier → ReadableFormals ids → ReadableTrees forms
       → go.procedure place level depth t ids forms s ≡ Ok (c, u) → ReadableIn u × ReadableCore c.body
-  pub item : (at : BodyAt) (depth : ℕ) (d e : Taken) (t : Tree) (s u : State) → ReadableIn s → ReadableRecords go.earlier → ReadableTaken d → ReadableTree t → go.item at depth d t s ≡ Ok (e, u) → ReadableIn u × ReadableTaken e
+  pub item : (at : BodyAt) (depth : ℕ) (d e : Taken) (t : Tree) (s u : State) → ReadableIn s → ReadableRecords go.earlier → ReadableTaken d
+      → ReadableTree t → go.item at depth d t s ≡ Ok (e, u) → ReadableIn u × ReadableTaken e
 
 -- what is done with forms round others
 abbrev pub around : Inside → Inside

@@ -17,5 +17,7 @@ ReadableRecord = RecordHolds readable
 
 -- Where the forms of a library can be read, and so can all in the records before and in the codes of texts, so can all in its record.
 abbrev pub RecordsStayReadable : Type 0
-RecordsStayReadable = (own : LibName) (path : List ℕ) (records : List CompiledLibrary) (imports : List (List ℕ × Label)) (version : List ℕ) (place : Span) (exports : List (List ℕ × Tree)) (forms : List Tree) (codes : Codes) (r : CompiledLibrary)
-    → Each ReadableRecord records → ReadableCodes codes → Each ReadableTree forms → library_record (ready own path records imports codes) records version place exports forms ≡ Ok r → ReadableRecord r
+RecordsStayReadable = (own : LibName) (path : List ℕ) (records : List CompiledLibrary) (imports : List (List ℕ × Label)) (version : List ℕ)
+    (place : Span) (exports : List (List ℕ × Tree)) (forms : List Tree) (codes : Codes) (r : CompiledLibrary)
+    → Each ReadableRecord records → ReadableCodes codes → Each ReadableTree forms
+    → library_record (ready own path records imports codes) records version place exports forms ≡ Ok r → ReadableRecord r

@@ -1,0 +1,11 @@
+pub mod Heights
+pub mod Patterns
+pub mod Nested
+pub mod Templates
+pub mod Rests
+pub mod Kept
+pub mod Rising
+pub mod SpelledTrees
+pub mod SpelledCode
+pub mod Recorded
+pub mod Having
