@@ -119,7 +119,8 @@ wide64 = record {
   below = λ bytes fits. omega (arith, fits 0, fits 1, fits 2, fits 3, fits 4, fits 5, fits 6, fits 7);
 }
 
-number_takes : (w : Width) (limit : ℕ) (wide : IsWide w limit) (bytes : List ℕ) (n : ℕ) (rest : List ℕ) → IsBytes bytes → (number w limit).get bytes ≡ Some (n, rest) → Takes bytes (to_be_bytes w n) rest × (nat_lt n limit ≡ true)
+number_takes : (w : Width) (limit : ℕ) (wide : IsWide w limit) (bytes : List ℕ) (n : ℕ) (rest : List ℕ) → IsBytes bytes
+    → (number w limit).get bytes ≡ Some (n, rest) → Takes bytes (to_be_bytes w n) rest × (nat_lt n limit ≡ true)
 number_takes w limit wide bytes n rest fits e =
     let g = unless (ltb (length bytes) (byte_len w)) (Some (from_be_bytes w (take (byte_len w) bytes), drop (byte_len w) bytes)) (n, rest) e in
     let long : byte_len w ≤ length bytes = ltb-false _ _ g.0 in
@@ -129,7 +130,8 @@ number_takes w limit wide bytes n rest fits e =
     let front : to_be_bytes w n ≡ take (byte_len w) bytes = rw (← n-is) (wide.back (take (byte_len w) bytes) (omega (arith, length-take (byte_len w) bytes)) (IsBytes-take (byte_len w) bytes fits)) in
     (record { parts = rw (front, ← rest-is) (sym (take-append-drop (byte_len w) bytes)); rest_fits = rw (← rest-is) (IsBytes-drop (byte_len w) bytes fits) }, lt-ltb _ _ (rw (← n-is) (wide.below (take (byte_len w) bytes) (IsBytes-take (byte_len w) bytes fits))))
 
-number_again : (w : Width) (limit : ℕ) (wide : IsWide w limit) (n : ℕ) (rest : List ℕ) → nat_lt n limit ≡ true → (number w limit).get (to_be_bytes w n ++ rest) ≡ Some (n, rest)
+number_again : (w : Width) (limit : ℕ) (wide : IsWide w limit) (n : ℕ) (rest : List ℕ) → nat_lt n limit ≡ true
+    → (number w limit).get (to_be_bytes w n ++ rest) ≡ Some (n, rest)
 number_again w limit wide n rest lt =
     let len = wide.len n in
     let long : ltb (length (to_be_bytes w n ++ rest)) (byte_len w) ≡ false = le-ltb _ _ (omega (arith, length-append (to_be_bytes w n) rest)) in
@@ -165,7 +167,8 @@ checked-lawful {A} p {c} l = record {
       rw (l.again x rest f.0) (rw f.1 refl);
 }
 
-pub mapped-lawful : {A B : Type 0} (to : B → A) (from : A → B) {c : Codec A} → ((x : A) → c.fits x ≡ true → to (from x) ≡ x) → ((y : B) → from (to y) ≡ y) → Lawful c → Lawful (mapped to from c)
+pub mapped-lawful : {A B : Type 0} (to : B → A) (from : A → B) {c : Codec A} → ((x : A) → c.fits x ≡ true → to (from x) ≡ x)
+    → ((y : B) → from (to y) ≡ y) → Lawful c → Lawful (mapped to from c)
 mapped-lawful {A} {B} to from {c} there back l = record {
   takes = λ bytes y rest fits e.
       let a = bind_some (c.get bytes) (λ x. Some (from x.0, x.1)) (y, rest) e in
@@ -175,7 +178,8 @@ mapped-lawful {A} {B} to from {c} there back l = record {
   again = λ y rest e. rw (l.again (to y) rest e) (rw (back y) refl);
 }
 
-pub found-lawful : {A B : Type 0} (to : B → A) (find : A → Option B) {c : Codec A} → ((x : A) (y : B) → find x ≡ Some y → to y ≡ x) → ((y : B) → find (to y) ≡ Some y) → Lawful c → Lawful (found to find c)
+pub found-lawful : {A B : Type 0} (to : B → A) (find : A → Option B) {c : Codec A} → ((x : A) (y : B) → find x ≡ Some y → to y ≡ x)
+    → ((y : B) → find (to y) ≡ Some y) → Lawful c → Lawful (found to find c)
 found-lawful {A} {B} to find {c} there back l = record {
   takes = λ bytes y rest fits e.
       let a = bind_some (c.get bytes) (λ x. find x.0 >>= λ z. Some (z, x.1)) (y, rest) e in
@@ -188,7 +192,8 @@ found-lawful {A} {B} to find {c} there back l = record {
 }
 
 pub seen_as-lawful : {A B : Type 0} (to : B → A) (from : A → B) (well : B → Bool) {c : Codec A}
-    → ((x : A) → c.fits x ≡ true → (to (from x) ≡ x) × (well (from x) ≡ true)) → ((y : B) → well y ≡ true → from (to y) ≡ y) → Lawful c → Lawful (seen_as to from well c)
+    → ((x : A) → c.fits x ≡ true → (to (from x) ≡ x) × (well (from x) ≡ true)) → ((y : B) → well y ≡ true → from (to y) ≡ y) → Lawful c
+    → Lawful (seen_as to from well c)
 seen_as-lawful {A} {B} to from well {c} there back l = record {
   takes = λ bytes y rest fits e.
       let a = bind_some (c.get bytes) (λ x. Some (from x.0, x.1)) (y, rest) e in
@@ -261,7 +266,8 @@ unfolding char
 char-lawful = checked-lawful is_char u32-lawful
 
 module _ {A : Type 0} {c : Codec A} (l : Lawful c) where
-  optional_takes : (bytes : List ℕ) (o : Option A) (rest : List ℕ) → IsBytes bytes → optional_get c.get bytes ≡ Some (o, rest) → Takes bytes (optional_put c.put o) rest × (optional_fits c.fits o ≡ true)
+  optional_takes : (bytes : List ℕ) (o : Option A) (rest : List ℕ) → IsBytes bytes → optional_get c.get bytes ≡ Some (o, rest)
+      → Takes bytes (optional_put c.put o) rest × (optional_fits c.fits o ≡ true)
   optional_takes [] o rest fits e = absurd cc
   optional_takes (t ∷ bytes) o rest fits e =
       let more : IsBytes bytes = λ i. fits (suc i) in
@@ -286,7 +292,8 @@ module _ {A : Type 0} {c : Codec A} (l : Lawful c) where
   pub optional-lawful : Lawful (optional c)
   optional-lawful = record { takes = optional_takes; again = optional_again }
 
-  some_take : (n : ℕ) (bytes : List ℕ) (xs : List A) (rest : List ℕ) → IsBytes bytes → some_get c.get n bytes ≡ Some (xs, rest) → Takes bytes (flat_map c.put xs) rest × (list_all c.fits xs ≡ true) × (length xs ≡ n)
+  some_take : (n : ℕ) (bytes : List ℕ) (xs : List A) (rest : List ℕ) → IsBytes bytes → some_get c.get n bytes ≡ Some (xs, rest)
+      → Takes bytes (flat_map c.put xs) rest × (list_all c.fits xs ≡ true) × (length xs ≡ n)
   unfolding some_get
   some_take zero bytes xs rest fits e =
       let made : List A × List ℕ = ([], bytes) in
@@ -331,7 +338,8 @@ pub record Again {A : Type 0} (d : Cases A) (k : ℕ) (x : A) (rest : List ℕ) 
   pub read : d.get k tag bytes ≡ Some (x, rest)
 
 pub record LawfulCases {A : Type 0} (d : Cases A) : Type 0 where
-  pub takes : (k t : ℕ) (bytes : List ℕ) (x : A) (rest : List ℕ) → IsBytes bytes → d.get k t bytes ≡ Some (x, rest) → Takes (t ∷ bytes) (d.put k x) rest × (d.fits x ≡ true)
+  pub takes : (k t : ℕ) (bytes : List ℕ) (x : A) (rest : List ℕ) → IsBytes bytes → d.get k t bytes ≡ Some (x, rest)
+      → Takes (t ∷ bytes) (d.put k x) rest × (d.fits x ≡ true)
   pub again : (k : ℕ) (x : A) (rest : List ℕ) → d.fits x ≡ true → Again d k x rest
 
 same_tag : (k : ℕ) → (k == k) ≡ true
@@ -377,7 +385,8 @@ module _ {A B : Type 0} {c : Codec A} {d : Cases B} (l : Lawful c) (m : LawfulCa
     again = either_again;
   }
 
-tagged_takes : {A : Type 0} {d : Cases A} → LawfulCases d → (bytes : List ℕ) (x : A) (rest : List ℕ) → IsBytes bytes → tagged_get d bytes ≡ Some (x, rest) → Takes bytes (d.put 0 x) rest × (d.fits x ≡ true)
+tagged_takes : {A : Type 0} {d : Cases A} → LawfulCases d → (bytes : List ℕ) (x : A) (rest : List ℕ) → IsBytes bytes
+    → tagged_get d bytes ≡ Some (x, rest) → Takes bytes (d.put 0 x) rest × (d.fits x ≡ true)
 tagged_takes m [] x rest fits e = absurd cc
 tagged_takes m (t ∷ bytes) x rest fits e = m.takes 0 t bytes x rest (λ i. fits (suc i)) e
 
@@ -389,7 +398,8 @@ tagged-lawful {A} {d} m = record {
 
 -- ---- all of the bytes
 
-pub all_takes : {A : Type 0} {c : Codec A} → Lawful c → (bytes : List ℕ) (x : A) → IsBytes bytes → all_of c bytes ≡ Some x → (bytes ≡ c.put x) × (c.fits x ≡ true)
+pub all_takes : {A : Type 0} {c : Codec A} → Lawful c → (bytes : List ℕ) (x : A) → IsBytes bytes → all_of c bytes ≡ Some x
+    → (bytes ≡ c.put x) × (c.fits x ≡ true)
 all_takes {A} {c} l bytes x fits e =
     let a = bind_some (c.get bytes) ended x e in
     let w = when (length a.0.1 == 0) (Some a.0.0) x a.2 in
@@ -403,7 +413,8 @@ all_again {A} {c} l x e =
     let read : c.get (c.put x) ≡ Some (x, []) = ap c.get (sym (append-nil (c.put x))) ∙ l.again x [] e in
     rw read refl
 
-pub is_found : {A : Type 0} {c : Codec A} → Lawful c → (bytes : List ℕ) (o : Option A) → IsBytes bytes → o ≡ all_of c bytes → IfSome o (λ x. (bytes ≡ c.put x) × (c.fits x ≡ true))
+pub is_found : {A : Type 0} {c : Codec A} → Lawful c → (bytes : List ℕ) (o : Option A) → IsBytes bytes → o ≡ all_of c bytes
+    → IfSome o (λ x. (bytes ≡ c.put x) × (c.fits x ≡ true))
 is_found l bytes None fits e = tt
 is_found l bytes (Some x) fits e = all_takes l bytes x fits (sym e)
 

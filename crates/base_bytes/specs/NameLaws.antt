@@ -27,7 +27,9 @@ name_back (n.User parts) = refl
 
 pub library-lawful : Lawful library
 unfolding library
-library-lawful = mapped-lawful _ _ (λ p e. name_there p) name_back (tagged-lawful (or-lawful unit-lawful (or-lawful unit-lawful (or-lawful unit-lawful (or-lawful unit-lawful (last-lawful (listed-lawful text-lawful)))))))
+library-lawful = mapped-lawful _ _ (λ p e. name_there p) name_back
+    (tagged-lawful (or-lawful unit-lawful (or-lawful unit-lawful
+    (or-lawful unit-lawful (or-lawful unit-lawful (last-lawful (listed-lawful text-lawful)))))))
 
 pub name-lawful : Lawful name
 unfolding name
@@ -74,4 +76,5 @@ atom_back (a.Bytes s) = refl
 pub atom-lawful : Lawful atom
 unfolding atom
 atom-lawful = mapped-lawful _ _ (λ p e. atom_there p) atom_back
-    (tagged-lawful (or-lawful unit-lawful (or-lawful bool-lawful (or-lawful int-lawful (or-lawful text-lawful (or-lawful char-lawful (or-lawful text-lawful (last-lawful blob-lawful))))))))
+    (tagged-lawful (or-lawful unit-lawful (or-lawful bool-lawful
+    (or-lawful int-lawful (or-lawful text-lawful (or-lawful char-lawful (or-lawful text-lawful (last-lawful blob-lawful))))))))

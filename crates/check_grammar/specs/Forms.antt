@@ -67,27 +67,33 @@ mutual
     assignment : {s t u v : Option Span} {x : List ℕ} {d e : PlainDatum} {bs fs : List (List ℕ)} → IsName x → Is1 e d → IsExpression d bs fs
         → IsExpression (pair s (symbol t (codes "set!")) (pair u (symbol v x) e)) bs (x ∷ fs)
     -- (begin e e ...), of one or more
-    sequence : {s t : Option Span} {e : PlainDatum} {n : ℕ} {bs fs : List (List ℕ)} → AreExpressions (suc n) e bs fs → IsExpression (pair s (symbol t (codes "begin")) e) bs fs
+    sequence : {s t : Option Span} {e : PlainDatum} {n : ℕ} {bs fs : List (List ℕ)} → AreExpressions (suc n) e bs fs
+        → IsExpression (pair s (symbol t (codes "begin")) e) bs fs
     -- (lambda formals e)
     lambda : {s t : Option Span} {e f d : PlainDatum} {xs bs fs : List (List ℕ)} → Is2 e f d → IsFormals f xs → IsExpression d bs fs
         → IsExpression (pair s (symbol t (codes "lambda")) e) (xs ++ bs) (without xs fs)
     -- (case-lambda (formals e) ...)
-    case_lambda : {s t : Option Span} {e : PlainDatum} {bs fs : List (List ℕ)} → AreCases e bs fs → IsExpression (pair s (symbol t (codes "case-lambda")) e) bs fs
+    case_lambda : {s t : Option Span} {e : PlainDatum} {bs fs : List (List ℕ)} → AreCases e bs fs
+        → IsExpression (pair s (symbol t (codes "case-lambda")) e) bs fs
     -- (letrec ((x e) ...) e), or letrec*
-    letrec : {s t : Option Span} {k : List ℕ} {e i d : PlainDatum} {xs bs fs cs gs : List (List ℕ)} → IsLetrec k → Is2 e i d → AreInits i xs bs fs → IsExpression d cs gs
+    letrec : {s t : Option Span} {k : List ℕ} {e i d : PlainDatum} {xs bs fs cs gs : List (List ℕ)} → IsLetrec k → Is2 e i d
+        → AreInits i xs bs fs → IsExpression d cs gs
         → IsExpression (pair s (symbol t k) e) (bs ++ cs) (without xs (fs ++ gs))
     -- (operator operand ...)
-    application : {s : Option Span} {d e : PlainDatum} {n : ℕ} {bs fs cs gs : List (List ℕ)} → IsExpression d bs fs → AreExpressions n e cs gs → IsExpression (pair s d e) (bs ++ cs) (fs ++ gs)
+    application : {s : Option Span} {d e : PlainDatum} {n : ℕ} {bs fs cs gs : List (List ℕ)} → IsExpression d bs fs
+        → AreExpressions n e cs gs → IsExpression (pair s d e) (bs ++ cs) (fs ++ gs)
 
   -- so many expressions, in a list
   pub data AreExpressions : ℕ → PlainDatum → List (List ℕ) → List (List ℕ) → Type 0 where
     no_more : {s : Option Span} → AreExpressions 0 (atom s a.Nil) [] []
-    more : {s : Option Span} {n : ℕ} {d e : PlainDatum} {bs fs cs gs : List (List ℕ)} → IsExpression d bs fs → AreExpressions n e cs gs → AreExpressions (suc n) (pair s d e) (bs ++ cs) (fs ++ gs)
+    more : {s : Option Span} {n : ℕ} {d e : PlainDatum} {bs fs cs gs : List (List ℕ)} → IsExpression d bs fs → AreExpressions n e cs gs
+        → AreExpressions (suc n) (pair s d e) (bs ++ cs) (fs ++ gs)
 
   -- the names that are bound, and then all binders and what is free
   pub data AreInits : PlainDatum → List (List ℕ) → List (List ℕ) → List (List ℕ) → Type 0 where
     no_init : {s : Option Span} → AreInits (atom s a.Nil) [] [] []
-    init : {s t u : Option Span} {x : List ℕ} {e d r : PlainDatum} {xs bs fs cs gs : List (List ℕ)} → IsName x → Is1 e d → IsExpression d bs fs → AreInits r xs cs gs
+    init : {s t u : Option Span} {x : List ℕ} {e d r : PlainDatum} {xs bs fs cs gs : List (List ℕ)} → IsName x → Is1 e d
+        → IsExpression d bs fs → AreInits r xs cs gs
         → AreInits (pair s (pair t (symbol u x) e) r) (x ∷ xs) (x ∷ bs ++ cs) (fs ++ gs)
 
   pub data AreCases : PlainDatum → List (List ℕ) → List (List ℕ) → Type 0 where

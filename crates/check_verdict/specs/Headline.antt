@@ -68,7 +68,8 @@ pub data CheckHeadline (told : Option Paths) (words : List (List ℕ)) (faults_b
   is_absent : (path : List ℕ) → file_named words ≡ Some path → Gave told path (λ r. r ≡ absent) → Untouched err → Puts out (codes "no: absent\n") status.No s
       → CheckHeadline told words faults_before faults_after out err s
   wrong_words : file_named words ≡ None → Untouched out → Puts err usage_line status.Usage s → CheckHeadline told words faults_before faults_after out err s
-  read_fault : s ≡ status.ReadFault → Rose faults_before faults_after → Untouched out → Untouched err → CheckHeadline told words faults_before faults_after out err s
+  read_fault : s ≡ status.ReadFault → Rose faults_before faults_after → Untouched out → Untouched err
+      → CheckHeadline told words faults_before faults_after out err s
   no_memory : s ≡ status.Memory → Untouched out → Untouched err → CheckHeadline told words faults_before faults_after out err s
 
 -- where no count rose, the status is the definition's, unless memory ran out

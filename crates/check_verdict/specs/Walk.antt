@@ -125,7 +125,17 @@ abbrev mutual
   expression (atom t c) s = if is_itself c then Some s else None
   expression (symbol t x) s = variable x s
   expression (pair t d e) s = by_form (form_of d)
-      (record { armed = is_armed e; row = is_row e; quoted = is_quotation e; operator = expression d; all = expressions e; assigned = assigned e; procedure = procedure e; cases = cases e; recursive = recursive e }) s
+      (record {
+        armed = is_armed e;
+        row = is_row e;
+        quoted = is_quotation e;
+        operator = expression d;
+        all = expressions e;
+        assigned = assigned e;
+        procedure = procedure e;
+        cases = cases e;
+        recursive = recursive e;
+      }) s
   expression (vector t d) s = None
 
   -- each expression of a list

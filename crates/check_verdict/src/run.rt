@@ -120,7 +120,14 @@ fn of_reading(alloc: Global, reading: &FileAnswer) -> Result<FileReport, Memory>
 
 // Puts a line on a sink, for a status.
 fn put_line<S: Sink>(sink: &mut S, line: &[u8], status: CheckStatus) -> CheckStatus
-    ensures { Puts (record { before = S.told sink.old; after = S.told sink.new; faults_before = S.faults sink.old; faults_after = S.faults sink.new; puts_before = S.puts sink.old; puts_after = S.puts sink.new }) line.now status result }
+    ensures { Puts (record {
+      before = S.told sink.old;
+      after = S.told sink.new;
+      faults_before = S.faults sink.old;
+      faults_after = S.faults sink.new;
+      puts_before = S.puts sink.old;
+      puts_after = S.puts sink.new;
+    }) line.now status result }
 {
     match sink.put(line) {
         Ok(()) => status,
@@ -162,7 +169,8 @@ pub fn check_run<F: Files, O: Sink, E: Sink>(
     ensures headline { CheckHeadline (F.told files.old) (texts words.now) (F.faults files.old) (F.faults files.new)
         (record { before = O.told out.old; after = O.told out.new; faults_before = O.faults out.old; faults_after = O.faults out.new; puts_before = O.puts out.old; puts_after = O.puts out.new })
         (record { before = E.told err.old; after = E.told err.new; faults_before = E.faults err.old; faults_after = E.faults err.new; puts_before = E.puts err.old; puts_after = E.puts err.new }) result }
-    ensures complete { Complete (F.told files.old) (texts words.now) (Rose (F.faults files.old) (F.faults files.new)) (Rose (O.faults out.old) (O.faults out.new)) (Rose (E.faults err.old) (E.faults err.new)) result }
+    ensures complete { Complete (F.told files.old) (texts words.now) (Rose (F.faults files.old) (F.faults files.new))
+        (Rose (O.faults out.old) (O.faults out.new)) (Rose (E.faults err.old) (E.faults err.new)) result }
 {
     verdicts_are_by_cases();
     run_words(alloc, words, files, out, err)

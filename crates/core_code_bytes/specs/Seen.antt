@@ -83,7 +83,8 @@ seen_from (n.SyntaxCase c cs s) = refl
 -- the codec of those cases, of which the codec of core code is made
 abbrev pub choice : Codec PlainCore → Codec CoreCases
 choice part = tagged (datum 1000 or label or op or (part then part then optional part) or (label then part) or checked are_two (core_parts part)
-    or checked is_procedure (code_number then cases part then bool) or (bool then inits part then part) or (part then core_parts part) or (template 2000 then span) or last (part then clauses part then span))
+    or checked is_procedure (code_number then cases part then bool) or (bool then inits part then part) or (part then core_parts part) or
+    (template 2000 then span) or last (part then clauses part then span))
 
 -- the case of each kind: what has no parts of its own, with the bytes behind it
 abbrev pub quote_case : PlainDatum × List ℕ → CoreCases × List ℕ

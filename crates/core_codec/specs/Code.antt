@@ -240,8 +240,10 @@ abbrev pub is_procedure : CodeNo × (PlainCases × Bool) → Bool
 is_procedure q = not q.1.1 || nat_eq (length (case_list q.1.0)) 1
 
 unfoldable pub core_level : Codec PlainCore → Codec PlainCore
-core_level part = mapped core_to core_from (tagged (datum 1000 or label or op or (part then part then optional part) or (label then part) or checked are_two (core_parts part)
-    or checked is_procedure (code_number then cases part then bool) or (bool then inits part then part) or (part then core_parts part) or (template 2000 then span) or last (part then clauses part then span)))
+core_level part = mapped core_to core_from (tagged (datum 1000 or label or op or (part then part then optional part) or
+    (label then part) or checked are_two (core_parts part)
+    or checked is_procedure (code_number then cases part then bool) or (bool then inits part then part) or (part then core_parts part) or
+    (template 2000 then span) or last (part then clauses part then span)))
 
 -- core code with at most so many core expressions round one, and one
 unfoldable pub core : ℕ → Codec PlainCore

@@ -43,7 +43,8 @@ split_back (p.dots x xs) h = ap (λ (ys : PlainPatterns). p.dots x ys) (plain_ba
 elements-lawful : {part : Codec PlainPattern} → Lawful part → Lawful (elements part)
 unfolding elements
 elements-lawful {part} l = seen_as-lawful split joined has_one_dots
-    (λ q e. split_there q (both ((optional part then listed part).fits q.1) (is_split q.1) (both ((listed part).fits q.0) ((checked is_split (optional part then listed part)).fits q.1) e).1).1) split_back
+    (λ q e. split_there q (both ((optional part then listed part).fits q.1) (is_split q.1)
+    (both ((listed part).fits q.0) ((checked is_split (optional part then listed part)).fits q.1) e).1).1) split_back
     (then-lawful (listed-lawful l) (checked-lawful is_split (then-lawful (optional-lawful l) (listed-lawful l))))
 
 pattern_there : (q : PatternCases) → pattern_to (pattern_from q) ≡ q
@@ -65,7 +66,9 @@ pattern_back (p.vector xs) = refl
 pub pattern_level-lawful : {part : Codec PlainPattern} → Lawful part → Lawful (pattern_level part)
 unfolding pattern_level
 pattern_level-lawful l = mapped-lawful pattern_to pattern_from (λ q e. pattern_there q) pattern_back
-    (tagged-lawful (or-lawful unit-lawful (or-lawful label-lawful (or-lawful (checked-lawful is_leaf (tree-lawful 1000)) (or-lawful atom-lawful (or-lawful (then-lawful (elements-lawful l) l) (last-lawful (elements-lawful l))))))))
+    (tagged-lawful (or-lawful unit-lawful (or-lawful label-lawful
+    (or-lawful (checked-lawful is_leaf (tree-lawful 1000))
+    (or-lawful atom-lawful (or-lawful (then-lawful (elements-lawful l) l) (last-lawful (elements-lawful l))))))))
 
 pub pattern-lawful : (room : ℕ) → Lawful (pattern room)
 unfolding pattern
@@ -101,7 +104,8 @@ template_back (m.vector xs) = refl
 pub template_level-lawful : {part : Codec PlainTemplate} → Lawful part → Lawful (template_level part)
 unfolding template_level
 template_level-lawful l = mapped-lawful template_to template_from (λ q e. template_there q) template_back
-    (tagged-lawful (or-lawful (then-lawful label-lawful u32-lawful) (or-lawful (tree-lawful 1000) (or-lawful (then-lawful (items-lawful l) l) (last-lawful (items-lawful l))))))
+    (tagged-lawful (or-lawful (then-lawful label-lawful u32-lawful)
+    (or-lawful (tree-lawful 1000) (or-lawful (then-lawful (items-lawful l) l) (last-lawful (items-lawful l))))))
 
 pub template-lawful : (room : ℕ) → Lawful (template room)
 unfolding template
@@ -187,14 +191,18 @@ module _ {part : Codec PlainCore} (l : Lawful part) where
 
   clauses-lawful : Lawful (clauses part)
   unfolding clauses
-  clauses-lawful = mapped-lawful clause_list clauses_of (λ xs e. clauses_there xs) clauses_back (listed-lawful (then-lawful (pattern-lawful 2000) (then-lawful (optional-lawful l) l)))
+  clauses-lawful = mapped-lawful clause_list clauses_of (λ xs e. clauses_there xs) clauses_back
+      (listed-lawful (then-lawful (pattern-lawful 2000) (then-lawful (optional-lawful l) l)))
 
   pub core_level-lawful : Lawful (core_level part)
   unfolding core_level
   core_level-lawful = mapped-lawful core_to core_from (λ q e. core_there q) core_back (tagged-lawful
-      (or-lawful (datum-lawful 1000) (or-lawful label-lawful (or-lawful op-lawful (or-lawful (then-lawful l (then-lawful l (optional-lawful l))) (or-lawful (then-lawful label-lawful l)
-      (or-lawful (checked-lawful are_two core_parts-lawful) (or-lawful (checked-lawful is_procedure (then-lawful code_number-lawful (then-lawful cases-lawful bool-lawful)))
-      (or-lawful (then-lawful bool-lawful (then-lawful inits-lawful l)) (or-lawful (then-lawful l core_parts-lawful) (or-lawful (then-lawful (template-lawful 2000) span-lawful)
+      (or-lawful (datum-lawful 1000) (or-lawful label-lawful
+      (or-lawful op-lawful (or-lawful (then-lawful l (then-lawful l (optional-lawful l))) (or-lawful (then-lawful label-lawful l)
+      (or-lawful (checked-lawful are_two core_parts-lawful)
+      (or-lawful (checked-lawful is_procedure (then-lawful code_number-lawful (then-lawful cases-lawful bool-lawful)))
+      (or-lawful (then-lawful bool-lawful (then-lawful inits-lawful l))
+      (or-lawful (then-lawful l core_parts-lawful) (or-lawful (then-lawful (template-lawful 2000) span-lawful)
       (last-lawful (then-lawful l (then-lawful clauses-lawful span-lawful))))))))))))))
 
 pub core-lawful : (room : ℕ) → Lawful (core room)

@@ -14,4 +14,5 @@ context-lawful = mapped-lawful _ _ (λ p e. refl) (λ s. refl) (then-lawful (lis
 
 pub frame_row-lawful : Lawful frame_row
 unfolding frame_row
-frame_row-lawful = mapped-lawful _ _ (λ p e. refl) (λ s. refl) (then-lawful frame-lawful (then-lawful text-lawful (then-lawful (listed-lawful mark-lawful) label-lawful)))
+frame_row-lawful = mapped-lawful _ _ (λ p e. refl) (λ s. refl)
+    (then-lawful frame-lawful (then-lawful text-lawful (then-lawful (listed-lawful mark-lawful) label-lawful)))

@@ -22,7 +22,8 @@ code-lawful = core-lawful 8193
 
 variable-lawful : Lawful variable
 unfolding variable
-variable-lawful = mapped-lawful _ _ (λ p e. refl) (λ s. refl) (then-lawful text-lawful (then-lawful (optional-lawful u64-lawful) (then-lawful u32-lawful (then-lawful bool-lawful bool-lawful))))
+variable-lawful = mapped-lawful _ _ (λ p e. refl) (λ s. refl)
+    (then-lawful text-lawful (then-lawful (optional-lawful u64-lawful) (then-lawful u32-lawful (then-lawful bool-lawful bool-lawful))))
 
 line_there : (q : LineCases) → line_to (line_from q) ≡ q
 line_there (inl p) = refl
@@ -34,7 +35,8 @@ line_back (l.Expr c) = refl
 
 line-lawful : Lawful line
 unfolding line
-line-lawful = mapped-lawful line_to line_from (λ q e. line_there q) line_back (tagged-lawful (or-lawful (then-lawful label-lawful code-lawful) (last-lawful code-lawful)))
+line-lawful = mapped-lawful line_to line_from (λ q e. line_there q) line_back
+    (tagged-lawful (or-lawful (then-lawful label-lawful code-lawful) (last-lawful code-lawful)))
 
 binding_there : (q : BindingCases) → binding_to (binding_from q) ≡ q
 binding_there (inl v) = refl
@@ -114,13 +116,16 @@ core_form-lawful = found-lawful place at_place place_there place_back byte-lawfu
 binding-lawful : Lawful binding
 unfolding binding
 binding-lawful = mapped-lawful binding_to binding_from (λ q e. binding_there q) binding_back
-    (tagged-lawful (or-lawful variable-lawful (or-lawful (then-lawful u32-lawful u32-lawful) (or-lawful (then-lawful u32-lawful (optional-lawful code-lawful)) (or-lawful core_form-lawful (last-lawful op-lawful))))))
+    (tagged-lawful (or-lawful variable-lawful (or-lawful (then-lawful u32-lawful u32-lawful)
+    (or-lawful (then-lawful u32-lawful (optional-lawful code-lawful)) (or-lawful core_form-lawful (last-lawful op-lawful))))))
 
 pub lib_record-lawful : Lawful lib_record
 unfolding lib_record
 lib_record-lawful = mapped-lawful record_to record_from (λ p e. refl) (λ r. refl)
-    (then-lawful text-lawful (then-lawful library-lawful (then-lawful (listed-lawful u64-lawful) (then-lawful (listed-lawful (then-lawful text-lawful label-lawful))
-    (then-lawful (checked-lawful bindings_rise (listed-lawful (then-lawful label-lawful binding-lawful))) (then-lawful (checked-lawful rows_rise (listed-lawful frame_row-lawful))
+    (then-lawful text-lawful (then-lawful library-lawful
+    (then-lawful (listed-lawful u64-lawful) (then-lawful (listed-lawful (then-lawful text-lawful label-lawful))
+    (then-lawful (checked-lawful bindings_rise (listed-lawful (then-lawful label-lawful binding-lawful)))
+    (then-lawful (checked-lawful rows_rise (listed-lawful frame_row-lawful))
     (then-lawful (listed-lawful line-lawful) (listed-lawful library-lawful))))))))
 
 pub decodes : (r : CompiledLibrary) → has_spelling r ≡ true → decode (encode r) ≡ Some r

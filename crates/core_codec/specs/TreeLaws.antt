@@ -22,7 +22,8 @@ tail_alone (d.symbol s x) h = (refl, refl, refl)
 tail_alone (d.pair s x e) h = absurd (cc)
 tail_alone (d.vector s e) h = (refl, refl, refl)
 
-pub chain_parts : (xs : List PlainDatum) (x : PlainDatum) → d.is_tail x ≡ true → (d.elements (d.chain xs x) ≡ xs) × (d.tail_of (d.chain xs x) ≡ x) × (is_datum_rest (d.chain xs x) ≡ true)
+pub chain_parts : (xs : List PlainDatum) (x : PlainDatum) → d.is_tail x ≡ true
+    → (d.elements (d.chain xs x) ≡ xs) × (d.tail_of (d.chain xs x) ≡ x) × (is_datum_rest (d.chain xs x) ≡ true)
 chain_parts [] x h = tail_alone x h
 chain_parts (y ∷ ys) x h = let r = chain_parts ys x h in (ap (λ (zs : List PlainDatum). y ∷ zs) r.0, r.1, r.2)
 
@@ -57,11 +58,14 @@ module _ {part : Codec PlainDatum} (l : Lawful part) where
 
   datum_parts-lawful : Lawful datum_parts
   unfolding datum_node_codec
-  datum_parts-lawful = then-lawful (optional-lawful span-lawful) (tagged-lawful (or-lawful atom-lawful (or-lawful text-lawful (or-lawful (checked-lawful is_datum_list (then-lawful (listed-lawful l) l)) (last-lawful (listed-lawful l))))))
+  datum_parts-lawful = then-lawful (optional-lawful span-lawful)
+      (tagged-lawful (or-lawful atom-lawful (or-lawful text-lawful
+      (or-lawful (checked-lawful is_datum_list (then-lawful (listed-lawful l) l)) (last-lawful (listed-lawful l))))))
 
   datum_test : (s : Option Span) (ys : List PlainDatum) (x : PlainDatum) → datum_parts.fits (s, inr (inr (inl (ys, x)))) ≡ true → is_datum_list (ys, x) ≡ true
   unfolding datum_node_codec
-  datum_test s ys x h = (both ((listed part then part).fits (ys, x)) (is_datum_list (ys, x)) (both ((optional span).fits s) ((checked is_datum_list (listed part then part)).fits (ys, x)) h).1).1
+  datum_test s ys x h = (both ((listed part then part).fits (ys, x)) (is_datum_list (ys, x))
+      (both ((optional span).fits s) ((checked is_datum_list (listed part then part)).fits (ys, x)) h).1).1
 
   datum_there : (c : DatumCases) → datum_parts.fits c ≡ true → (datum_to (datum_from c) ≡ c) × (is_datum (datum_from c) ≡ true)
   datum_there (s, inl c) h = (refl, refl)
@@ -96,7 +100,8 @@ tree_tail_alone (t.leaf s x c) h = (refl, refl, refl)
 tree_tail_alone (t.pair s x e) h = absurd (cc)
 tree_tail_alone (t.vector s e) h = (refl, refl, refl)
 
-pub tree_chain_parts : (xs : List Tree) (x : Tree) → is_tail x ≡ true → (elements (t.chain xs x) ≡ xs) × (tail_of (t.chain xs x) ≡ x) × (is_rest (t.chain xs x) ≡ true)
+pub tree_chain_parts : (xs : List Tree) (x : Tree) → is_tail x ≡ true
+    → (elements (t.chain xs x) ≡ xs) × (tail_of (t.chain xs x) ≡ x) × (is_rest (t.chain xs x) ≡ true)
 tree_chain_parts [] x h = tree_tail_alone x h
 tree_chain_parts (y ∷ ys) x h = let r = tree_chain_parts ys x h in (ap (λ (zs : List Tree). y ∷ zs) r.0, r.1, r.2)
 
@@ -131,11 +136,14 @@ module _ {part : Codec Tree} (l : Lawful part) where
 
   tree_parts-lawful : Lawful tree_parts
   unfolding tree_node_codec
-  tree_parts-lawful = then-lawful (optional-lawful span-lawful) (tagged-lawful (or-lawful atom-lawful (or-lawful (then-lawful text-lawful context-lawful) (or-lawful (checked-lawful is_tree_list (then-lawful (listed-lawful l) l)) (last-lawful (listed-lawful l))))))
+  tree_parts-lawful = then-lawful (optional-lawful span-lawful)
+      (tagged-lawful (or-lawful atom-lawful (or-lawful (then-lawful text-lawful context-lawful)
+      (or-lawful (checked-lawful is_tree_list (then-lawful (listed-lawful l) l)) (last-lawful (listed-lawful l))))))
 
   tree_test : (s : Option Span) (ys : List Tree) (x : Tree) → tree_parts.fits (s, inr (inr (inl (ys, x)))) ≡ true → is_tree_list (ys, x) ≡ true
   unfolding tree_node_codec
-  tree_test s ys x h = (both ((listed part then part).fits (ys, x)) (is_tree_list (ys, x)) (both ((optional span).fits s) ((checked is_tree_list (listed part then part)).fits (ys, x)) h).1).1
+  tree_test s ys x h = (both ((listed part then part).fits (ys, x)) (is_tree_list (ys, x))
+      (both ((optional span).fits s) ((checked is_tree_list (listed part then part)).fits (ys, x)) h).1).1
 
   tree_there : (c : TreeCases) → tree_parts.fits c ≡ true → (tree_to (tree_from c) ≡ c) × (is_tree (tree_from c) ≡ true)
   tree_there (s, inl c) h = (refl, refl)

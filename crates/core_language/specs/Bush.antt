@@ -30,7 +30,8 @@ module _ {A : Type 0} (part : Coded A) where
 
   pub bush_inj : (x y : Bush A) → bush_codes x ≡ bush_codes y → x ≡ y
   bush_inj tip tip p = refl
-  bush_inj (fork a l r) (fork b m s) p = λ i. fork (part.inj a b (ap first p) i) (bush_inj l m (ap (λ g. first (second g)) p) i) (bush_inj r s (ap (λ g. second (second g)) p) i)
+  bush_inj (fork a l r) (fork b m s) p = λ i. fork (part.inj a b (ap first p) i) (bush_inj l m (ap (λ g. first (second g)) p) i)
+      (bush_inj r s (ap (λ g. second (second g)) p) i)
   bush_inj tip (fork b m s) p = cc
   bush_inj (fork a l r) tip p = cc
 

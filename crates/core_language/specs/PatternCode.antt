@@ -62,7 +62,8 @@ of_parts-to_parts is_dots = refl
 abbrev head_code : Coded Head
 head_code =
     code_by Parts
-    (coded⊎ coded_unit (coded⊎ labels.the_row.coded (coded⊎ tree_code (coded⊎ atoms.the_row.coded (coded⊎ coded_unit (coded⊎ coded_unit (coded⊎ coded_unit coded_unit)))))))
+    (coded⊎ coded_unit (coded⊎ labels.the_row.coded (coded⊎ tree_code
+    (coded⊎ atoms.the_row.coded (coded⊎ coded_unit (coded⊎ coded_unit (coded⊎ coded_unit coded_unit)))))))
     to_parts of_parts of_parts-to_parts
 
 abbrev mutual

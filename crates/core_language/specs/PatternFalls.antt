@@ -23,7 +23,13 @@ elements_fall e = go e.repeated
   where
     go : (r : Option Repeated) → deep-Elements (record e { repeated = r }) ≤ patterns_size (elements_of (record e { repeated = r }))
     go None = omega (arith, most_below e.before.items none)
-    go (Some r) = omega (arith, most_below e.before.items (dots r.pattern.value (patterns r.after.items)), rest_below e.before.items (dots r.pattern.value (patterns r.after.items)), most_below r.after.items none)
+    go (Some r) = omega (
+      arith,
+      most_below e.before.items (dots r.pattern.value (patterns r.after.items)),
+      rest_below e.before.items
+          (dots r.pattern.value (patterns r.after.items)),
+      most_below r.after.items none,
+    )
 
 pub seen_falls : (n : PatternNode) → max (deep-PatternNode n) 0 ≤ pattern_size (seen n)
 seen_falls node.Any = omega arith

@@ -7,9 +7,9 @@ use Rattle.core_language.specs.TemplateView.{seen, items}
 use Rattle.core_language.specs.declared.template.TemplateItem.{TemplateItem}
 use Rattle.core_language.specs.declared.template.TemplateNode.{TemplateNode}
 use Rattle.core_language.specs.declared.template.TemplateNode.TheVariants as node
-use Rattle.core_language.specs.declared.template.Template.TheDeep.{deep-TemplateNode, deep-Item}
+use Rattle.core_language.specs.declared.template.Template.TheDeep.{deep-TemplateNode, deep-TemplateItem}
 
-pub items_below : (is : List TemplateItem) → most deep-Item is ≤ items_size (items is)
+pub items_below : (is : List TemplateItem) → most deep-TemplateItem is ≤ items_size (items is)
 items_below [] = omega arith
 items_below (i ∷ is) = omega (arith, items_below is)
 

@@ -221,7 +221,8 @@ fn put_further(out: &mut String, names: &VariableNames, parts: &[Core]) -> Resul
 
 #[cycle(put)]
 fn put_code(out: &mut String, names: &VariableNames, code: &Code) -> Result<(), AllocError>
-    ensures { OnOk result (string_bytes out.new ≡ string_bytes out.old ++ (lambda_word code.now.plain ++ cases_text names.now code.now.plain code.now.cases ++ codes ")")) }
+    ensures { OnOk result (string_bytes out.new ≡ string_bytes out.old
+        ++ (lambda_word code.now.plain ++ cases_text names.now code.now.plain code.now.cases ++ codes ")")) }
 {
     out.push_str(lambda_word(code.plain))?;
     put_cases(out, names, code.plain, &code.cases)?;

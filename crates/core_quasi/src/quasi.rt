@@ -309,7 +309,8 @@ fn split_list(
     frames: &Frames,
 ) -> Result<Quasi, BareStop>
     requires { 0 < length last.now.elements.now }
-    ensures { BareGives (λ q. q) result (split_list (word_of family.Quote frames.now) front.now.form.now front.now.elements.now last.now.form.now last.now.elements.now last.now.tail.now level) }
+    ensures { BareGives (λ q. q) result (split_list (word_of family.Quote frames.now) front.now.form.now front.now.elements.now
+        last.now.form.now last.now.elements.now last.now.tail.now level) }
 {
     match open_list(alloc, front.elements, false, level, frames)? {
         Begun::Whole(whole) => Ok(Quasi {

@@ -369,7 +369,8 @@ fn split_list(
     inserts: &mut Items<Insert>,
 ) -> Result<QuasiPart, BareStop>
     requires { 0 < length last.now.elements.now }
-    ensures { BareGives (λ p. (p, inserts.new)) result (split_list (seen context.now) front.now.form.now front.now.elements.now last.now.form.now last.now.elements.now last.now.tail.now level inserts.old) }
+    ensures { BareGives (λ p. (p, inserts.new)) result (split_list
+        (seen context.now) front.now.form.now front.now.elements.now last.now.form.now last.now.elements.now last.now.tail.now level inserts.old) }
 {
     match open_list(context, front.elements, false, level, inserts)? {
         Begun::Whole(part) => Ok(part),
@@ -389,7 +390,8 @@ fn flat_list(
     inserts: &mut Items<Insert>,
 ) -> Result<QuasiPart, BareStop>
     requires { 0 < length list.now.elements.now }
-    ensures { BareGives (λ p. (p, inserts.new)) result (flat_list (seen context.now) list.now.form.now list.now.elements.now list.now.tail.now level inserts.old) }
+    ensures { BareGives (λ p. (p, inserts.new)) result (flat_list
+        (seen context.now) list.now.form.now list.now.elements.now list.now.tail.now level inserts.old) }
 {
     let ends = is_nil(context.alloc, list.tail)?;
     match open_list(context, list.elements, ends, level, inserts)? {

@@ -40,7 +40,8 @@ made_names id = record { name = id; constructor = like id (constructor_symbol (s
 
 abbrev pub given_names : List Tree → Option RecordNames
 given_names (name ∷ (make ∷ (test ∷ []))) =
-    if is_leaf name then (if is_leaf make then (if is_leaf test then Some (record { name = name; constructor = make; predicate = test }) else None) else None) else None
+    if is_leaf name then (if is_leaf make then (if is_leaf test then Some
+    (record { name = name; constructor = make; predicate = test }) else None) else None) else None
 given_names _ = None
 
 unfoldable pub names_of : Tree → Option RecordNames

@@ -15,7 +15,8 @@ ghost use Rattle.core_records.specs.declared.names.RecordNames.{RecordNames as A
 /// constructor and predicate, and for each field its accessor and its mutator, in this order, and
 /// nothing else.
 pub fn a_record_type_binds_its_names()
-    ensures { (own : List ℕ) (names : AnyNames) (cs : AnyClauses) (t : AnyTree) → definitions own names cs ≡ Ok t → binders t ≡ rtd ∷ (rcd ∷ type_names names cs) }
+    ensures { (own : List ℕ) (names : AnyNames) (cs : AnyClauses) (t : AnyTree) → definitions own names cs ≡ Ok t
+        → binders t ≡ rtd ∷ (rcd ∷ type_names names cs) }
 {}
 
 /// The identifiers of the two descriptors that a record type introduces have the mark of the use alone.

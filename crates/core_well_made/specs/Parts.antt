@@ -34,7 +34,12 @@ noted all (one_armed c d) = all
 noted all (two_armed c d e) = all
 noted all (assignment l c) = all
 noted all (sequence cs) = demanded all (nat_le 2 (core_count cs))
-noted all (procedure n cs p) = record all { numbers = all.numbers ++ n ∷ []; variables = all.variables ++ case_labels cs; formed = all.formed && has_cases p cs }
+noted all (procedure n cs p) = record all {
+  numbers = all.numbers ++ n ∷ [];
+  variables = all.variables ++ case_labels cs;
+  formed
+      = all.formed && has_cases p cs;
+}
 noted all (letrec o is c) = record all { variables = all.variables ++ init_labels is }
 noted all (call c cs) = all
 noted all (instance t s) = all

@@ -428,7 +428,9 @@ fn add_elements(
     variables: &mut Items<PatternVariable>,
     names: &mut FreeNames,
 ) -> Result<(), Stop>
-    ensures { GivesAfter (λ _. parts.new) result (variables.new, names.new) (walked (seen context.now) elements.now.depth false parts.old (map (with_pattern (seen context.now)) elements.now.forms.now) (variables.old, names.old)) }
+    ensures { GivesAfter (λ _. parts.new) result (variables.new, names.new)
+        (walked (seen context.now) elements.now.depth false parts.old (map (with_pattern (seen context.now)) elements.now.forms.now)
+        (variables.old, names.old)) }
 {
     let mut left = elements.forms;
     while let Some((form, behind)) = left.split_first() {

@@ -22,5 +22,7 @@ pub fn what_is_made_keeps_cells_whole()
 /// The rows of primitives are numbered from 0, and each has a number of its own.
 #[tactic(auto, unfolding(crate::specs::Table::misplaced))]
 pub fn rows_are_numbered_in_order()
-    ensures { misplaced 0 (rows.BASICS ∷ rows.NUMBERS ∷ rows.CHARACTERS ∷ rows.PARTS ∷ rows.GATHERED ∷ rows.LISTS ∷ rows.APPENDED ∷ rows.INDEXED ∷ rows.UNPACKED ∷ rows.STRINGS ∷ rows.NUMBER_STRINGS ∷ rows.STRING_COMPARISONS ∷ rows.EQUALITY ∷ rows.IDENTIFIERS ∷ rows.DATA ∷ rows.TREES ∷ rows.TEMPORARIES ∷ rows.RAISING ∷ []) ≡ ROWS }
+    ensures { misplaced 0 (rows.BASICS ∷ rows.NUMBERS ∷ rows.CHARACTERS ∷ rows.PARTS ∷ rows.GATHERED ∷ rows.LISTS ∷ rows.APPENDED
+        ∷ rows.INDEXED ∷ rows.UNPACKED ∷ rows.STRINGS ∷ rows.NUMBER_STRINGS ∷ rows.STRING_COMPARISONS ∷ rows.EQUALITY ∷ rows.IDENTIFIERS
+        ∷ rows.DATA ∷ rows.TREES ∷ rows.TEMPORARIES ∷ rows.RAISING ∷ []) ≡ ROWS }
 {}

@@ -209,7 +209,8 @@ abbrev pub list_parts : TemplateScope → Bool → Tree → List TemplateElement
 list_parts c escaped t xs tail under =
     walked c escaped under 0 [] xs >>= λ items. tail escaped under >>= list_joined c.place t items
 
-abbrev pub list_made : TemplateScope → Bool → Tree → List TemplateElement → (Bool → ℕ → Result CompiledForm Fault) → ℕ → Option TemplateElement → Result CompiledForm Fault
+abbrev pub list_made : TemplateScope → Bool → Tree → List TemplateElement → (Bool → ℕ → Result CompiledForm Fault) → ℕ
+    → Option TemplateElement → Result CompiledForm Fault
 list_made c escaped t xs tail under None = list_parts c escaped t xs tail under
 list_made c escaped t xs tail under (Some y) = y.1 true under >>= λ m. Ok (unescaped m)
 

@@ -51,7 +51,8 @@ abbrev mutual
   instance absent binds (variable l depth) turns cells = Ok (value_of absent (reached binds l depth turns), cells)
   instance absent binds (constant t) turns cells = Ok (value.Syn t, cells)
   instance absent binds (list is t) turns cells =
-      then_add (parts absent binds is turns [] cells) (λ xs cells. then_add (ending t (instance absent binds t turns) cells) (λ v cells. Ok (pairs_stored xs (v, cells))))
+      then_add (parts absent binds is turns [] cells) (λ xs cells. then_add (ending t (instance absent binds t turns) cells)
+      (λ v cells. Ok (pairs_stored xs (v, cells))))
   instance absent binds (vector is) turns cells = then_add (parts absent binds is turns [] cells) (λ xs cells. Ok (vector_stored (xs, cells)))
 
   -- the values of items, behind those that are there

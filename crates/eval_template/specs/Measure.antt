@@ -34,7 +34,8 @@ abbrev mutual
 
   pub items_cost : Absent → Binds → PlainItems → List ℕ → Cost
   items_cost absent binds none turns = Ok 0
-  items_cost absent binds (more t ellipses is) turns = plus (item_cost (measure absent binds t) (counts absent binds t) ellipses turns) (items_cost absent binds is turns)
+  items_cost absent binds (more t ellipses is) turns = plus (item_cost (measure absent binds t) (counts absent binds t) ellipses turns)
+      (items_cost absent binds is turns)
 
 -- Whether what a part costs depends on the turn of an ellipsis round it, inside which so many others stand that repeat it: whether a
 -- variable under further ellipses takes elements there. Else all turns cost the same.

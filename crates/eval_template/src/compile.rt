@@ -657,7 +657,8 @@ fn item(
     under: u64,
 ) -> Result<MadeItem, Stop>
     requires { element.label ≡ stands context.now.frames.now element.form.now }
-    ensures { Gives (λ i. i) result (item_made (seen context.now) escaped under (with_template (seen context.now) element.entry.form.now) element.entry.ellipses.now) }
+    ensures { Gives (λ i. i) result (item_made (seen context.now) escaped under
+        (with_template (seen context.now) element.entry.form.now) element.entry.ellipses.now) }
 {
     let TemplateElement {
         form,

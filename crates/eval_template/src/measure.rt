@@ -148,7 +148,8 @@ fn item_cost(
     ellipses: u32,
     turns: &mut Vec<u64>,
 ) -> Result<Option<u64>, BareStop>
-    ensures cost { Measures result (item_cost (measure unbound context.now.binds.now template.now) (counts unbound context.now.binds.now template.now) ellipses turns.old.items) }
+    ensures cost { Measures result (item_cost (measure unbound context.now.binds.now template.now)
+        (counts unbound context.now.binds.now template.now) ellipses turns.old.items) }
     ensures turns { OnOk result (turns.new.items ≡ turns.old.items) }
 {
     if ellipses == 0 {
@@ -169,7 +170,8 @@ fn turns_cost(
     count: u64,
     turns: &mut Vec<u64>,
 ) -> Result<Option<u64>, BareStop>
-    ensures cost { Measures result (turns_cost (item_cost (measure unbound context.now.binds.now template.now) (counts unbound context.now.binds.now template.now) inside) count 0 turns.old.items) }
+    ensures cost { Measures result (turns_cost (item_cost (measure unbound context.now.binds.now template.now)
+        (counts unbound context.now.binds.now template.now) inside) count 0 turns.old.items) }
     ensures turns { OnOk result (turns.new.items ≡ turns.old.items) }
 {
     if sees(template, u64::from(inside))? {
@@ -188,7 +190,8 @@ fn each_turn(
     count: u64,
     turns: &mut Vec<u64>,
 ) -> Result<Option<u64>, BareStop>
-    ensures cost { Measures result (turns_cost (item_cost (measure unbound context.now.binds.now template.now) (counts unbound context.now.binds.now template.now) inside) count 0 turns.old.items) }
+    ensures cost { Measures result (turns_cost (item_cost (measure unbound context.now.binds.now template.now)
+        (counts unbound context.now.binds.now template.now) inside) count 0 turns.old.items) }
     ensures turns { OnOk result (turns.new.items ≡ turns.old.items) }
 {
     let mut total = Some(0);
@@ -211,7 +214,8 @@ fn like_turns(
     turns: &mut Vec<u64>,
 ) -> Result<Option<u64>, BareStop>
     requires { sees inside template.now ≡ false }
-    ensures cost { Measures result (turns_cost (item_cost (measure unbound context.now.binds.now template.now) (counts unbound context.now.binds.now template.now) inside) count 0 turns.old.items) }
+    ensures cost { Measures result (turns_cost (item_cost (measure unbound context.now.binds.now template.now)
+        (counts unbound context.now.binds.now template.now) inside) count 0 turns.old.items) }
     ensures turns { OnOk result (turns.new.items ≡ turns.old.items) }
 {
     if count == 0 {

@@ -5,6 +5,7 @@ use Rattle.std.specs.Bool.{Decides}
 use Rattle.std.specs.Coded.{Coded, coded×, coded_ℕ, coded_list}
 use Rattle.std.specs.Hash as fed
 use Rattle.std.specs.Cmp.{IsEquivalence, IsPartialEquivalence, partial_equiv_from_equiv, decided, first_so, second_so}
+use Rattle.base_data.specs.Head.{symbol_fed}
 use Rattle.base_data.specs.Named.{Named}
 use Rattle.base_data.specs.Same.{same_name, same_name_cases, texts_decides}
 use Rattle.base_data.specs.contracts.name.FrameNo as frames
@@ -42,7 +43,7 @@ same_key_per = partial_equiv_from_equiv same_key_equiv
 
 -- its symbol, and the number of its frame: what tells most keys apart
 abbrev pub key_fed : Key → fed.HashWrites
-key_fed k = fed.str k.1.0 ++ fed.u64 k.0.0.number
+key_fed k = symbol_fed k.1.0 ++ fed.u64 k.0.0.number
 
 -- the same keys feed a hasher the same
 pub key_alike : (a b : Key) → IsTrue (same_key a b) → key_fed a ≡ key_fed b

@@ -51,7 +51,8 @@ perform_settled go depth p = perform_item go p.1.at depth p.0 p.1.form p.1.item
 
 -- takes a form of a body
 unfoldable pub item : Inside → BodyAt → ℕ → Taken → Tree → Does Taken
-item go at depth done t s = if nat_lt most_round depth then fault_form kind.TooDeep t at.place s else after (expand_item_uses go.earlier at depth done t s) (perform_settled go depth)
+item go at depth done t s = if nat_lt most_round depth then fault_form kind.TooDeep t at.place s else after
+    (expand_item_uses go.earlier at depth done t s) (perform_settled go depth)
 
 -- The second pass.
 
@@ -66,7 +67,8 @@ value_of go place level depth (Some t) = go.form place level depth t
 unfoldable pub finish_as : Inside → ℕ → Span → ℕ → Waits → Does Line
 finish_as go level place depth (waits.Variable l value) s = after (value_of go place level (deeper depth) value s) (λ c. give (line.Define l c))
 finish_as go level place depth (waits.Procedure l t ids forms) s =
-    after (fresh s) (λ n s'. after (go.procedure place level (deeper depth) t ids forms s') (λ c. give (line.Define l (procedure (record { 0 = n }) (cases (c ∷ [])) true))))
+    after (fresh s) (λ n s'. after (go.procedure place level (deeper depth) t ids forms s')
+    (λ c. give (line.Define l (procedure (record { 0 = n }) (cases (c ∷ [])) true))))
 finish_as go level place depth (waits.Expression t) s = after (go.form place level depth t s) (λ c. give (line.Expr c))
 
 abbrev pub finish_one : Inside → ℕ → Waiting → Does Line
@@ -99,7 +101,8 @@ abbrev pub body_core : List Line → PlainCore
 body_core ls = with_inits (inits_in ls) (sequence_of (values_in ls))
 
 unfoldable pub finish : Inside → Span → ℕ → Tree → Taken → Does PlainCore
-finish go place level t done s = if done.has_expression then after (finish_all go level done.waiting s) (λ ls. give (body_core ls)) else fault_form kind.NoExpression t place s
+finish go place level t done s = if done.has_expression then after (finish_all go level done.waiting s)
+    (λ ls. give (body_core ls)) else fault_form kind.NoExpression t place s
 
 abbrev pub lambda_at : FrameNo → Span → ℕ → BodyAt
 lambda_at frame place level = record { frame = frame; place = place; level = level; kind = body_kind.Lambda }

@@ -39,7 +39,8 @@ in_order go place level depth = each (go.form place level depth) []
 -- a case of a procedure: its formals have a frame, and so has its body
 abbrev pub case_in : Inside → Span → ℕ → ℕ → Tree → FormalIds → List Tree → FrameNo → Does Lambda
 case_in go place level depth t ids forms frame s =
-    after (bind_formals frame place level ids s) (λ formals s'. after (body go place level depth t (map (stamp frame) forms) s') (λ c. give (record { formals = formals; body = c })))
+    after (bind_formals frame place level ids s) (λ formals s'. after (body go place level depth t (map (stamp frame) forms) s')
+    (λ c. give (record { formals = formals; body = c })))
 
 unfoldable pub lambda_case : Inside → Span → ℕ → ℕ → Tree → FormalIds → List Tree → Does Lambda
 lambda_case go place level depth t ids forms = within (λ s. after (fresh_frame s) (case_in go place level depth t ids forms))
@@ -145,7 +146,8 @@ perform_settled go level depth d = perform go d.place level depth d.form d.plan
 
 -- at most so many forms may stand round one
 unfoldable pub form_at : Inside → Span → ℕ → ℕ → Tree → Does PlainCore
-form_at go place level depth t s = if nat_lt most_round depth then fault_form kind.TooDeep t place s else after (expand_uses go.earlier place level t s) (perform_settled go level depth)
+form_at go place level depth t s = if nat_lt most_round depth then fault_form kind.TooDeep t place s else after
+    (expand_uses go.earlier place level t s) (perform_settled go level depth)
 
 -- in so much room no form is refused but for its depth
 abbrev pub full_room : ℕ

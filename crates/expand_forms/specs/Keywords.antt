@@ -18,7 +18,8 @@ use Rattle.expand_forms.specs.Inside.{Inside}
 
 -- the expression of a keyword is expanded one level up, with nothing in scope, and then evaluated
 unfoldable pub expand_transformer : Inside → Span → ℕ → ℕ → BoundSpec → Does (Unit {0})
-expand_transformer go place level depth b s = after (apart (go.form place (level + 1) depth b.init) s) (evaluate_transformer go.earlier (place_of b.init place) b.label)
+expand_transformer go place level depth b s = after (apart (go.form place (level + 1) depth b.init) s)
+    (evaluate_transformer go.earlier (place_of b.init place) b.label)
 
 -- the expressions of `letrec-syntax` see its keywords
 abbrev pub seen_in : Bool → FrameNo → BoundSpec → BoundSpec

@@ -136,7 +136,8 @@ fn splice<M: Transformers, N: Ledger, L: Ledger>(
     forms: &[Syn],
     counts: &mut Counts<N, L>,
 ) -> Result<(), Stop>
-    ensures { GivesAfter (λ _. taken.new) result state.new (splice (inside (M.records at.now.means.now) at.now.room) at.now.body.now at.now.depth taken.old forms.now state.old) }
+    ensures { GivesAfter (λ _. taken.new) result state.new
+        (splice (inside (M.records at.now.means.now) at.now.room) at.now.body.now at.now.depth taken.old forms.now state.old) }
 {
     for form in forms {
         item(state, at, taken, form, counts)?;
@@ -154,7 +155,8 @@ pub(crate) fn item<M: Transformers, N: Ledger, L: Ledger>(
     form: &Syn,
     counts: &mut Counts<N, L>,
 ) -> Result<(), Stop>
-    ensures { GivesAfter (λ _. taken.new) result state.new ((inside (M.records at.now.means.now) at.now.room).item at.now.body.now at.now.depth taken.old form.now state.old) }
+    ensures { GivesAfter (λ _. taken.new) result state.new
+        ((inside (M.records at.now.means.now) at.now.room).item at.now.body.now at.now.depth taken.old form.now state.old) }
 {
     if at.room == 0 {
         return Err(state.fault_form(FaultKind::TooDeep, form, &at.body.place));
@@ -176,7 +178,8 @@ fn item_at<M: Transformers, N: Ledger, L: Ledger>(
     form: &Syn,
     counts: &mut Counts<N, L>,
 ) -> Result<(), Stop>
-    ensures { GivesAfter (λ _. taken.new) result state.new (item (inside (M.records at.now.means.now) at.now.room) at.now.body.now at.now.depth taken.old form.now state.old) }
+    ensures { GivesAfter (λ _. taken.new) result state.new
+        (item (inside (M.records at.now.means.now) at.now.room) at.now.body.now at.now.depth taken.old form.now state.old) }
 {
     if at.depth > MOST_ROUND {
         return Err(state.fault_form(FaultKind::TooDeep, form, &at.body.place));
@@ -187,8 +190,8 @@ fn item_at<M: Transformers, N: Ledger, L: Ledger>(
     done
 }
 
-/// What is done with a form of a body that is no use. Where it stands is told by `settled`: the body of `at` is
-/// not looked at.
+/// What is done with a form of a body that is no use. Where it stands is told by `settled`, the planned item: the
+/// body of `at` is not looked at.
 #[cycle(form)]
 #[tactic(auto, unfolding(crate::specs::Body::perform_item))]
 fn perform_item<M: Transformers, N: Ledger, L: Ledger>(
@@ -198,7 +201,9 @@ fn perform_item<M: Transformers, N: Ledger, L: Ledger>(
     settled: &PlannedItem,
     counts: &mut Counts<N, L>,
 ) -> Result<(), Stop>
-    ensures { GivesAfter (λ _. taken.new) result state.new (perform_item (inside (M.records at.now.means.now) at.now.room) settled.now.at at.now.depth taken.old settled.now.form settled.now.item state.old) }
+    ensures { GivesAfter (λ _. taken.new) result state.new
+        (perform_item (inside (M.records at.now.means.now) at.now.room) settled.now.at at.now.depth taken.old settled.now.form
+        settled.now.item state.old) }
 {
     let inner = ItemAt {
         body: &settled.at,
@@ -231,7 +236,7 @@ fn perform_item<M: Transformers, N: Ledger, L: Ledger>(
             let forms = with_keywords(state, &parts, &keywords_at, counts)?;
             splice(state, &inner, taken, forms.as_slice(), counts)
         }
-        // No form that was settled is a use.
+        // No form whose uses were expanded is a use.
         Item::Use(_) => Err(state.fault_form(FaultKind::BadForm, &settled.form, &settled.at.place)),
         Item::SetUse(_) => Err(state.fault_form(
             FaultKind::BadForm,
@@ -248,7 +253,8 @@ fn value_of<M: Transformers, N: Ledger, L: Ledger>(
     at: &FormAt<M>,
     counts: &mut Counts<N, L>,
 ) -> Result<Core, Stop>
-    ensures { GivesAfter (λ c. c) result state.new (value_of (inside (M.records at.now.means.now) at.now.room) at.now.place.now at.now.level at.now.depth value.now state.old) }
+    ensures { GivesAfter (λ c. c) result state.new (value_of
+        (inside (M.records at.now.means.now) at.now.room) at.now.place.now at.now.level at.now.depth value.now state.old) }
 {
     match value {
         None => Ok(no_value(state.alloc())?),
@@ -329,7 +335,8 @@ fn finish<M: Transformers, N: Ledger, L: Ledger>(
     at: &FormAt<M>,
     counts: &mut Counts<N, L>,
 ) -> Result<Core, Stop>
-    ensures { GivesAfter (λ c. c) result state.new (finish (inside (M.records at.now.means.now) at.now.room) at.now.place.now at.now.level form.now taken.now state.old) }
+    ensures { GivesAfter (λ c. c) result state.new (finish
+        (inside (M.records at.now.means.now) at.now.room) at.now.place.now at.now.level form.now taken.now state.old) }
 {
     if !taken.has_expression {
         return Err(state.fault_form(FaultKind::NoExpression, form, at.place));
@@ -347,7 +354,8 @@ pub fn body<M: Transformers, N: Ledger, L: Ledger>(
     at: &FormAt<M>,
     counts: &mut Counts<N, L>,
 ) -> Result<Core, Stop>
-    ensures { GivesAfter (λ c. c) result state.new (body (inside (M.records at.now.means.now) at.now.room) at.now.place.now at.now.level at.now.depth whole.now.form.now whole.now.forms.now state.old) }
+    ensures { GivesAfter (λ c. c) result state.new (body
+        (inside (M.records at.now.means.now) at.now.room) at.now.place.now at.now.level at.now.depth whole.now.form.now whole.now.forms.now state.old) }
 {
     let outer = state.in_scope();
     let frame = state.fresh_frame()?;
@@ -365,7 +373,9 @@ fn body_in<M: Transformers, N: Ledger, L: Ledger>(
     at: &FormAt<M>,
     counts: &mut Counts<N, L>,
 ) -> Result<Core, Stop>
-    ensures { GivesAfter (λ c. c) result state.new (body_in (inside (M.records at.now.means.now) at.now.room) at.now.place.now at.now.level at.now.depth whole.now.form.now whole.now.forms.now frame state.old) }
+    ensures { GivesAfter (λ c. c) result state.new (body_in
+        (inside (M.records at.now.means.now) at.now.room) at.now.place.now at.now.level at.now.depth whole.now.form.now whole.now.forms.now
+        frame state.old) }
 {
     let body = lambda_at(frame, at.place, at.level)?;
     let items = ItemAt {
@@ -388,7 +398,8 @@ fn taken_of<M: Transformers, N: Ledger, L: Ledger>(
     forms: &[Syn],
     counts: &mut Counts<N, L>,
 ) -> Result<Taken, Stop>
-    ensures { GivesAfter (λ t. t) result state.new (splice (inside (M.records at.now.means.now) at.now.room) at.now.body.now at.now.depth begun (map (stamp at.now.body.now.frame) forms.now) state.old) }
+    ensures { GivesAfter (λ t. t) result state.new (splice
+        (inside (M.records at.now.means.now) at.now.room) at.now.body.now at.now.depth begun (map (stamp at.now.body.now.frame) forms.now) state.old) }
 {
     let forms = stamp_all(state.alloc(), &at.body.frame, forms, counts.nodes)?;
     let mut taken = begun(state.alloc());

@@ -78,7 +78,8 @@ fn used_form<M: Transformers, N: Ledger, L: Ledger>(
     means: &M,
     counts: &mut Counts<N, L>,
 ) -> Result<Syn, Stop>
-    ensures { GivesAfter (λ t. t) result state.new (used_form (M.records means.now) used.entry.place.now used.entry.form.now used.entry.keyword.now used.entry.frame state.old) }
+    ensures { GivesAfter (λ t. t) result state.new (used_form
+        (M.records means.now) used.entry.place.now used.entry.form.now used.entry.keyword.now used.entry.frame state.old) }
 {
     let PendingUse {
         form,
@@ -102,7 +103,8 @@ fn next_form<M: Transformers, N: Ledger, L: Ledger>(
     means: &M,
     counts: &mut Counts<N, L>,
 ) -> Result<Syn, Stop>
-    ensures { GivesAfter (λ t. t) result state.new (next_form (M.records means.now) left used.entry.place.now used.entry.form.now used.entry.keyword.now used.entry.frame state.old) }
+    ensures { GivesAfter (λ t. t) result state.new (next_form
+        (M.records means.now) left used.entry.place.now used.entry.form.now used.entry.keyword.now used.entry.frame state.old) }
 {
     state.leave_uses(left);
     let PendingUse {
@@ -265,7 +267,8 @@ fn set_item_step<M, L: Ledger>(
     label: Label,
     is_use: bool,
 ) -> Result<ItemOrUse, Stop>
-    ensures { GivesAfter (λ x. (taken.new, x)) result state.new (set_item_step one.now.body.now one.now.depth taken.old one.now.form.now label is_use state.old) }
+    ensures { GivesAfter (λ x. (taken.new, x)) result state.new
+        (set_item_step one.now.body.now one.now.depth taken.old one.now.form.now label is_use state.old) }
 {
     if is_use {
         return Ok(ItemOrUse::Use(KeywordUse::Macro(label)));
@@ -281,7 +284,8 @@ fn item_step_of<M: Transformers, N: Ledger, L: Ledger>(
     item: Item,
     counts: &mut Counts<N, L>,
 ) -> Result<ItemOrUse, Stop>
-    ensures { GivesAfter (λ x. (taken.new, x)) result state.new (item_step_of (M.records one.now.means.now) one.now.body.now one.now.depth one.now.form.now taken.old item state.old) }
+    ensures { GivesAfter (λ x. (taken.new, x)) result state.new
+        (item_step_of (M.records one.now.means.now) one.now.body.now one.now.depth one.now.form.now taken.old item state.old) }
 {
     match item {
         Item::Use(keyword) => Ok(ItemOrUse::Use(keyword)),
@@ -301,7 +305,8 @@ fn item_step<M: Transformers, N: Ledger, L: Ledger>(
     taken: &mut Taken,
     counts: &mut Counts<N, L>,
 ) -> Result<ItemOrUse, Stop>
-    ensures { GivesAfter (λ x. (taken.new, x)) result state.new (item_step (M.records one.now.means.now) one.now.body.now one.now.depth taken.old one.now.form.now state.old) }
+    ensures { GivesAfter (λ x. (taken.new, x)) result state.new
+        (item_step (M.records one.now.means.now) one.now.body.now one.now.depth taken.old one.now.form.now state.old) }
 {
     let item = item_plan(state, one.body, one.depth, taken, one.form)?;
     item_step_of(state, one, taken, item, counts)
@@ -316,7 +321,8 @@ pub(crate) fn expand_item_uses<M: Transformers, N: Ledger, L: Ledger>(
     form: &Syn,
     counts: &mut Counts<N, L>,
 ) -> Result<PlannedItem, Stop>
-    ensures { GivesAfter (λ d. (taken.new, d)) result state.new (expand_item_uses (M.records at.now.means.now) at.now.body.now at.now.depth taken.old form.now state.old) }
+    ensures { GivesAfter (λ d. (taken.new, d)) result state.new
+        (expand_item_uses (M.records at.now.means.now) at.now.body.now at.now.depth taken.old form.now state.old) }
 {
     let mut left = state.uses_left();
     let mut form = form.share()?;

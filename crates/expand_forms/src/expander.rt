@@ -87,7 +87,8 @@ impl<L: Ledger> Expander<L> {
         environment: &Environment,
         supplies: Supplies<L>,
     ) -> Result<Expander<L>, Stop>
-        ensures { Gives (λ e. e) result (Ok (ready name path (needed_records environment.now.needs.now environment.now.earlier.now) environment.now.imports.now (table.seen supplies.codes.entries))) }
+        ensures { Gives (λ e. e) result (Ok (ready name path
+            (needed_records environment.now.needs.now environment.now.earlier.now) environment.now.imports.now (table.seen supplies.codes.entries))) }
     {
         match begun(alloc, name, path, environment, supplies) {
             Ok(expander) => Ok(expander),
@@ -111,7 +112,8 @@ impl<L: Ledger> Expander<L> {
         counts: &mut Counts<N, L>,
     ) -> Result<Core, Stop>
         requires { self.old.failed ≡ false }
-        ensures given { GivesAfter (λ c. c) result self.new.state (expression (earlier_in means.now.earlier) at.now.place.now at.now.level form.now self.old.state) }
+        ensures given { GivesAfter (λ c. c) result self.new.state
+            (expression (earlier_in means.now.earlier) at.now.place.now at.now.level form.now self.old.state) }
         ensures ok { OnOk result (self.new.failed ≡ false) }
         ensures err { OnErr result (self.new.failed ≡ true) }
         ensures frame { self.new.frame ≡ self.old.frame }
@@ -142,7 +144,8 @@ impl<L: Ledger> Expander<L> {
         counts: &mut Counts<N, L>,
     ) -> Result<Core, Stop>
         requires { self.old.failed ≡ false }
-        ensures given { GivesAfter (λ c. c) result self.new.state (lambda_body (earlier_in means.now.earlier) at.now.place.now at.now.level forms.now self.old.state) }
+        ensures given { GivesAfter (λ c. c) result self.new.state
+            (lambda_body (earlier_in means.now.earlier) at.now.place.now at.now.level forms.now self.old.state) }
         ensures ok { OnOk result (self.new.failed ≡ false) }
         ensures err { OnErr result (self.new.failed ≡ true) }
         ensures frame { self.new.frame ≡ self.old.frame }
@@ -165,8 +168,10 @@ impl<L: Ledger> Expander<L> {
         tally: &mut Tally<N, L>,
     ) -> Result<CompiledLibrary, Stop>
         requires { self.failed ≡ false }
-        ensures record { Gives (λ r. r) result (library_record self (earlier_in means.now.earlier) body.entry.version body.entry.place.now body.entry.exports.now body.entry.forms) }
-        ensures fuel { OnOk result (tally.new.fuel ≡ tally.old.fuel + library_spent self (earlier_in means.now.earlier) body.entry.version body.entry.place.now body.entry.exports.now body.entry.forms) }
+        ensures record { Gives (λ r. r) result (library_record self
+            (earlier_in means.now.earlier) body.entry.version body.entry.place.now body.entry.exports.now body.entry.forms) }
+        ensures fuel { OnOk result (tally.new.fuel ≡ tally.old.fuel + library_spent self
+            (earlier_in means.now.earlier) body.entry.version body.entry.place.now body.entry.exports.now body.entry.forms) }
     {
         let mut expander = self;
         let library = library_record(&mut expander, body, means, &mut tally.counts)?;
@@ -183,8 +188,10 @@ impl<L: Ledger> Expander<L> {
         tally: &mut Tally<N, L>,
     ) -> Result<Linked, Stop>
         requires { self.failed ≡ false }
-        ensures linked { Gives (λ r. r) result (library_linked self (earlier_in means.now.earlier) body.entry.version body.entry.place.now body.entry.exports.now body.entry.forms) }
-        ensures fuel { OnOk result (tally.new.fuel ≡ tally.old.fuel + library_spent self (earlier_in means.now.earlier) body.entry.version body.entry.place.now body.entry.exports.now body.entry.forms) }
+        ensures linked { Gives (λ r. r) result (library_linked self
+            (earlier_in means.now.earlier) body.entry.version body.entry.place.now body.entry.exports.now body.entry.forms) }
+        ensures fuel { OnOk result (tally.new.fuel ≡ tally.old.fuel + library_spent self
+            (earlier_in means.now.earlier) body.entry.version body.entry.place.now body.entry.exports.now body.entry.forms) }
     {
         let mut expander = self;
         let linked = library_linked(&mut expander, body, means, &mut tally.counts)?;
@@ -208,7 +215,8 @@ fn begun<L: Ledger>(
     environment: &Environment,
     supplies: Supplies<L>,
 ) -> Result<Expander<L>, Memory>
-    ensures { IfOk result (λ e. e ≡ ready name path (needed_records environment.now.needs.now environment.now.earlier.now) environment.now.imports.now (table.seen supplies.codes.entries)) }
+    ensures { IfOk result (λ e. e ≡ ready name path (needed_records environment.now.needs.now environment.now.earlier.now)
+        environment.now.imports.now (table.seen supplies.codes.entries)) }
 {
     let state = Expansion::start(alloc, name, environment, supplies)?;
     let state = Box::new(alloc, state)?;
@@ -248,8 +256,10 @@ fn library_record<N: Ledger, L: Ledger>(
     means: &Means,
     counts: &mut Counts<N, L>,
 ) -> Result<CompiledLibrary, Stop>
-    ensures record { Gives (λ r. r) result (library_record expander.old (earlier_in means.now.earlier) body.entry.version body.entry.place.now body.entry.exports.now body.entry.forms) }
-    ensures spent { OnOk result (expander.new.state.spent ≡ library_spent expander.old (earlier_in means.now.earlier) body.entry.version body.entry.place.now body.entry.exports.now body.entry.forms) }
+    ensures record { Gives (λ r. r) result (library_record expander.old
+        (earlier_in means.now.earlier) body.entry.version body.entry.place.now body.entry.exports.now body.entry.forms) }
+    ensures spent { OnOk result (expander.new.state.spent
+        ≡ library_spent expander.old (earlier_in means.now.earlier) body.entry.version body.entry.place.now body.entry.exports.now body.entry.forms) }
 {
     match library_linked(expander, body, means, counts) {
         Ok(linked) => {
@@ -267,8 +277,10 @@ fn library_linked<N: Ledger, L: Ledger>(
     means: &Means,
     counts: &mut Counts<N, L>,
 ) -> Result<Linked, Stop>
-    ensures linked { Gives (λ r. r) result (library_linked expander.old (earlier_in means.now.earlier) body.entry.version body.entry.place.now body.entry.exports.now body.entry.forms) }
-    ensures spent { OnOk result (expander.new.state.spent ≡ library_spent expander.old (earlier_in means.now.earlier) body.entry.version body.entry.place.now body.entry.exports.now body.entry.forms) }
+    ensures linked { Gives (λ r. r) result (library_linked expander.old
+        (earlier_in means.now.earlier) body.entry.version body.entry.place.now body.entry.exports.now body.entry.forms) }
+    ensures spent { OnOk result (expander.new.state.spent
+        ≡ library_spent expander.old (earlier_in means.now.earlier) body.entry.version body.entry.place.now body.entry.exports.now body.entry.forms) }
 {
     let LibraryBody {
         forms,

@@ -124,7 +124,8 @@ pub fn expression<M: Transformers, N: Ledger, L: Ledger>(
     at: &FormAt<M>,
     counts: &mut Counts<N, L>,
 ) -> Result<Core, Stop>
-    ensures { GivesAfter (λ c. c) result state.new ((inside (M.records at.now.means.now) at.now.room).form at.now.place.now at.now.level at.now.depth form.now state.old) }
+    ensures { GivesAfter (λ c. c) result state.new ((inside (M.records at.now.means.now) at.now.room).form at.now.place.now at.now.level
+        at.now.depth form.now state.old) }
 {
     if at.room == 0 {
         return Err(state.fault_form(FaultKind::TooDeep, form, at.place));
@@ -144,7 +145,8 @@ pub(crate) fn boxed<M: Transformers, N: Ledger, L: Ledger>(
     at: &FormAt<M>,
     counts: &mut Counts<N, L>,
 ) -> Result<Box<Core>, Stop>
-    ensures { GivesAfter (λ c. c.value) result state.new ((inside (M.records at.now.means.now) at.now.room).form at.now.place.now at.now.level at.now.depth form.now state.old) }
+    ensures { GivesAfter (λ c. c.value) result state.new
+        ((inside (M.records at.now.means.now) at.now.room).form at.now.place.now at.now.level at.now.depth form.now state.old) }
 {
     let core = expression(state, form, at, counts)?;
     Ok(Box::new(state.alloc(), core)?)
@@ -159,7 +161,8 @@ pub(crate) fn expression_in<M: Transformers, N: Ledger, L: Ledger>(
     at: &FormAt<M>,
     counts: &mut Counts<N, L>,
 ) -> Result<Core, Stop>
-    ensures { GivesAfter (λ c. c) result state.new ((inside (M.records at.now.means.now) at.now.room).form at.now.place.now at.now.level at.now.depth (stamp frame.now form.now) state.old) }
+    ensures { GivesAfter (λ c. c) result state.new ((inside (M.records at.now.means.now) at.now.room).form at.now.place.now at.now.level
+        at.now.depth (stamp frame.now form.now) state.old) }
 {
     let form = form.stamp(state.alloc(), frame.share()?, counts.nodes)?;
     expression(state, &form, at, counts)
@@ -174,7 +177,8 @@ fn form_at<M: Transformers, N: Ledger, L: Ledger>(
     at: &FormAt<M>,
     counts: &mut Counts<N, L>,
 ) -> Result<Core, Stop>
-    ensures { GivesAfter (λ c. c) result state.new (form_at (inside (M.records at.now.means.now) at.now.room) at.now.place.now at.now.level at.now.depth form.now state.old) }
+    ensures { GivesAfter (λ c. c) result state.new (form_at
+        (inside (M.records at.now.means.now) at.now.room) at.now.place.now at.now.level at.now.depth form.now state.old) }
 {
     if at.depth > MOST_ROUND {
         return Err(state.fault_form(FaultKind::TooDeep, form, at.place));
@@ -197,7 +201,8 @@ fn perform<M: Transformers, N: Ledger, L: Ledger>(
     at: &FormAt<M>,
     counts: &mut Counts<N, L>,
 ) -> Result<Core, Stop>
-    ensures { GivesAfter (λ c. c) result state.new (perform (inside (M.records at.now.means.now) at.now.room) at.now.place.now at.now.level at.now.depth form.now plan state.old) }
+    ensures { GivesAfter (λ c. c) result state.new (perform
+        (inside (M.records at.now.means.now) at.now.room) at.now.place.now at.now.level at.now.depth form.now plan state.old) }
 {
     match plan {
         Plan::Done(core) => Ok(core),
@@ -219,7 +224,8 @@ fn perform_plan<M: Transformers, N: Ledger, L: Ledger>(
     at: &FormAt<M>,
     counts: &mut Counts<N, L>,
 ) -> Result<Core, Stop>
-    ensures { GivesAfter (λ c. c) result state.new (perform (inside (M.records at.now.means.now) at.now.room) at.now.place.now at.now.level at.now.depth form.now plan.now state.old) }
+    ensures { GivesAfter (λ c. c) result state.new (perform
+        (inside (M.records at.now.means.now) at.now.room) at.now.place.now at.now.level at.now.depth form.now plan.now state.old) }
 {
     let inner = FormAt {
         depth: deeper(at.depth),
@@ -284,7 +290,7 @@ fn perform_plan<M: Transformers, N: Ledger, L: Ledger>(
             };
             quasi_form(state, &parts, &inner, counts)
         }
-        // No plan of a form that was settled is a use.
+        // No plan of a form whose uses were expanded is a use.
         Plan::Use(_) => Err(state.fault_form(FaultKind::BadForm, form, at.place)),
         Plan::SetUse(_, _) => Err(state.fault_form(FaultKind::BadForm, form, at.place)),
     }
@@ -300,7 +306,8 @@ fn application<M: Transformers, N: Ledger, L: Ledger>(
     at: &FormAt<M>,
     counts: &mut Counts<N, L>,
 ) -> Result<Core, Stop>
-    ensures { GivesAfter (λ c. c) result state.new (application (inside (M.records at.now.means.now) at.now.room) at.now.place.now at.now.level at.now.depth operator.now operands.now state.old) }
+    ensures { GivesAfter (λ c. c) result state.new (application
+        (inside (M.records at.now.means.now) at.now.room) at.now.place.now at.now.level at.now.depth operator.now operands.now state.old) }
 {
     let operator = boxed(state, operator, at, counts)?;
     let operands = in_order(state, operands, at, counts)?;
@@ -315,7 +322,9 @@ fn conditional<M: Transformers, N: Ledger, L: Ledger>(
     at: &FormAt<M>,
     counts: &mut Counts<N, L>,
 ) -> Result<Core, Stop>
-    ensures { GivesAfter (λ c. c) result state.new (conditional (inside (M.records at.now.means.now) at.now.room) at.now.place.now at.now.level at.now.depth parts.now.test.now parts.now.consequent.now parts.now.alternate.now state.old) }
+    ensures { GivesAfter (λ c. c) result state.new (conditional
+        (inside (M.records at.now.means.now) at.now.room) at.now.place.now at.now.level at.now.depth parts.now.test.now
+        parts.now.consequent.now parts.now.alternate.now state.old) }
 {
     let test = boxed(state, parts.test, at, counts)?;
     let consequent = boxed(state, parts.consequent, at, counts)?;
@@ -331,7 +340,9 @@ fn alternate<M: Transformers, N: Ledger, L: Ledger>(
     at: &FormAt<M>,
     counts: &mut Counts<N, L>,
 ) -> Result<Core, Stop>
-    ensures { GivesAfter (λ c. c) result state.new (alternate (inside (M.records at.now.means.now) at.now.room) at.now.place.now at.now.level at.now.depth tested.test.value tested.consequent.value other.now state.old) }
+    ensures { GivesAfter (λ c. c) result state.new (alternate
+        (inside (M.records at.now.means.now) at.now.room) at.now.place.now at.now.level at.now.depth tested.test.value
+        tested.consequent.value other.now state.old) }
 {
     let OneArmed { test, consequent } = tested;
     match other {
@@ -352,7 +363,8 @@ fn set<M: Transformers, N: Ledger, L: Ledger>(
     at: &FormAt<M>,
     counts: &mut Counts<N, L>,
 ) -> Result<Core, Stop>
-    ensures { GivesAfter (λ c. c) result state.new (set (inside (M.records at.now.means.now) at.now.room) at.now.place.now at.now.level at.now.depth label.now value.now state.old) }
+    ensures { GivesAfter (λ c. c) result state.new (set (inside (M.records at.now.means.now) at.now.room) at.now.place.now at.now.level
+        at.now.depth label.now value.now state.old) }
 {
     let value = boxed(state, value, at, counts)?;
     Ok(assignment_of(label, value)?)
@@ -366,7 +378,8 @@ pub(crate) fn in_sequence<M: Transformers, N: Ledger, L: Ledger>(
     at: &FormAt<M>,
     counts: &mut Counts<N, L>,
 ) -> Result<Core, Stop>
-    ensures { GivesAfter (λ c. c) result state.new (in_sequence (inside (M.records at.now.means.now) at.now.room) at.now.place.now at.now.level at.now.depth forms.now state.old) }
+    ensures { GivesAfter (λ c. c) result state.new (in_sequence
+        (inside (M.records at.now.means.now) at.now.room) at.now.place.now at.now.level at.now.depth forms.now state.old) }
 {
     let parts = in_order(state, forms, at, counts)?;
     Ok(sequence_of(parts))
@@ -379,7 +392,8 @@ fn in_order<M: Transformers, N: Ledger, L: Ledger>(
     at: &FormAt<M>,
     counts: &mut Counts<N, L>,
 ) -> Result<Vec<Core>, Stop>
-    ensures { GivesAfter (λ c. c.items) result state.new (in_order (inside (M.records at.now.means.now) at.now.room) at.now.place.now at.now.level at.now.depth forms.now state.old) }
+    ensures { GivesAfter (λ c. c.items) result state.new
+        (in_order (inside (M.records at.now.means.now) at.now.room) at.now.place.now at.now.level at.now.depth forms.now state.old) }
 {
     let mut done = with_room(state.alloc(), forms.len());
     for form in forms {
@@ -397,7 +411,9 @@ fn lambda<M: Transformers, N: Ledger, L: Ledger>(
     at: &FormAt<M>,
     counts: &mut Counts<N, L>,
 ) -> Result<Core, Stop>
-    ensures { GivesAfter (λ c. c) result state.new (lambda (inside (M.records at.now.means.now) at.now.room) at.now.place.now at.now.level at.now.depth parts.now.form.now parts.now.ids.now parts.now.forms.now state.old) }
+    ensures { GivesAfter (λ c. c) result state.new (lambda
+        (inside (M.records at.now.means.now) at.now.room) at.now.place.now at.now.level at.now.depth parts.now.form.now parts.now.ids.now
+        parts.now.forms.now state.old) }
 {
     let number = CodeNo(state.fresh()?);
     let case = lambda_case(state, parts, at, counts)?;
@@ -413,7 +429,8 @@ fn case_lambda<M: Transformers, N: Ledger, L: Ledger>(
     at: &FormAt<M>,
     counts: &mut Counts<N, L>,
 ) -> Result<Core, Stop>
-    ensures { GivesAfter (λ c. c) result state.new (case_lambda (inside (M.records at.now.means.now) at.now.room) at.now.place.now at.now.level at.now.depth form.now cases.now state.old) }
+    ensures { GivesAfter (λ c. c) result state.new (case_lambda
+        (inside (M.records at.now.means.now) at.now.room) at.now.place.now at.now.level at.now.depth form.now cases.now state.old) }
 {
     let number = CodeNo(state.fresh()?);
     let cases = all_cases(state, form, cases, at, counts)?;
@@ -428,7 +445,8 @@ fn all_cases<M: Transformers, N: Ledger, L: Ledger>(
     at: &FormAt<M>,
     counts: &mut Counts<N, L>,
 ) -> Result<Vec<Lambda>, Stop>
-    ensures { GivesAfter (λ c. c.items) result state.new (all_cases (inside (M.records at.now.means.now) at.now.room) at.now.place.now at.now.level at.now.depth form.now cases.now state.old) }
+    ensures { GivesAfter (λ c. c.items) result state.new
+        (all_cases (inside (M.records at.now.means.now) at.now.room) at.now.place.now at.now.level at.now.depth form.now cases.now state.old) }
 {
     let mut done = with_room(state.alloc(), cases.len());
     for case in cases {
@@ -452,7 +470,9 @@ fn lambda_case<M: Transformers, N: Ledger, L: Ledger>(
     at: &FormAt<M>,
     counts: &mut Counts<N, L>,
 ) -> Result<Lambda, Stop>
-    ensures { GivesAfter (λ c. c) result state.new (lambda_case (inside (M.records at.now.means.now) at.now.room) at.now.place.now at.now.level at.now.depth parts.now.form.now parts.now.ids.now parts.now.forms.now state.old) }
+    ensures { GivesAfter (λ c. c) result state.new (lambda_case
+        (inside (M.records at.now.means.now) at.now.room) at.now.place.now at.now.level at.now.depth parts.now.form.now parts.now.ids.now
+        parts.now.forms.now state.old) }
 {
     let outer = state.in_scope();
     let frame = state.fresh_frame()?;
@@ -470,7 +490,9 @@ fn case_in<M: Transformers, N: Ledger, L: Ledger>(
     at: &FormAt<M>,
     counts: &mut Counts<N, L>,
 ) -> Result<Lambda, Stop>
-    ensures { GivesAfter (λ c. c) result state.new (case_in (inside (M.records at.now.means.now) at.now.room) at.now.place.now at.now.level at.now.depth parts.now.form.now parts.now.ids.now parts.now.forms.now frame.now state.old) }
+    ensures { GivesAfter (λ c. c) result state.new (case_in
+        (inside (M.records at.now.means.now) at.now.room) at.now.place.now at.now.level at.now.depth parts.now.form.now parts.now.ids.now
+        parts.now.forms.now frame.now state.old) }
 {
     let binders = BinderContext {
         frame,
@@ -495,7 +517,9 @@ fn body_under<M: Transformers, N: Ledger, L: Ledger>(
     at: &FormAt<M>,
     counts: &mut Counts<N, L>,
 ) -> Result<Core, Stop>
-    ensures { GivesAfter (λ c. c) result state.new (body (inside (M.records at.now.means.now) at.now.room) at.now.place.now at.now.level at.now.depth whole.now.form.now (map (stamp frame.now) whole.now.forms.now) state.old) }
+    ensures { GivesAfter (λ c. c) result state.new (body
+        (inside (M.records at.now.means.now) at.now.room) at.now.place.now at.now.level at.now.depth whole.now.form.now
+        (map (stamp frame.now) whole.now.forms.now) state.old) }
 {
     let forms = stamp_all(state.alloc(), frame, whole.forms, counts.nodes)?;
     let stamped = BodyForm {
@@ -515,7 +539,8 @@ pub fn procedure<M: Transformers, N: Ledger, L: Ledger>(
     at: &FormAt<M>,
     counts: &mut Counts<N, L>,
 ) -> Result<Lambda, Stop>
-    ensures { GivesAfter (λ c. c) result state.new ((inside (M.records at.now.means.now) at.now.room).procedure at.now.place.now at.now.level at.now.depth parts.now.form.now parts.now.ids.now parts.now.forms.now state.old) }
+    ensures { GivesAfter (λ c. c) result state.new ((inside (M.records at.now.means.now) at.now.room).procedure at.now.place.now
+        at.now.level at.now.depth parts.now.form.now parts.now.ids.now parts.now.forms.now state.old) }
 {
     if at.room == 0 {
         return Err(state.fault_form(FaultKind::TooDeep, parts.form, at.place));
@@ -535,7 +560,9 @@ fn letrec_form<M: Transformers, N: Ledger, L: Ledger>(
     at: &FormAt<M>,
     counts: &mut Counts<N, L>,
 ) -> Result<Core, Stop>
-    ensures { GivesAfter (λ c. c) result state.new (letrec_form (inside (M.records at.now.means.now) at.now.room) at.now.place.now at.now.level at.now.depth parts.now.form.now parts.now.star parts.now.specs.now parts.now.forms.now state.old) }
+    ensures { GivesAfter (λ c. c) result state.new (letrec_form
+        (inside (M.records at.now.means.now) at.now.room) at.now.place.now at.now.level at.now.depth parts.now.form.now parts.now.star
+        parts.now.specs.now parts.now.forms.now state.old) }
 {
     let outer = state.in_scope();
     let frame = state.fresh_frame()?;
@@ -553,7 +580,9 @@ fn letrec_in<M: Transformers, N: Ledger, L: Ledger>(
     at: &FormAt<M>,
     counts: &mut Counts<N, L>,
 ) -> Result<Core, Stop>
-    ensures { GivesAfter (λ c. c) result state.new (letrec_in (inside (M.records at.now.means.now) at.now.room) at.now.place.now at.now.level at.now.depth parts.now.form.now parts.now.star parts.now.specs.now parts.now.forms.now frame.now state.old) }
+    ensures { GivesAfter (λ c. c) result state.new (letrec_in
+        (inside (M.records at.now.means.now) at.now.room) at.now.place.now at.now.level at.now.depth parts.now.form.now parts.now.star
+        parts.now.specs.now parts.now.forms.now frame.now state.old) }
 {
     let binders = BinderContext {
         frame,
@@ -579,7 +608,8 @@ fn all_inits<M: Transformers, N: Ledger, L: Ledger>(
     at: &FormAt<M>,
     counts: &mut Counts<N, L>,
 ) -> Result<Vec<Init>, Stop>
-    ensures { GivesAfter (λ c. c.items) result state.new (all_inits (inside (M.records at.now.means.now) at.now.room) at.now.place.now at.now.level at.now.depth frame.now bound.now state.old) }
+    ensures { GivesAfter (λ c. c.items) result state.new
+        (all_inits (inside (M.records at.now.means.now) at.now.room) at.now.place.now at.now.level at.now.depth frame.now bound.now state.old) }
 {
     let mut done = with_room(state.alloc(), bound.len());
     for one in bound {
@@ -598,7 +628,8 @@ fn one_init<M: Transformers, N: Ledger, L: Ledger>(
     at: &FormAt<M>,
     counts: &mut Counts<N, L>,
 ) -> Result<Init, Stop>
-    ensures { GivesAfter (λ i. i) result state.new (one_init (inside (M.records at.now.means.now) at.now.room) at.now.place.now at.now.level at.now.depth frame.now bound.now state.old) }
+    ensures { GivesAfter (λ i. i) result state.new (one_init
+        (inside (M.records at.now.means.now) at.now.room) at.now.place.now at.now.level at.now.depth frame.now bound.now state.old) }
 {
     let label = bound.label.share()?;
     let value = expression_in(state, frame, &bound.init, at, counts)?;

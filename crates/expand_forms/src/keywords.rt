@@ -59,7 +59,8 @@ fn expression_apart<M: Transformers, N: Ledger, L: Ledger>(
     at: &FormAt<M>,
     counts: &mut Counts<N, L>,
 ) -> Result<Core, Stop>
-    ensures { GivesAfter (λ c. c) result state.new (apart ((inside (M.records at.now.means.now) at.now.room).form at.now.place.now at.now.level at.now.depth form.now) state.old) }
+    ensures { GivesAfter (λ c. c) result state.new (apart
+        ((inside (M.records at.now.means.now) at.now.room).form at.now.place.now at.now.level at.now.depth form.now) state.old) }
 {
     let scope = state.take_scope();
     match expression(state, form, at, counts) {
@@ -76,14 +77,15 @@ fn expression_apart<M: Transformers, N: Ledger, L: Ledger>(
 
 /// Expands the expression of a keyword, one level up and with nothing in scope, and evaluates it.
 #[cycle(form)]
-#[tactic(auto, unfolding(crate::specs::Keywords::keyword), using(crate::proofs::Steps::earlier_inside))]
+#[tactic(auto, unfolding(crate::specs::Keywords::expand_transformer), using(crate::proofs::Steps::earlier_inside))]
 fn expand_transformer<M: Transformers, N: Ledger, L: Ledger>(
     state: &mut Expansion<L>,
     bound: &BoundSpec,
     at: &FormAt<M>,
     counts: &mut Counts<N, L>,
 ) -> Result<(), Stop>
-    ensures { GivesAfter (λ _. tt) result state.new (expand_transformer (inside (M.records at.now.means.now) at.now.room) at.now.place.now at.now.level at.now.depth bound.now state.old) }
+    ensures { GivesAfter (λ _. tt) result state.new (expand_transformer
+        (inside (M.records at.now.means.now) at.now.room) at.now.place.now at.now.level at.now.depth bound.now state.old) }
 {
     let Some(up) = at.level.checked_add(1) else {
         return Err(Stop::Memory);
@@ -125,7 +127,9 @@ fn expand_transformer_in<M: Transformers, N: Ledger, L: Ledger>(
     at: &FormAt<M>,
     counts: &mut Counts<N, L>,
 ) -> Result<(), Stop>
-    ensures { GivesAfter (λ _. tt) result state.new (expand_transformer_in (inside (M.records at.now.means.now) at.now.room) at.now.place.now at.now.level at.now.depth scope.now.recursive scope.now.frame.now tt bound.now state.old) }
+    ensures { GivesAfter (λ _. tt) result state.new (expand_transformer_in
+        (inside (M.records at.now.means.now) at.now.room) at.now.place.now at.now.level at.now.depth scope.now.recursive
+        scope.now.frame.now tt bound.now state.old) }
 {
     let bound = seen_in(
         state.alloc(),
@@ -145,7 +149,9 @@ fn expand_transformers<M: Transformers, N: Ledger, L: Ledger>(
     at: &FormAt<M>,
     counts: &mut Counts<N, L>,
 ) -> Result<(), Stop>
-    ensures { GivesAfter (λ _. tt) result state.new (expand_transformers (inside (M.records at.now.means.now) at.now.room) at.now.place.now at.now.level at.now.depth scope.now.recursive scope.now.frame.now bound.now state.old) }
+    ensures { GivesAfter (λ _. tt) result state.new (expand_transformers
+        (inside (M.records at.now.means.now) at.now.room) at.now.place.now at.now.level at.now.depth scope.now.recursive
+        scope.now.frame.now bound.now state.old) }
 {
     for one in bound {
         expand_transformer_in(state, scope, one, at, counts)?;
@@ -163,7 +169,9 @@ fn keywords<M: Transformers, N: Ledger, L: Ledger>(
     at: &FormAt<M>,
     counts: &mut Counts<N, L>,
 ) -> Result<(), Stop>
-    ensures { GivesAfter (λ _. tt) result state.new (keywords (inside (M.records at.now.means.now) at.now.room) at.now.place.now at.now.level at.now.depth scope.now.recursive specs.now scope.now.frame.now state.old) }
+    ensures { GivesAfter (λ _. tt) result state.new (keywords
+        (inside (M.records at.now.means.now) at.now.room) at.now.place.now at.now.level at.now.depth scope.now.recursive specs.now
+        scope.now.frame.now state.old) }
 {
     let binders = BinderContext {
         frame: scope.frame,
@@ -182,7 +190,9 @@ pub(crate) fn with_keywords<M: Transformers, N: Ledger, L: Ledger>(
     at: &FormAt<M>,
     counts: &mut Counts<N, L>,
 ) -> Result<Items<Syn>, Stop>
-    ensures { GivesAfter (λ ts. ts) result state.new (with_keywords (inside (M.records at.now.means.now) at.now.room) at.now.place.now at.now.level at.now.depth parts.now.recursive parts.now.specs.now parts.now.forms.now state.old) }
+    ensures { GivesAfter (λ ts. ts) result state.new (with_keywords
+        (inside (M.records at.now.means.now) at.now.room) at.now.place.now at.now.level at.now.depth parts.now.recursive
+        parts.now.specs.now parts.now.forms.now state.old) }
 {
     let frame = state.fresh_frame()?;
     let scope = KeywordFrame {
@@ -202,7 +212,9 @@ pub(crate) fn keywords_form<M: Transformers, N: Ledger, L: Ledger>(
     at: &FormAt<M>,
     counts: &mut Counts<N, L>,
 ) -> Result<Core, Stop>
-    ensures { GivesAfter (λ c. c) result state.new (keywords_form (inside (M.records at.now.means.now) at.now.room) at.now.place.now at.now.level at.now.depth parts.now.recursive parts.now.specs.now parts.now.forms.now state.old) }
+    ensures { GivesAfter (λ c. c) result state.new (keywords_form
+        (inside (M.records at.now.means.now) at.now.room) at.now.place.now at.now.level at.now.depth parts.now.recursive
+        parts.now.specs.now parts.now.forms.now state.old) }
 {
     let forms = with_keywords(state, parts, at, counts)?;
     in_sequence(state, forms.as_slice(), at, counts)
@@ -218,7 +230,9 @@ pub(crate) fn define_syntax<M: Transformers, N: Ledger, L: Ledger>(
     definition: &KeywordDefinition,
     counts: &mut Counts<N, L>,
 ) -> Result<(), Stop>
-    ensures { GivesAfter (λ _. tt) result state.new (define_syntax (inside (M.records at.now.means.now) at.now.room) at.now.body.now at.now.depth taken.now definition.now.form.now definition.now.spec.now state.old) }
+    ensures { GivesAfter (λ _. tt) result state.new (define_syntax
+        (inside (M.records at.now.means.now) at.now.room) at.now.body.now at.now.depth taken.now definition.now.form.now
+        definition.now.spec.now state.old) }
 {
     let bound = define_keyword(state, at.body, taken, definition.form, definition.spec)?;
     let keyword_at = FormAt {

@@ -49,7 +49,8 @@ fn fender<M: Transformers, N: Ledger, L: Ledger>(
     at: &FormAt<M>,
     counts: &mut Counts<N, L>,
 ) -> Result<Option<Core>, Stop>
-    ensures { GivesAfter (λ c. c) result state.new (fender (inside (M.records at.now.means.now) at.now.room) at.now.place.now at.now.level at.now.depth frame.now form.now state.old) }
+    ensures { GivesAfter (λ c. c) result state.new (fender
+        (inside (M.records at.now.means.now) at.now.room) at.now.place.now at.now.level at.now.depth frame.now form.now state.old) }
 {
     match form {
         None => Ok(None),
@@ -70,7 +71,8 @@ fn pattern_clause<M: Transformers, N: Ledger, L: Ledger>(
     at: &FormAt<M>,
     counts: &mut Counts<N, L>,
 ) -> Result<Clause, Stop>
-    ensures { GivesAfter (λ c. c) result state.new (pattern_clause (inside (M.records at.now.means.now) at.now.room) at.now.place.now at.now.level at.now.depth literals.now case.now state.old) }
+    ensures { GivesAfter (λ c. c) result state.new (pattern_clause
+        (inside (M.records at.now.means.now) at.now.room) at.now.place.now at.now.level at.now.depth literals.now case.now state.old) }
 {
     let outer = state.in_scope();
     let frame = state.fresh_frame()?;
@@ -92,7 +94,9 @@ fn clause_in<M: Transformers, N: Ledger, L: Ledger>(
     at: &FormAt<M>,
     counts: &mut Counts<N, L>,
 ) -> Result<Clause, Stop>
-    ensures { GivesAfter (λ c. c) result state.new (clause_in (inside (M.records at.now.means.now) at.now.room) at.now.place.now at.now.level at.now.depth literals.now framed.now.case.now framed.now.frame.now state.old) }
+    ensures { GivesAfter (λ c. c) result state.new (clause_in
+        (inside (M.records at.now.means.now) at.now.room) at.now.place.now at.now.level at.now.depth literals.now framed.now.case.now
+        framed.now.frame.now state.old) }
 {
     let Compiled { pattern, variables } = state.pattern(&framed.case.pattern, literals, at.place)?;
     let binders = BinderContext {
@@ -121,7 +125,11 @@ fn clause_of<M: Transformers, N: Ledger, L: Ledger>(
     at: &FormAt<M>,
     counts: &mut Counts<N, L>,
 ) -> Result<Clause, Stop>
-    ensures { GivesAfter (λ c. c) result state.new (after (fender (inside (M.records at.now.means.now) at.now.room) at.now.place.now at.now.level at.now.depth framed.now.frame.now framed.now.case.now.fender state.old) (λ f s. after ((inside (M.records at.now.means.now) at.now.room).form at.now.place.now at.now.level at.now.depth (stamp framed.now.frame.now framed.now.case.now.output) s) (λ o. give (record { pattern = pattern; fender = f; output = o })))) }
+    ensures { GivesAfter (λ c. c) result state.new (after
+        (fender (inside (M.records at.now.means.now) at.now.room) at.now.place.now at.now.level at.now.depth framed.now.frame.now
+        framed.now.case.now.fender state.old) (λ f s. after ((inside (M.records at.now.means.now) at.now.room).form at.now.place.now
+        at.now.level at.now.depth (stamp framed.now.frame.now framed.now.case.now.output) s)
+        (λ o. give (record { pattern = pattern; fender = f; output = o })))) }
 {
     match fender(state, framed.frame, &framed.case.fender, at, counts) {
         Ok(fender) => match expression_in(state, framed.frame, &framed.case.output, at, counts) {
@@ -151,7 +159,8 @@ fn all_clauses<M: Transformers, N: Ledger, L: Ledger>(
     at: &FormAt<M>,
     counts: &mut Counts<N, L>,
 ) -> Result<Vec<Clause>, Stop>
-    ensures { GivesAfter (λ c. c.items) result state.new (all_clauses (inside (M.records at.now.means.now) at.now.room) at.now.place.now at.now.level at.now.depth literals.now cases.now state.old) }
+    ensures { GivesAfter (λ c. c.items) result state.new
+        (all_clauses (inside (M.records at.now.means.now) at.now.room) at.now.place.now at.now.level at.now.depth literals.now cases.now state.old) }
 {
     let mut done = Vec::new(state.alloc());
     for case in cases {
@@ -170,7 +179,9 @@ pub(crate) fn syntax_case<M: Transformers, N: Ledger, L: Ledger>(
     at: &FormAt<M>,
     counts: &mut Counts<N, L>,
 ) -> Result<Core, Stop>
-    ensures { GivesAfter (λ c. c) result state.new (syntax_case (inside (M.records at.now.means.now) at.now.room) at.now.place.now at.now.level at.now.depth parts.now.subject.now parts.now.literals.now parts.now.cases.now parts.now.span.now state.old) }
+    ensures { GivesAfter (λ c. c) result state.new (syntax_case
+        (inside (M.records at.now.means.now) at.now.room) at.now.place.now at.now.level at.now.depth parts.now.subject.now
+        parts.now.literals.now parts.now.cases.now parts.now.span.now state.old) }
 {
     let subject = boxed(state, parts.subject, at, counts)?;
     state.check_literals(parts.literals, at.place)?;

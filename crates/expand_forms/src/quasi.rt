@@ -38,7 +38,8 @@ fn parts_in_order<M: Transformers, N: Ledger, L: Ledger>(
     at: &FormAt<M>,
     counts: &mut Counts<N, L>,
 ) -> Result<Vec<Core>, Stop>
-    ensures { GivesAfter (λ c. c.items) result state.new (parts_in_order (inside (M.records at.now.means.now) at.now.room) at.now.place.now at.now.level parts.now state.old) }
+    ensures { GivesAfter (λ c. c.items) result state.new
+        (parts_in_order (inside (M.records at.now.means.now) at.now.room) at.now.place.now at.now.level parts.now state.old) }
 {
     let mut done = Vec::new(state.alloc());
     for part in parts {
@@ -61,7 +62,9 @@ fn cores_of<M: Transformers, N: Ledger, L: Ledger>(
     at: &FormAt<M>,
     counts: &mut Counts<N, L>,
 ) -> Result<Vec<Core>, Stop>
-    ensures { GivesAfter (λ c. c.items) result state.new (parts_in_order (inside (M.records at.now.means.now) at.now.room) at.now.place.now at.now.level (parts_of form.now at.now.depth quasi.now) state.old) }
+    ensures { GivesAfter (λ c. c.items) result state.new
+        (parts_in_order (inside (M.records at.now.means.now) at.now.room) at.now.place.now at.now.level
+        (parts_of form.now at.now.depth quasi.now) state.old) }
 {
     let parts = parts_of(state.alloc(), form, quasi, at.depth)?;
     parts_in_order(state, parts.as_slice(), at, counts)
@@ -76,7 +79,8 @@ fn quasi_made<M: Transformers, N: Ledger, L: Ledger>(
     at: &FormAt<M>,
     counts: &mut Counts<N, L>,
 ) -> Result<Core, Stop>
-    ensures { GivesAfter (λ c. c) result state.new (quasi_made (inside (M.records at.now.means.now) at.now.room) at.now.place.now at.now.level at.now.depth form.now quasi.now state.old) }
+    ensures { GivesAfter (λ c. c) result state.new (quasi_made
+        (inside (M.records at.now.means.now) at.now.room) at.now.place.now at.now.level at.now.depth form.now quasi.now state.old) }
 {
     let cores = cores_of(state, form, quasi, at, counts)?;
     let context = FormContext {
@@ -96,7 +100,9 @@ pub(crate) fn quasi_form<M: Transformers, N: Ledger, L: Ledger>(
     at: &FormAt<M>,
     counts: &mut Counts<N, L>,
 ) -> Result<Core, Stop>
-    ensures { GivesAfter (λ c. c) result state.new (quasi_form (inside (M.records at.now.means.now) at.now.room) at.now.place.now at.now.level at.now.depth parts.now.form.now parts.now.which parts.now.template.now state.old) }
+    ensures { GivesAfter (λ c. c) result state.new (quasi_form
+        (inside (M.records at.now.means.now) at.now.room) at.now.place.now at.now.level at.now.depth parts.now.form.now parts.now.which
+        parts.now.template.now state.old) }
 {
     let quasi = form_of(state, parts.form, parts.which, parts.template, at.place)?;
     let core = quasi_made(state, parts.form, &quasi, at, counts);

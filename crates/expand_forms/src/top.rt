@@ -219,7 +219,8 @@ fn finish_each<N: Ledger, L: Ledger>(
     at: &FormAt<Means>,
     counts: &mut Counts<N, L>,
 ) -> Result<Vec<Line>, Stop>
-    ensures { GivesAfter (λ v. v.items) result state.new (finish_all (inside (earlier_in at.now.means.now.earlier) at.now.room) at.now.level waiting state.old) }
+    ensures { GivesAfter (λ v. v.items) result state.new
+        (finish_all (inside (earlier_in at.now.means.now.earlier) at.now.room) at.now.level waiting state.old) }
 {
     let waiting = waiting.into_vec();
     let mut lines = with_room(state.alloc(), waiting.len());
@@ -232,7 +233,7 @@ fn finish_each<N: Ledger, L: Ledger>(
 }
 
 /// What comes after the first pass.
-#[tactic(auto, unfolding(crate::specs::Top::finished))]
+#[tactic(auto, unfolding(crate::specs::Top::second_pass))]
 fn second_pass<N: Ledger, L: Ledger>(
     state: &mut Expansion<L>,
     body: TopBody,
@@ -240,8 +241,10 @@ fn second_pass<N: Ledger, L: Ledger>(
     means: &Means,
     counts: &mut Counts<N, L>,
 ) -> Result<Linked, Stop>
-    ensures linked { Gives (λ r. r) result (linked_in (second_pass (inside (earlier_in means.now.earlier) full_room) body.entry.at body.entry.exports.now taken state.old)) }
-    ensures spent { OnOk result (state.new.spent ≡ spent_in (second_pass (inside (earlier_in means.now.earlier) full_room) body.entry.at body.entry.exports.now taken state.old)) }
+    ensures linked { Gives (λ r. r) result (linked_in (second_pass
+        (inside (earlier_in means.now.earlier) full_room) body.entry.at body.entry.exports.now taken state.old)) }
+    ensures spent { OnOk result (state.new.spent ≡ spent_in
+        (second_pass (inside (earlier_in means.now.earlier) full_room) body.entry.at body.entry.exports.now taken state.old)) }
 {
     let TopBody { at, exports: list } = body;
     let exports = exports(state, &at, list, counts.nodes)?;
@@ -284,7 +287,8 @@ fn splice_each<N: Ledger, L: Ledger>(
     forms: Items<Syn>,
     counts: &mut Counts<N, L>,
 ) -> Result<(), Stop>
-    ensures { GivesAfter (λ _. taken.new) result state.new (splice (inside (earlier_in at.now.means.now.earlier) at.now.room) at.now.body.now at.now.depth taken.old forms state.old) }
+    ensures { GivesAfter (λ _. taken.new) result state.new
+        (splice (inside (earlier_in at.now.means.now.earlier) at.now.room) at.now.body.now at.now.depth taken.old forms state.old) }
 {
     let mut left = forms.into_vec().into_iter();
     while let Some(form) = left.next() {
@@ -327,8 +331,10 @@ pub fn top<N: Ledger, L: Ledger>(
     means: &Means,
     counts: &mut Counts<N, L>,
 ) -> Result<Linked, Stop>
-    ensures linked { Gives (λ r. r) result (linked_in (top (inside (earlier_in means.now.earlier) full_room) body.entry.at body.entry.exports.now forms state.old)) }
-    ensures spent { OnOk result (state.new.spent ≡ spent_in (top (inside (earlier_in means.now.earlier) full_room) body.entry.at body.entry.exports.now forms state.old)) }
+    ensures linked { Gives (λ r. r) result (linked_in (top
+        (inside (earlier_in means.now.earlier) full_room) body.entry.at body.entry.exports.now forms state.old)) }
+    ensures spent { OnOk result (state.new.spent ≡ spent_in
+        (top (inside (earlier_in means.now.earlier) full_room) body.entry.at body.entry.exports.now forms state.old)) }
 {
     let taken = first_pass(state, &body.at, forms, means, counts)?;
     second_pass(state, body, taken, means, counts)

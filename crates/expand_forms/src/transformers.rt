@@ -31,7 +31,8 @@ pub trait Transformers {
         label: &Label,
         counts: &mut Counts<N, L>,
     ) -> Result<Syn, Stop>
-        ensures { GivesAfter (λ t. t) result state.new (use_keyword (records self.now) used.entry.place.now used.entry.form.now label.now used.entry.frame state.old) };
+        ensures { GivesAfter (λ t. t) result state.new (use_keyword
+            (records self.now) used.entry.place.now used.entry.form.now label.now used.entry.frame state.old) };
 
     /// Whether an assignment to a keyword is a use of it.
     fn asks_variable<N: Ledger, L: Ledger>(

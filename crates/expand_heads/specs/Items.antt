@@ -118,7 +118,8 @@ define_keyword at done t b s =
 
 unfoldable pub define_item : BodyAt → ℕ → Taken → Tree → Shape → Does Taken
 define_item at depth done t (shapes.Define id value) s = after (define at done t id s) (λ d. give (with_waiting at depth d.0 (waits.Variable d.1 value)))
-define_item at depth done t (shapes.DefineProcedure id ids forms) s = after (define at done t id s) (λ d. give (with_waiting at depth d.0 (waits.Procedure d.1 t ids forms)))
+define_item at depth done t (shapes.DefineProcedure id ids forms) s
+    = after (define at done t id s) (λ d. give (with_waiting at depth d.0 (waits.Procedure d.1 t ids forms)))
 define_item at depth done t x s = fault_form kind.BadForm t at.place s
 
 -- What comes of a form: what was taken with it, and what else is to be done with it.

@@ -26,7 +26,8 @@ heads_of x hs = or_none (found x hs)
 
 -- a head more, behind those of its symbol
 abbrev pub with_head : Heads → KeptHead → Heads
-with_head hs k = if is_some (found k.symbol hs) then set_value (λ y. pointwise nat_eq k.symbol y) hs (heads_of k.symbol hs ++ k ∷ []) else hs ++ (k.symbol, k ∷ []) ∷ []
+with_head hs k = if is_some (found k.symbol hs) then set_value (λ y. pointwise nat_eq k.symbol y) hs
+    (heads_of k.symbol hs ++ k ∷ []) else hs ++ (k.symbol, k ∷ []) ∷ []
 
 -- these heads kept in their order
 abbrev pub kept_all : Heads → List KeptHead → Heads

@@ -64,7 +64,8 @@ constant place t is_nil s = if is_nil then fault_form kind.BadForm t place s els
 
 unfoldable pub target_variable : Span → ℕ → Tree → Tree → Variable → Does Label
 target_variable place level t id v s =
-    if v.own then (if nat_eq v.level level then (if is_in_scope s v then (if has_label s.exports v.label then fault_word kind.AssignedExport id t place s else mark_assigned v.label s)
+    if v.own then (if nat_eq v.level level then (if is_in_scope s v then
+    (if has_label s.exports v.label then fault_word kind.AssignedExport id t place s else mark_assigned v.label s)
     else fault_word kind.OutOfContext id id place s)
     else fault_word kind.OutOfContext id id place s)
     else if v.top then (if has_label s.exports v.label then fault_word kind.AssignedExport id t place s else fault_word kind.AssignedImport id t place s)

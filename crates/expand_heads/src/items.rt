@@ -328,7 +328,8 @@ fn target_item<L: Ledger>(
     taken: &mut Taken,
     standing: &Standing,
 ) -> Result<Item, Stop>
-    ensures { GivesAfter (λ i. (taken.new, i)) result state.new (target_item context.now.at.now context.now.depth taken.old context.now.form.now standing.now state.old) }
+    ensures { GivesAfter (λ i. (taken.new, i)) result state.new
+        (target_item context.now.at.now context.now.depth taken.old context.now.form.now standing.now state.old) }
 {
     match standing {
         Standing::Keyword(label) => Ok(Item::SetUse(label.share()?)),
@@ -343,7 +344,9 @@ fn set_item<L: Ledger>(
     taken: &mut Taken,
     which: CoreForm,
 ) -> Result<Item, Stop>
-    ensures { GivesAfter (λ i. (taken.new, i)) result state.new (set_item context.now.at.now context.now.depth taken.old context.now.form.now (shape which context.now.form.now context.now.at.now.place) state.old) }
+    ensures { GivesAfter (λ i. (taken.new, i)) result state.new
+        (set_item context.now.at.now context.now.depth taken.old context.now.form.now
+        (shape which context.now.form.now context.now.at.now.place) state.old) }
 {
     match shape(state.alloc(), context.form, which, &context.at.place) {
         Ok(Shape::Set(id, _)) => {
@@ -395,7 +398,8 @@ fn core_item<L: Ledger>(
     taken: &mut Taken,
     which: CoreForm,
 ) -> Result<Item, Stop>
-    ensures { GivesAfter (λ i. (taken.new, i)) result state.new (core_item context.now.at.now context.now.depth taken.old context.now.form.now which state.old) }
+    ensures { GivesAfter (λ i. (taken.new, i)) result state.new
+        (core_item context.now.at.now context.now.depth taken.old context.now.form.now which state.old) }
 {
     match role_of(which) {
         Role::Expression => alone(state, context, taken),
@@ -425,7 +429,8 @@ fn headed_item<L: Ledger>(
     taken: &mut Taken,
     standing: &Standing,
 ) -> Result<Item, Stop>
-    ensures { GivesAfter (λ i. (taken.new, i)) result state.new (headed_item context.now.at.now context.now.depth taken.old context.now.form.now standing.now state.old) }
+    ensures { GivesAfter (λ i. (taken.new, i)) result state.new
+        (headed_item context.now.at.now context.now.depth taken.old context.now.form.now standing.now state.old) }
 {
     match standing {
         Standing::Nothing => alone(state, context, taken),
@@ -444,7 +449,8 @@ fn list_item<L: Ledger>(
     taken: &mut Taken,
     head: &Syn,
 ) -> Result<Item, Stop>
-    ensures { GivesAfter (λ i. (taken.new, i)) result state.new (list_item context.now.at.now context.now.depth taken.old context.now.form.now head.now state.old) }
+    ensures { GivesAfter (λ i. (taken.new, i)) result state.new
+        (list_item context.now.at.now context.now.depth taken.old context.now.form.now head.now state.old) }
 {
     if !is_id(state.alloc(), head)? {
         return alone(state, context, taken);
@@ -459,7 +465,8 @@ fn leaf_by<L: Ledger>(
     taken: &mut Taken,
     standing: &Standing,
 ) -> Result<Item, Stop>
-    ensures { GivesAfter (λ i. (taken.new, i)) result state.new (leaf_by context.now.at.now context.now.depth taken.old context.now.form.now standing.now state.old) }
+    ensures { GivesAfter (λ i. (taken.new, i)) result state.new
+        (leaf_by context.now.at.now context.now.depth taken.old context.now.form.now standing.now state.old) }
 {
     match standing {
         Standing::Nothing => alone(state, context, taken),

@@ -182,7 +182,8 @@ fn target_variable<L: Ledger>(
     id: &Syn,
     variable: &Variable,
 ) -> Result<Label, Stop>
-    ensures { GivesAfter (λ l. l) result state.new (target_variable context.now.place.now context.now.level context.now.form.now id.now variable.now state.old) }
+    ensures { GivesAfter (λ l. l) result state.new (target_variable context.now.place.now context.now.level context.now.form.now id.now
+        variable.now state.old) }
 {
     let form = context.form;
     let place = context.place;
@@ -294,7 +295,8 @@ fn syntax_plan<L: Ledger>(
     context: &FormContext,
     operand: &Syn,
 ) -> Result<Plan, Stop>
-    ensures { GivesAfter (λ p. p) result state.new (operand_plan context.now.place.now context.now.level context.now.form.now core_forms.Syntax operand.now state.old) }
+    ensures { GivesAfter (λ p. p) result state.new (operand_plan context.now.place.now context.now.level context.now.form.now
+        core_forms.Syntax operand.now state.old) }
 {
     let template = state.template(operand, context.place, context.level)?;
     let span = place_of(context.form, context.place)?;
@@ -325,7 +327,8 @@ fn matching<L: Ledger>(
     literals: Items<Syn>,
     clauses: Items<PatternCase>,
 ) -> Result<Plan, Stop>
-    ensures { GivesAfter (λ p. p) result state.now (give (plans.Matching subject literals clauses (place_of context.now.form.now context.now.place.now)) state.now) }
+    ensures { GivesAfter (λ p. p) result state.now (give
+        (plans.Matching subject literals clauses (place_of context.now.form.now context.now.place.now)) state.now) }
 {
     let span = place_of(context.form, context.place)?;
     Ok(Plan::Matching(subject, literals, clauses, span))
@@ -370,7 +373,8 @@ fn shaped_plan<L: Ledger>(
     context: &FormContext,
     which: CoreForm,
 ) -> Result<Plan, Stop>
-    ensures { GivesAfter (λ p. p) result state.new (with_shape context.now.place.now context.now.level context.now.form.now which (shape which context.now.form.now context.now.place.now) state.old) }
+    ensures { GivesAfter (λ p. p) result state.new (with_shape context.now.place.now context.now.level context.now.form.now which
+        (shape which context.now.form.now context.now.place.now) state.old) }
 {
     let shape = shape(state.alloc(), context.form, which, context.place)?;
     shape_plan(state, context, which, shape)
@@ -406,7 +410,8 @@ fn by_head<L: Ledger>(
     rest: &Syn,
     standing: &Standing,
 ) -> Result<Plan, Stop>
-    ensures { GivesAfter (λ p. p) result state.new (by_head context.now.place.now context.now.level context.now.form.now head.now rest.now standing.now state.old) }
+    ensures { GivesAfter (λ p. p) result state.new (by_head context.now.place.now context.now.level context.now.form.now head.now rest.now
+        standing.now state.old) }
 {
     match standing {
         Standing::Nothing => application(state, context, head, rest),

@@ -107,7 +107,8 @@ fn syntax_code<N: Ledger, L: Ledger>(
     codes: Vec<Core>,
     nodes: &mut Steps<N>,
 ) -> Result<Core, Stop>
-    ensures given { GivesAfter (λ c. c) result state.new (syntax_code context.now.place.now context.now.level context.now.form.now quasi.now codes.items quasi.now.inserts state.old) }
+    ensures given { GivesAfter (λ c. c) result state.new
+        (syntax_code context.now.place.now context.now.level context.now.form.now quasi.now codes.items quasi.now.inserts state.old) }
     ensures made { OnOk result (nodes.new ≡ nodes.old + stamps_of quasi.now.inserts) }
     ensures refused { OnErr result (nodes.new ≤ nodes.old + stamps_of quasi.now.inserts) }
 {
@@ -126,7 +127,8 @@ pub fn code_of<N: Ledger, L: Ledger>(
     codes: Vec<Core>,
     nodes: &mut Steps<N>,
 ) -> Result<Core, Stop>
-    ensures given { GivesAfter (λ c. c) result state.new (code_of context.now.place.now context.now.level context.now.form.now quasi.now codes.items state.old) }
+    ensures given { GivesAfter (λ c. c) result state.new
+        (code_of context.now.place.now context.now.level context.now.form.now quasi.now codes.items state.old) }
     ensures made { OnOk result (nodes.new ≡ nodes.old + nodes_of quasi.now) }
     ensures refused { OnErr result (nodes.new ≤ nodes.old + nodes_of quasi.now) }
 {

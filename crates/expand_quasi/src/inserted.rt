@@ -209,7 +209,8 @@ fn inserted_in<N: Ledger, L: Ledger>(
     frame: FrameNo,
     nodes: &mut Steps<N>,
 ) -> Result<Core, Stop>
-    ensures given { GivesAfter (λ c. c) result state.new (inserted_in context.now.place.now context.now.level context.now.form.now inserts.entry.quasi.now inserts.entry.codes.items frame state.old) }
+    ensures given { GivesAfter (λ c. c) result state.new
+        (inserted_in context.now.place.now context.now.level context.now.form.now inserts.entry.quasi.now inserts.entry.codes.items frame state.old) }
     ensures made { OnOk result (nodes.new ≡ nodes.old + 1) }
     ensures refused { OnErr result (nodes.new ≤ nodes.old + 1) }
 {
@@ -237,7 +238,8 @@ pub(crate) fn inserted<N: Ledger, L: Ledger>(
     codes: Vec<Core>,
     nodes: &mut Steps<N>,
 ) -> Result<Core, Stop>
-    ensures given { GivesAfter (λ c. c) result state.new (inserted context.now.place.now context.now.level context.now.form.now quasi.now codes.items state.old) }
+    ensures given { GivesAfter (λ c. c) result state.new
+        (inserted context.now.place.now context.now.level context.now.form.now quasi.now codes.items state.old) }
     ensures made { OnOk result (nodes.new ≡ nodes.old + 1) }
     ensures refused { OnErr result (nodes.new ≤ nodes.old + 1) }
 {

@@ -56,10 +56,20 @@ abbrev pub put_row : Tree → Span → FrameNo → Label → Does (Unit {0})
 put_row id place frame l s = row_put id place s (bound s.frames frame (row_for id l))
 
 abbrev pub put_variable : Label → VarInfo → Does (Unit {0})
-put_variable l v s = Ok (tt, record s { bindings = s.bindings ++ (l, binding.Variable v) ∷ []; index = next_index v.level s.index; scope = with_local v.top l s.scope })
+put_variable l v s = Ok (
+  tt,
+  record s {
+    bindings = s.bindings ++ (l, binding.Variable v) ∷ [];
+    index = next_index v.level s.index;
+    scope
+        = with_local v.top l s.scope;
+  },
+)
 
 abbrev pub bind_as : FrameNo → Tree → Span → ℕ → Bool → Named → Does Label
-bind_as frame id place level top n s = after (put_row id place frame (record { 0 = n }) s) (λ _ t. after (put_variable (record { 0 = n }) (variable_for id level top s.index) t) (λ _. note (record { 0 = n }) (span_of id) (record { 0 = n }) link.Bind))
+bind_as frame id place level top n s = after (put_row id place frame (record { 0 = n }) s)
+    (λ _ t. after (put_variable (record { 0 = n }) (variable_for id level top s.index) t)
+    (λ _. note (record { 0 = n }) (span_of id) (record { 0 = n }) link.Bind))
 
 -- binds an identifier in a frame to a new variable; a second binder of one identifier is at fault
 unfoldable pub bind_variable : FrameNo → Span → ℕ → Bool → Tree → Does Label

@@ -31,7 +31,14 @@ abbrev pub check_literals : Span → List Tree → Does (Unit {0})
 check_literals place literals = on_stage (stage.check_literals place literals)
 
 abbrev pub put_pattern_variable : Label → ℕ → ℕ → Does (Unit {0})
-put_pattern_variable l level depth s = Ok (tt, record s { bindings = s.bindings ++ (l, binding.PatternVariable level depth) ∷ []; scope = with_label s.scope l })
+put_pattern_variable l level depth s = Ok (
+  tt,
+  record s {
+    bindings = s.bindings ++ (l, binding.PatternVariable level depth) ∷ [];
+    scope
+        = with_label s.scope l;
+  },
+)
 
 unfoldable pub bind_pattern_variable : FrameNo → Span → ℕ → PatternVariable → Does (Unit {0})
 bind_pattern_variable frame place level v s = after (put_row v.id place frame v.label s) (λ _. put_pattern_variable v.label level v.depth)

@@ -108,7 +108,9 @@ labels_code = coded_list labels.the_row.coded
 
 abbrev pub state_code : Coded State
 state_code = code_by Fields
-    (coded× libraries.the_row.coded (coded× stage_code (coded× bindings_code (coded× labels_code (coded× labels_code (coded× coded_ℕ (coded× coded_ℕ (coded× coded_ℕ (coded× labels_code (coded_list link_rows.the_row.coded))))))))))
+    (coded× libraries.the_row.coded (coded× stage_code (coded× bindings_code
+    (coded× labels_code (coded× labels_code (coded× coded_ℕ
+    (coded× coded_ℕ (coded× coded_ℕ (coded× labels_code (coded_list link_rows.the_row.coded))))))))))
     fields_of of_fields (λ _. refl)
 
 abbrev pub Does : Type 0 → Type 0

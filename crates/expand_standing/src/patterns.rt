@@ -87,7 +87,8 @@ impl<L: Ledger> Expansion<L> {
         context: &BinderContext,
         variable: &PatternVariable,
     ) -> Result<(), Stop>
-        ensures { GivesAfter (λ _. tt) result self.new (bind_pattern_variable context.now.frame.now context.now.place.now context.now.level variable.now self.old) }
+        ensures { GivesAfter (λ _. tt) result self.new (bind_pattern_variable context.now.frame.now context.now.place.now context.now.level
+            variable.now self.old) }
     {
         self.bind_row(context.frame, &variable.id, &variable.label, context.place)?;
         self.put_pattern_variable(&variable.label, context.level, variable.depth)
@@ -175,7 +176,8 @@ impl<L: Ledger> Expansion<L> {
 
     /// The template of a form at a level, in scope or not.
     fn compiled_template(&self, form: &Syn, place: &Span, level: u32) -> Result<Template, Stop>
-        ensures { Gives (λ t. t) result (compiled (record { frames = self.now.frames; bindings = self.now.bindings; level = level; place = place.now }) form.now) }
+        ensures { Gives (λ t. t) result (compiled (record
+            { frames = self.now.frames; bindings = self.now.bindings; level = level; place = place.now }) form.now) }
     {
         let context = TemplateContext {
             alloc: self.alloc,

@@ -167,7 +167,8 @@ fn first_frames(
     records: &[FrameRow],
     frame: &FrameNo,
 ) -> Result<Frames, Memory>
-    ensures { IfOk result (λ fs. fs ≡ adopted [] (rows_of (needed_records marks.value environment.now.earlier.now) ++ (records.now ++ map (import_row frame.now) environment.now.imports.now))) }
+    ensures { IfOk result (λ fs. fs ≡ adopted [] (rows_of (needed_records marks.value environment.now.earlier.now)
+        ++ (records.now ++ map (import_row frame.now) environment.now.imports.now))) }
 {
     let mut frames = environment.earlier.frames(alloc, marks)?;
     adopt_both(alloc, &mut frames, records, frame, environment.imports)?;
@@ -183,7 +184,9 @@ fn begin_over(
 ) -> Result<Beginning, Memory>
     ensures library { IfOk result (λ b. b.library.value ≡ library) }
     ensures names { IfOk result (λ b. b.names ≡ second_name library) }
-    ensures frames { IfOk result (λ b. b.frames ≡ adopted [] (rows_of (needed_records environment.now.needs.now environment.now.earlier.now) ++ (records.now ++ map (import_row (first_frame library)) environment.now.imports.now))) }
+    ensures frames { IfOk result (λ b. b.frames ≡ adopted []
+        (rows_of (needed_records environment.now.needs.now environment.now.earlier.now)
+        ++ (records.now ++ map (import_row (first_frame library)) environment.now.imports.now))) }
     ensures bindings { IfOk result (λ b. b.bindings ≡ bindings_of (needed_records environment.now.needs.now environment.now.earlier.now)) }
 {
     let library = Rc::new(alloc, library)?;
@@ -203,7 +206,9 @@ fn begin_over(
 fn begin(alloc: Global, library: LibName, environment: &Environment) -> Result<Beginning, Memory>
     ensures library { IfOk result (λ b. b.library.value ≡ library) }
     ensures names { IfOk result (λ b. b.names ≡ second_name library) }
-    ensures frames { IfOk result (λ b. b.frames ≡ adopted [] (rows_of (needed_records environment.now.needs.now environment.now.earlier.now) ++ (record_frame ++ map (import_row (first_frame library)) environment.now.imports.now))) }
+    ensures frames { IfOk result (λ b. b.frames ≡ adopted []
+        (rows_of (needed_records environment.now.needs.now environment.now.earlier.now)
+        ++ (record_frame ++ map (import_row (first_frame library)) environment.now.imports.now))) }
     ensures bindings { IfOk result (λ b. b.bindings ≡ bindings_of (needed_records environment.now.needs.now environment.now.earlier.now)) }
 {
     let records = record_frame(alloc)?;
@@ -275,7 +280,8 @@ impl<L: Ledger> Expansion<L> {
         environment: &Environment,
         supplies: Supplies<L>,
     ) -> Result<Expansion<L>, Memory>
-        ensures { IfOk result (λ e. e ≡ started library (needed_records environment.now.needs.now environment.now.earlier.now) environment.now.imports.now (table.seen supplies.codes.entries)) }
+        ensures { IfOk result (λ e. e ≡ started library (needed_records environment.now.needs.now environment.now.earlier.now)
+            environment.now.imports.now (table.seen supplies.codes.entries)) }
     {
         match begin(alloc, library, environment) {
             Ok(beginning) => Ok(expansion_with(alloc, beginning, supplies)),

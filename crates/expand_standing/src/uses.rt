@@ -83,7 +83,8 @@ impl<L: Ledger> Expansion<L> {
         means: &Means,
         counts: &mut Counts<N, L>,
     ) -> Result<Syn, Stop>
-        ensures given { GivesAfter (λ t. t) result self.new (use_keyword (earlier_in means.now.earlier) used.entry.place.now used.entry.form.now label.now used.entry.frame self.old) }
+        ensures given { GivesAfter (λ t. t) result self.new
+            (use_keyword (earlier_in means.now.earlier) used.entry.place.now used.entry.form.now label.now used.entry.frame self.old) }
         ensures made { OnOk result (counts.new.nodes.now ≡ counts.old.nodes.now + 2) }
         ensures refused { OnErr result (counts.new.nodes.now ≤ counts.old.nodes.now + 1) }
     {
@@ -211,7 +212,8 @@ impl<L: Ledger> Expansion<L> {
         means: &Means,
         counts: &mut Counts<N, L>,
     ) -> Result<(), Stop>
-        ensures { GivesAfter (λ _. tt) result self.new (evaluate_transformer (earlier_in means.now.earlier) keyword.now.place.now keyword.now.label.now code self.old) }
+        ensures { GivesAfter (λ _. tt) result self.new (evaluate_transformer
+            (earlier_in means.now.earlier) keyword.now.place.now keyword.now.label.now code self.old) }
     {
         let earlier = Earlier {
             records: means.earlier.records,

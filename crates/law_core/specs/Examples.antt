@@ -117,7 +117,8 @@ pub record WellMadeExamples : Type 0 where
   pub twice_repeated : is_well_made [] (match_one (repeated x) (syntax (item (template.variable x 1) 2))) ≡ false
   pub other_depth : is_well_made [] (match_one (repeated x) (syntax (item (template.variable x 0) 1))) ≡ false
   -- a variable of depth 0 may stand under an ellipsis that another one feeds
-  pub fed_by_another : is_well_made ((x, 1) ∷ (y, 0) ∷ []) (syntax (item (template.list (template.more (template.variable x 1) 0 template.none) (template.variable y 0)) 1)) ≡ true
+  pub fed_by_another : is_well_made ((x, 1) ∷ (y, 0) ∷ [])
+      (syntax (item (template.list (template.more (template.variable x 1) 0 template.none) (template.variable y 0)) 1)) ≡ true
   pub given : is_well_made ((x, 0) ∷ []) (syntax (template.variable x 0)) ≡ true
   pub not_given : is_well_made [] (syntax (template.variable x 0)) ≡ false
 
@@ -129,7 +130,16 @@ abbrev keyword_row : Label → Option PlainCore → Label × Binding
 keyword_row l expression = (l, binding.Macro 0 expression)
 
 abbrev recorded : LibName → List (List ℕ × Label) → List (Label × Binding) → List Line → List LibName → CompiledLibrary
-recorded l exports bindings run refs = record { path = codes "p.sps"; name = l; version = []; exports = exports; bindings = bindings; frames = []; run = run; refs = refs }
+recorded l exports bindings run refs = record {
+  path = codes "p.sps";
+  name = l;
+  version = [];
+  exports = exports;
+  bindings = bindings;
+  frames = [];
+  run = run;
+  refs = refs;
+}
 
 -- (define x 1)
 abbrev defines_x : CompiledLibrary
@@ -137,7 +147,8 @@ defines_x = recorded library.Program [] (variable_row x (codes "x") (Some 0) tru
 
 -- two definitions, by their labels and indices
 abbrev defines_two : Label → ℕ → CompiledLibrary
-defines_two l n = recorded library.Program [] (variable_row x (codes "x") (Some 0) true ∷ variable_row l (codes "x") (Some n) true ∷ []) (line.Define x one ∷ line.Define l one ∷ []) []
+defines_two l n = recorded library.Program [] (variable_row x (codes "x") (Some 0) true ∷ variable_row l (codes "x") (Some n) true ∷ [])
+    (line.Define x one ∷ line.Define l one ∷ []) []
 
 pub record RecordExamples : Type 0 where
   -- what a later record defines is seen too
@@ -177,7 +188,8 @@ pub record FollowsExamples : Type 0 where
   -- a keyword with and without its expression, and one that mentions a variable of its own library
   pub keyword : follows (recorded library.Program [] (keyword_row x (Some one) ∷ []) [] []) [] ≡ true
   pub no_keyword : follows (recorded library.Program [] (keyword_row x None ∷ []) [] []) [] ≡ false
-  pub late_keyword : follows (recorded library.Program [] (variable_row x (codes "x") (Some 0) true ∷ keyword_row y (Some (variable x)) ∷ []) (line.Define x one ∷ []) []) [] ≡ false
+  pub late_keyword : follows (recorded library.Program []
+      (variable_row x (codes "x") (Some 0) true ∷ keyword_row y (Some (variable x)) ∷ []) (line.Define x one ∷ []) []) [] ≡ false
   -- an export of its own, of an earlier record, of a name that is given, and of none
   pub exported : follows defines_z [] ≡ true
   pub reexported : follows (recorded library.Program ((codes "z", z) ∷ []) [] [] []) (defines_z ∷ []) ≡ true

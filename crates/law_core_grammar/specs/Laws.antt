@@ -23,7 +23,8 @@ TextsAreSpellings = (names : VariableNames) (c : PlainCore) (d : PlainDatum) →
 
 -- and that of a line, with the end of the line
 abbrev pub LineTextsAreSpellings : Type 0
-LineTextsAreSpellings = (names : VariableNames) (l : Line) (d : PlainDatum) → AreGenerated names → SpellsLine names l d → line_text names l ≡ datum_text d ++ codes "\n"
+LineTextsAreSpellings = (names : VariableNames) (l : Line) (d : PlainDatum) → AreGenerated names → SpellsLine names l d
+    → line_text names l ≡ datum_text d ++ codes "\n"
 
 -- core code without forms of `syntax` and `syntax-case` has a spelling
 abbrev pub CodeIsSpelled : Type 0
@@ -38,21 +39,26 @@ OneSpelling = (names : VariableNames) (c : PlainCore) (d e : PlainDatum) → Spe
 
 -- what one datum spells is one code but for its variables, and these have the same names
 abbrev pub OneCodeByNames : Type 0
-OneCodeByNames = (names others : VariableNames) (c e : PlainCore) (d : PlainDatum) → AreGenerated names → AreGenerated others → SpellsCode names c d → SpellsCode others e d → by_names names c ≡ by_names others e
+OneCodeByNames = (names others : VariableNames) (c e : PlainCore) (d : PlainDatum) → AreGenerated names → AreGenerated others
+    → SpellsCode names c d → SpellsCode others e d → by_names names c ≡ by_names others e
 
 abbrev pub OneLineByNames : Type 0
-OneLineByNames = (names others : VariableNames) (k l : Line) (d : PlainDatum) → AreGenerated names → AreGenerated others → SpellsLine names k d → SpellsLine others l d → line_by_names names k ≡ line_by_names others l
+OneLineByNames = (names others : VariableNames) (k l : Line) (d : PlainDatum) → AreGenerated names → AreGenerated others
+    → SpellsLine names k d → SpellsLine others l d → line_by_names names k ≡ line_by_names others l
 
 -- where names tell variables apart, it is one code
 abbrev pub OneCode : Type 0
-OneCode = (names : VariableNames) (c e : PlainCore) (d : PlainDatum) → AreGenerated names → TellApart names → SpellsCode names c d → SpellsCode names e d → bare c ≡ bare e
+OneCode = (names : VariableNames) (c e : PlainCore) (d : PlainDatum) → AreGenerated names → TellApart names → SpellsCode names c d
+    → SpellsCode names e d → bare c ≡ bare e
 
 abbrev pub OneLine : Type 0
-OneLine = (names : VariableNames) (k l : Line) (d : PlainDatum) → AreGenerated names → TellApart names → SpellsLine names k d → SpellsLine names l d → bare_line k ≡ bare_line l
+OneLine = (names : VariableNames) (k l : Line) (d : PlainDatum) → AreGenerated names → TellApart names → SpellsLine names k d
+    → SpellsLine names l d → bare_line k ≡ bare_line l
 
 -- a spelling can be read where the constants of its code can be
 abbrev pub SpellingsCanBeRead : Type 0
-SpellingsCanBeRead = (names : VariableNames) (c : PlainCore) (d : PlainDatum) → AreGenerated names → Each CanBeRead (constants c) → SpellsCode names c d → CanBeRead d
+SpellingsCanBeRead = (names : VariableNames) (c : PlainCore) (d : PlainDatum) → AreGenerated names → Each CanBeRead (constants c)
+    → SpellsCode names c d → CanBeRead d
 
 -- the core text of a program, of lines that have spellings which can be read
 pub record IsWrittenCoreText (records : List CompiledLibrary) (plan : List ℕ) (program : CompiledLibrary) (whole : List ℕ) : Type 0 where
@@ -63,11 +69,13 @@ pub record IsWrittenCoreText (records : List CompiledLibrary) (plan : List ℕ) 
 
 -- is read as what spells these lines
 abbrev pub CoreTextIsReadBack : Type 0
-CoreTextIsReadBack = (records : List CompiledLibrary) (plan : List ℕ) (program : CompiledLibrary) (whole : List ℕ) → IsWrittenCoreText records plan program whole
+CoreTextIsReadBack = (records : List CompiledLibrary) (plan : List ℕ) (program : CompiledLibrary) (whole : List ℕ)
+    → IsWrittenCoreText records plan program whole
     → IsTextReadBack (all_names records plan program) (all_lines records plan program) whole
 
 -- and tells them, but for their variables, of which it tells the names
 abbrev pub CoreTextTellsItsLines : Type 0
 CoreTextTellsItsLines = (records others : List CompiledLibrary) (plan way : List ℕ) (program other : CompiledLibrary) (whole : List ℕ)
     → IsWrittenCoreText records plan program whole → IsWrittenCoreText others way other whole
-    → map (line_by_names (all_names records plan program)) (all_lines records plan program) ≡ map (line_by_names (all_names others way other)) (all_lines others way other)
+    → map (line_by_names (all_names records plan program)) (all_lines records plan program)
+    ≡ map (line_by_names (all_names others way other)) (all_lines others way other)

@@ -17,7 +17,8 @@ import_form = form (codes "import") (one (one (word (codes "rnrs"))))
 module _ (names : VariableNames) where
   -- (define x e), or an expression
   pub data SpellsLine : Line → PlainDatum → Type 0 where
-    definition : {l : Label} {x : List ℕ} {c : PlainCore} {d : PlainDatum} → IsCalled names l x → SpellsCode names c d → SpellsLine (line.Define l c) (form (codes "define") (two (word x) d))
+    definition : {l : Label} {x : List ℕ} {c : PlainCore} {d : PlainDatum} → IsCalled names l x → SpellsCode names c d
+        → SpellsLine (line.Define l c) (form (codes "define") (two (word x) d))
     expression : {c : PlainCore} {d : PlainDatum} → SpellsCode names c d → SpellsLine (line.Expr c) d
 
   -- one datum a line, in order

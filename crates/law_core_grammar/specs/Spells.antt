@@ -59,7 +59,8 @@ module _ (names : VariableNames) where
   pub data SpellsFormals : List Label → Option Label → PlainDatum → Type 0 where
     no_rest : SpellsFormals [] None nil
     rest : {l : Label} {x : List ℕ} → IsCalled names l x → SpellsFormals [] (Some l) (word x)
-    required : {l : Label} {x : List ℕ} {ls : List Label} {r : Option Label} {e : PlainDatum} → IsCalled names l x → SpellsFormals ls r e → SpellsFormals (l ∷ ls) r (before (word x) e)
+    required : {l : Label} {x : List ℕ} {ls : List Label} {r : Option Label} {e : PlainDatum} → IsCalled names l x → SpellsFormals ls r e
+        → SpellsFormals (l ∷ ls) r (before (word x) e)
 
   mutual
     pub data SpellsCode : PlainCore → PlainDatum → Type 0 where
@@ -71,11 +72,14 @@ module _ (names : VariableNames) where
       primitive : (o : Op) → IsPrimitive o.0 → SpellsCode (core.primitive o) (word (op_text o.0))
       -- (if t c) and (if t c a)
       one_armed : {t c : PlainCore} {d e : PlainDatum} → SpellsCode t d → SpellsCode c e → SpellsCode (core.one_armed t c) (form (codes "if") (two d e))
-      two_armed : {t c a : PlainCore} {d e f : PlainDatum} → SpellsCode t d → SpellsCode c e → SpellsCode a f → SpellsCode (core.two_armed t c a) (form (codes "if") (three d e f))
+      two_armed : {t c a : PlainCore} {d e f : PlainDatum} → SpellsCode t d → SpellsCode c e → SpellsCode a f
+          → SpellsCode (core.two_armed t c a) (form (codes "if") (three d e f))
       -- (set! x e)
-      assignment : {l : Label} {x : List ℕ} {c : PlainCore} {d : PlainDatum} → IsCalled names l x → SpellsCode c d → SpellsCode (core.assignment l c) (form (codes "set!") (two (word x) d))
+      assignment : {l : Label} {x : List ℕ} {c : PlainCore} {d : PlainDatum} → IsCalled names l x → SpellsCode c d
+          → SpellsCode (core.assignment l c) (form (codes "set!") (two (word x) d))
       -- (begin e e ...)
-      sequence : {c : PlainCore} {cs : PlainCores} {d e : PlainDatum} → SpellsCode c d → SpellsAllCode cs e → SpellsCode (core.sequence (core.more c cs)) (form (codes "begin") (before d e))
+      sequence : {c : PlainCore} {cs : PlainCores} {d e : PlainDatum} → SpellsCode c d → SpellsAllCode cs e
+          → SpellsCode (core.sequence (core.more c cs)) (form (codes "begin") (before d e))
       -- (lambda formals e), whatever the number of its code
       lambda : {f : Formals} {c : PlainCore} {d e : PlainDatum} (n : CodeNo) → SpellsFormals f.required f.rest d → SpellsCode c e
           → SpellsCode (core.procedure n (core.case f c core.no_case) true) (form (codes "lambda") (two d e))

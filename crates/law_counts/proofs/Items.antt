@@ -1,4 +1,4 @@
--- So does what is done with a form of a body before it is settled.
+-- So does what is done with a form of a body before its uses are expanded.
 use Rattle.std.proofs.Common.{ℕ, Bool, true, false, List, Result, Ok, Err, refl}
 use Rattle.std.specs.Prelude.{not, ◌&&◌, ◌||◌}
 use Rattle.base_data.specs.Act.{give}

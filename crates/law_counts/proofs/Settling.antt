@@ -1,4 +1,4 @@
--- A form that is settled took as many uses as it was, one behind another.
+-- A form whose uses are expanded took as many as it was, one behind another.
 use Rattle.std.proofs.Common.{◌≡◌, ◌+◌, ℕ, zero, suc, Bool, true, false, List, Option, None, Some, Result, Ok, Err, refl, ◌∙◌, ap, sym, subst}
 use Rattle.base_data.specs.Act.{after}
 use Rattle.base_data.specs.declared.fault.Fault.{Fault}
@@ -138,7 +138,7 @@ module _ (rs : List CompiledLibrary) (depth : ℕ) where
   item-chain-leaves counted.item_itself e = e
   item-chain-leaves (counted.item_used {more = more} {at = at} {t = t} {u = u} {k = k} f g b) e = item-chain-leaves b (keeps-given (record u { uses_left = more }) g (next-keeps rs more at.place t k (Some at.frame) u))
 
-  -- what settling comes to
+  -- what expanding uses comes to
   abbrev Came : ℕ → BodyAt → Taken → Tree → State → Taken → PlannedItem → State → Type 0
   Came more at done t s end d v =
       (n : ℕ) × ((left : ℕ) × ((taken : Taken) × ((w : State) × (BecomesItem rs depth n more left at done t s d.at taken d.form w × (item_step rs d.at depth taken d.form w ≡ Ok ((end, item_steps.Item d.item), v))))))

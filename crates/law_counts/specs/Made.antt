@@ -29,7 +29,7 @@ use Rattle.law_references.specs.Expands.{defines_keyword, takes_among, Take, IsB
 use Rattle.law_references.specs.Expands.{defines_procedure, is_expression}
 use Rattle.law_references.specs.Noted.{KeywordExpression, Noted, NotedLine}
 
--- A form that is settled was as many uses, one behind another, as there are fewer left then.
+-- A form whose uses are expanded was as many, one behind another, as there are fewer left then.
 module _ {rs : List CompiledLibrary} where
   abbrev mutual
     -- a form: those of what it was until it was none, and those in what came of it
@@ -96,7 +96,8 @@ module _ {rs : List CompiledLibrary} where
     keywords_made derivation.no_keyword = 0
     keywords_made (derivation.keyword h g) = keyword_made h + keywords_made g
 
-    pub scope_made : {place : Span} {level : ℕ} {recursive : Bool} {bs : List BindingSpec} {forms stamped : List Tree} {s u : State} {es : List KeywordExpression}
+    pub scope_made : {place : Span} {level : ℕ} {recursive : Bool} {bs : List BindingSpec} {forms stamped : List Tree} {s u : State}
+        {es : List KeywordExpression}
         → BindsKeywords rs place level recursive bs forms s stamped u es → ℕ
     scope_made (binds_keywords e h) = keywords_made h
 

@@ -65,4 +65,5 @@ Unrolls = (w : PlainSetting) (c : PlainCore) (scope : Place) (s : WorldState) (n
 
 -- and every depth that is no less than the fuel gives it.
 abbrev pub AnyDepth : Type 0
-AnyDepth = (w : PlainSetting) (depth : ℕ) (c : PlainCore) (scope : Place) (s : WorldState) (n : ℕ) → n ≤ depth → evaluates w depth c scope s n ≡ eval_of w c scope s n
+AnyDepth = (w : PlainSetting) (depth : ℕ) (c : PlainCore) (scope : Place) (s : WorldState) (n : ℕ) → n ≤ depth
+    → evaluates w depth c scope s n ≡ eval_of w c scope s n

@@ -54,9 +54,12 @@ HasNone l (e ∷ es) = (e.0 ≡ l → ⊥) × HasNone l es
 
 -- From a cell of variables on outwards, through at most so many, the first variable of the label has no value.
 pub data IsUnset (cells : List Cell) (l : Label) : ℕ → Place → Type 0 where
-  in_cell : {n : ℕ} {place : Place} {es : Entries} {parent : Option Place} → slice_get cells place.0 ≡ Some (cell.Scope es parent) → HasUnset l es → IsUnset cells l (suc n) place
-  round_variables : {n : ℕ} {place parent : Place} {es : Entries} → slice_get cells place.0 ≡ Some (cell.Scope es (Some parent)) → HasNone l es → IsUnset cells l n parent → IsUnset cells l (suc n) place
-  round_pattern : {n : ℕ} {place parent : Place} {bs : List (Label × PlainBind)} → slice_get cells place.0 ≡ Some (cell.Binds bs (Some parent)) → IsUnset cells l n parent → IsUnset cells l (suc n) place
+  in_cell : {n : ℕ} {place : Place} {es : Entries} {parent : Option Place} → slice_get cells place.0 ≡ Some (cell.Scope es parent)
+      → HasUnset l es → IsUnset cells l (suc n) place
+  round_variables : {n : ℕ} {place parent : Place} {es : Entries} → slice_get cells place.0 ≡ Some (cell.Scope es (Some parent))
+      → HasNone l es → IsUnset cells l n parent → IsUnset cells l (suc n) place
+  round_pattern : {n : ℕ} {place parent : Place} {bs : List (Label × PlainBind)}
+      → slice_get cells place.0 ≡ Some (cell.Binds bs (Some parent)) → IsUnset cells l n parent → IsUnset cells l (suc n) place
 
 -- Calls.
 
@@ -72,13 +75,15 @@ AreFor (Some l) required count = required ≤ count
 
 pub data NoneTakes (count : ℕ) : PlainCases → Type 0 where
   no_more : NoneTakes count no_case
-  not_this : {f : Formals} {c : PlainCore} {cs : PlainCases} → (AreFor f.rest (length f.required) count → ⊥) → NoneTakes count cs → NoneTakes count (case f c cs)
+  not_this : {f : Formals} {c : PlainCore} {cs : PlainCases} → (AreFor f.rest (length f.required) count → ⊥) → NoneTakes count cs
+      → NoneTakes count (case f c cs)
 
 -- `apply` without a procedure, with nothing else, or on what is no list
 pub data IsBadApply (cells : List Cell) : List Value → Bare → Type 0 where
   without_arguments : IsBadApply cells [] (record { kind = kind.Arity; words = decimal 0 ∷ [] })
   with_one : {x : Value} → IsBadApply cells (x ∷ []) (record { kind = kind.Arity; words = decimal 1 ∷ [] })
-  on_no_list : {x : Value} (xs : List Value) (last : Value) → list_elements cells last ≡ None → IsBadApply cells (x ∷ xs ++ last ∷ []) (record { kind = kind.PrimFault; words = op_text names.APPLY ∷ [] })
+  on_no_list : {x : Value} (xs : List Value) (last : Value) → list_elements cells last ≡ None
+      → IsBadApply cells (x ∷ xs ++ last ∷ []) (record { kind = kind.PrimFault; words = op_text names.APPLY ∷ [] })
 
 -- `syntax-case`
 
@@ -89,24 +94,31 @@ with_binds f scope s = with_cell (cell.Binds f.binds (Some scope)) s
 -- before its fender.
 pub data ArePassed (w : PlainSetting) (v : Value) : PlainClauses → Place → WorldState → ℕ → WorldState → ℕ → Type 0 where
   none_is_left : {scope : Place} {s : WorldState} {n : ℕ} → ArePassed w v no_clause scope s n s n
-  no_match : {p : PlainPattern} {output : PlainCore} {cs : PlainClauses} {scope : Place} {s t : WorldState} {n m : ℕ} → match_of w.frames s.cells p v ≡ None → ArePassed w v cs scope s n t m → ArePassed w v (clause p output cs) scope s (suc n) t m
-  no_match_before : {p : PlainPattern} {fender output : PlainCore} {cs : PlainClauses} {scope : Place} {s t : WorldState} {n m : ℕ} → match_of w.frames s.cells p v ≡ None → ArePassed w v cs scope s n t m
+  no_match : {p : PlainPattern} {output : PlainCore} {cs : PlainClauses} {scope : Place} {s t : WorldState} {n m : ℕ}
+      → match_of w.frames s.cells p v ≡ None → ArePassed w v cs scope s n t m → ArePassed w v (clause p output cs) scope s (suc n) t m
+  no_match_before : {p : PlainPattern} {fender output : PlainCore} {cs : PlainClauses} {scope : Place} {s t : WorldState} {n m : ℕ}
+      → match_of w.frames s.cells p v ≡ None → ArePassed w v cs scope s n t m
       → ArePassed w v (fended p fender output cs) scope s (suc n) t m
-  false_fender : {p : PlainPattern} {fender output : PlainCore} {cs : PlainClauses} {scope : Place} {f : PatternBinds} {s r t : WorldState} {n k m : ℕ} → match_of w.frames s.cells p v ≡ Some f → f.taken ≤ n
-      → eval_of w fender (next_place s) (with_binds f scope s) (n - f.taken) ≡ done (value.Atom (a.Bool false)) r k → ArePassed w v cs scope r k t m → ArePassed w v (fended p fender output cs) scope s (suc n) t m
+  false_fender : {p : PlainPattern} {fender output : PlainCore} {cs : PlainClauses} {scope : Place} {f : PatternBinds} {s r t : WorldState}
+      {n k m : ℕ} → match_of w.frames s.cells p v ≡ Some f → f.taken ≤ n
+      → eval_of w fender (next_place s) (with_binds f scope s) (n - f.taken) ≡ done (value.Atom (a.Bool false)) r k
+      → ArePassed w v cs scope r k t m → ArePassed w v (fended p fender output cs) scope s (suc n) t m
 
 -- The faults that an evaluation in a setting can come to, with the state at the fault:
 pub data IsEvaluationFault (w : PlainSetting) (s : WorldState) : Bare → Type 0 where
   -- something costs more fuel than there is
   spent : IsEvaluationFault w s (record { kind = kind.FuelSpent; words = [] })
   -- a variable of a `letrec` or a library is read before it has a value
-  unset : {l : Label} {scope : Place} {words : List (List ℕ)} → IsUnset s.cells l (suc (length s.cells)) scope → AreWords l (rows_in l.0.library w.frames) words → IsEvaluationFault w s (record { kind = kind.UnsetVariable; words = words })
+  unset : {l : Label} {scope : Place} {words : List (List ℕ)} → IsUnset s.cells l (suc (length s.cells)) scope
+      → AreWords l (rows_in l.0.library w.frames) words → IsEvaluationFault w s (record { kind = kind.UnsetVariable; words = words })
   -- an assignment is evaluated
-  assigned : {l : Label} {words : List (List ℕ)} → AreWords l (rows_in l.0.library w.frames) words → IsEvaluationFault w s (record { kind = kind.SetAtExpansion; words = words })
+  assigned : {l : Label} {words : List (List ℕ)} → AreWords l (rows_in l.0.library w.frames) words
+      → IsEvaluationFault w s (record { kind = kind.SetAtExpansion; words = words })
   -- what is called is no procedure
   no_procedure : IsEvaluationFault w s (record { kind = kind.PrimFault; words = codes "call" ∷ [] })
   -- no case of a procedure takes so many arguments
-  no_case_takes : {count : ℕ} {code : PlainCode} (number : CodeNo) → code_at w.codes number ≡ Some code → NoneTakes count code.cases → IsEvaluationFault w s (record { kind = kind.Arity; words = decimal count ∷ [] })
+  no_case_takes : {count : ℕ} {code : PlainCode} (number : CodeNo) → code_at w.codes number ≡ Some code → NoneTakes count code.cases
+      → IsEvaluationFault w s (record { kind = kind.Arity; words = decimal count ∷ [] })
   -- `apply` or another primitive refuses its arguments
   bad_apply : {args : List Value} {f : Bare} → IsBadApply s.cells args f → IsEvaluationFault w s f
   refused : {op : ℕ} {args : List Value} {f : Bare} → IsRefusedCall op args s.cells w.frames f → IsEvaluationFault w s f
@@ -117,23 +129,35 @@ pub data IsEvaluationFault (w : PlainSetting) (s : WorldState) : Bare → Type 0
 
 -- Whatever is evaluated, it comes to no other fault.
 pub record FaultsAreOfThese : Type 0 where
-  pub expressions : (w : PlainSetting) (c : PlainCore) (scope : Place) (s t : WorldState) (n m : ℕ) (f : Bare) → eval_of w c scope s n ≡ faulted f t m → IsEvaluationFault w t f
-  pub calls : (w : PlainSetting) (vs : List Value) (s t : WorldState) (n m : ℕ) (f : Bare) → applied w (eval_of w) vs s n ≡ faulted f t m → IsEvaluationFault w t f
-  pub libraries : (w : PlainSetting) (ls : List Line) (scope : Place) (s t : WorldState) (n m : ℕ) (f : Bare) → lines_from (eval_of w) ls scope s n ≡ faulted f t m → IsEvaluationFault w t f
+  pub expressions : (w : PlainSetting) (c : PlainCore) (scope : Place) (s t : WorldState) (n m : ℕ) (f : Bare)
+      → eval_of w c scope s n ≡ faulted f t m → IsEvaluationFault w t f
+  pub calls : (w : PlainSetting) (vs : List Value) (s t : WorldState) (n m : ℕ) (f : Bare) → applied w (eval_of w) vs s n ≡ faulted f t m
+      → IsEvaluationFault w t f
+  pub libraries : (w : PlainSetting) (ls : List Line) (scope : Place) (s t : WorldState) (n m : ℕ) (f : Bare)
+      → lines_from (eval_of w) ls scope s n ≡ faulted f t m → IsEvaluationFault w t f
 
 -- Where a cause is met, there is its fault.
 pub record CausesAreFaults : Type 0 where
-  pub fuel : (w : PlainSetting) (c : PlainCore) (scope : Place) (s : WorldState) → eval_of w c scope s 0 ≡ faulted (record { kind = kind.FuelSpent; words = [] }) s 0
-  pub variables : (w : PlainSetting) (l : Label) (scope : Place) (s : WorldState) (n : ℕ) (words : List (List ℕ)) → IsUnset s.cells l (suc (length s.cells)) scope → AreWords l (rows_in l.0.library w.frames) words
+  pub fuel : (w : PlainSetting) (c : PlainCore) (scope : Place) (s : WorldState)
+      → eval_of w c scope s 0 ≡ faulted (record { kind = kind.FuelSpent; words = [] }) s 0
+  pub variables : (w : PlainSetting) (l : Label) (scope : Place) (s : WorldState) (n : ℕ) (words : List (List ℕ))
+      → IsUnset s.cells l (suc (length s.cells)) scope → AreWords l (rows_in l.0.library w.frames) words
       → eval_of w (variable l) scope s (suc n) ≡ faulted (record { kind = kind.UnsetVariable; words = words }) s n
-  pub assignments : (w : PlainSetting) (l : Label) (c : PlainCore) (scope : Place) (s : WorldState) (n : ℕ) (words : List (List ℕ)) → AreWords l (rows_in l.0.library w.frames) words
+  pub assignments : (w : PlainSetting) (l : Label) (c : PlainCore) (scope : Place) (s : WorldState) (n : ℕ) (words : List (List ℕ))
+      → AreWords l (rows_in l.0.library w.frames) words
       → eval_of w (assignment l c) scope s (suc n) ≡ faulted (record { kind = kind.SetAtExpansion; words = words }) s n
-  pub no_procedures : (w : PlainSetting) (v : Value) (args : List Value) (s : WorldState) (n : ℕ) → (IsProcedure v → ⊥) → applied w (eval_of w) (v ∷ args) s n ≡ faulted (record { kind = kind.PrimFault; words = codes "call" ∷ [] }) s n
-  pub procedures : (w : PlainSetting) (number : CodeNo) (parent : Place) (code : PlainCode) (args : List Value) (s : WorldState) (n : ℕ) → code_at w.codes number ≡ Some code → NoneTakes (length args) code.cases
+  pub no_procedures : (w : PlainSetting) (v : Value) (args : List Value) (s : WorldState) (n : ℕ) → (IsProcedure v → ⊥)
+      → applied w (eval_of w) (v ∷ args) s n ≡ faulted (record { kind = kind.PrimFault; words = codes "call" ∷ [] }) s n
+  pub procedures : (w : PlainSetting) (number : CodeNo) (parent : Place) (code : PlainCode) (args : List Value) (s : WorldState) (n : ℕ)
+      → code_at w.codes number ≡ Some code → NoneTakes (length args) code.cases
       → applied w (eval_of w) (value.Closure number parent ∷ args) s n ≡ faulted (record { kind = kind.Arity; words = decimal (length args) ∷ [] }) s n
-  pub applications : (w : PlainSetting) (args : List Value) (s : WorldState) (n : ℕ) (f : Bare) → IsBadApply s.cells args f → applied w (eval_of w) (value.Prim (record { 0 = names.APPLY }) ∷ args) s n ≡ faulted f s n
-  pub primitives : (w : PlainSetting) (op : Op) (args : List Value) (s : WorldState) (n : ℕ) (f : Bare) → (op.0 ≡ names.APPLY → ⊥) → has_text op.0 ≡ false → cost op.0 args s.cells ≤ n → IsRefusedCall op.0 args s.cells w.frames f
+  pub applications : (w : PlainSetting) (args : List Value) (s : WorldState) (n : ℕ) (f : Bare) → IsBadApply s.cells args f
+      → applied w (eval_of w) (value.Prim (record { 0 = names.APPLY }) ∷ args) s n ≡ faulted f s n
+  pub primitives : (w : PlainSetting) (op : Op) (args : List Value) (s : WorldState) (n : ℕ) (f : Bare) → (op.0 ≡ names.APPLY → ⊥)
+      → has_text op.0 ≡ false → cost op.0 args s.cells ≤ n → IsRefusedCall op.0 args s.cells w.frames f
       → applied w (eval_of w) (value.Prim op ∷ args) s n ≡ faulted f s (n - cost op.0 args s.cells)
-  pub templates : (w : PlainSetting) (t : PlainTemplate) (span : Span) (scope : Place) (s : WorldState) (n : ℕ) (bs : Binds) (f : Bare) → gathered s.cells scope t [] ≡ Some bs → cost_of bs t ≡ Err f → eval_of w (instance t span) scope s (suc n) ≡ faulted f s n
-  pub clauses : (w : PlainSetting) (c : PlainCore) (cs : PlainClauses) (span : Span) (scope : Place) (v : Value) (s r t : WorldState) (n k m : ℕ) → eval_of w c scope s n ≡ done v r k → ArePassed w v cs scope r k t m
+  pub templates : (w : PlainSetting) (t : PlainTemplate) (span : Span) (scope : Place) (s : WorldState) (n : ℕ) (bs : Binds) (f : Bare)
+      → gathered s.cells scope t [] ≡ Some bs → cost_of bs t ≡ Err f → eval_of w (instance t span) scope s (suc n) ≡ faulted f s n
+  pub clauses : (w : PlainSetting) (c : PlainCore) (cs : PlainClauses) (span : Span) (scope : Place) (v : Value) (s r t : WorldState)
+      (n k m : ℕ) → eval_of w c scope s n ≡ done v r k → ArePassed w v cs scope r k t m
       → eval_of w (matching c cs span) scope s (suc n) ≡ faulted (record { kind = kind.NoClause; words = [] }) t m

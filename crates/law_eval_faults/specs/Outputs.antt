@@ -46,4 +46,5 @@ pub data IsUnread (cells : List Cell) (x : Value) : Bare → Type 0 where
 -- A value that isn't read is refused so, and one that is read holds nothing that is no syntax.
 pub record OutputsAreRead : Type 0 where
   pub refused : (cells : List Cell) (x : Value) (fuel : ℕ) (f : Bare) → to_syntax cells x fuel ≡ Err f → IsUnread cells x f
-  pub read : (cells : List Cell) (x y : Value) (fuel left : ℕ) (t : Tree) (f : Bare) → to_syntax cells x fuel ≡ Ok (t, left) → Holds cells y x → IsNoSyntax cells y f → ⊥
+  pub read : (cells : List Cell) (x y : Value) (fuel left : ℕ) (t : Tree) (f : Bare) → to_syntax cells x fuel ≡ Ok (t, left)
+      → Holds cells y x → IsNoSyntax cells y f → ⊥

@@ -40,7 +40,8 @@ pub data IsMessage (cells : List Cell) : Value → List (List ℕ) → Type 0 wh
 
 pub data IsRaised (op : ℕ) (cells : List Cell) : List Value → List (List ℕ) → Type 0 where
   raise : {x : Value} → op ≡ names.RAISE → IsRaised op cells (x ∷ []) []
-  error : {who message : Value} {irritants : List Value} {words : List (List ℕ)} → IsWho who → IsMessage cells message words → IsRaised op cells (who ∷ message ∷ irritants) words
+  error : {who message : Value} {irritants : List Value} {words : List (List ℕ)} → IsWho who → IsMessage cells message words
+      → IsRaised op cells (who ∷ message ∷ irritants) words
 
 -- The fault of arguments that a row of primitives refuses: their primitive is named. `error` and the like raise one of their own, and what
 -- `datum->syntax` makes may pass a limit of trees.
@@ -52,10 +53,14 @@ pub data IsOfRow (op row : ℕ) (args : List Value) (cells : List Cell) : Bare �
 -- There is no such primitive during expansion; or it doesn't take so many arguments, and the fault tells their number; or it refuses these.
 pub data IsRefusedCall (op : ℕ) (args : List Value) (cells : List Cell) (frames : Scope) : Bare → Type 0 where
   no_primitive : primitive_of op ≡ None → IsRefusedCall op args cells frames (record { kind = kind.NoPrimitive; words = op_text op ∷ [] })
-  wrong_number : {p : Primitive} → primitive_of op ≡ Some p → (TakesSoMany p (length args) → ⊥) → IsRefusedCall op args cells frames (record { kind = kind.Arity; words = decimal (length args) ∷ [] })
-  wrong_arguments : {p : Primitive} {f : Bare} → primitive_of op ≡ Some p → TakesSoMany p (length args) → row_answer p.row op args cells frames ≡ Err f → IsOfRow op p.row args cells f → IsRefusedCall op args cells frames f
+  wrong_number : {p : Primitive} → primitive_of op ≡ Some p → (TakesSoMany p (length args) → ⊥)
+      → IsRefusedCall op args cells frames (record { kind = kind.Arity; words = decimal (length args) ∷ [] })
+  wrong_arguments : {p : Primitive} {f : Bare} → primitive_of op ≡ Some p → TakesSoMany p (length args)
+      → row_answer p.row op args cells frames ≡ Err f → IsOfRow op p.row args cells f → IsRefusedCall op args cells frames f
 
 -- A call is refused exactly so.
 pub record RefusalsAreTold : Type 0 where
-  pub refused : (op : ℕ) (args : List Value) (cells : List Cell) (frames : Scope) (f : Bare) → IsRefusedCall op args cells frames f → delta op args cells frames ≡ Err f
-  pub only : (op : ℕ) (args : List Value) (cells : List Cell) (frames : Scope) (f : Bare) → delta op args cells frames ≡ Err f → IsRefusedCall op args cells frames f
+  pub refused : (op : ℕ) (args : List Value) (cells : List Cell) (frames : Scope) (f : Bare) → IsRefusedCall op args cells frames f
+      → delta op args cells frames ≡ Err f
+  pub only : (op : ℕ) (args : List Value) (cells : List Cell) (frames : Scope) (f : Bare) → delta op args cells frames ≡ Err f
+      → IsRefusedCall op args cells frames f

@@ -296,7 +296,7 @@ module _ (own : LibName) (start : State) (at : BodyAt) where
         (λ e. gave-after BindsOne BindsOne (bind_keyword at.frame at.place at.level b s) (λ x s'. after (keyword_in_time at done b.id s') (λ _. give x))
         (binds-keyword own at.frame at.place at.level b s next) (keyword-in-time done b.id))
 
--- Forms of a body are settled: each use gives one for the same body.
+-- Uses in a body are expanded: each use gives one for the same body.
 
 -- the same body, at another place
 abbrev pub IsPlaced : BodyAt → BodyAt → Type 0

@@ -123,7 +123,7 @@ reference-named place level id s = gave-less (Refers place level s (standing_by 
     by None p u k = elim k.1 [ ]
     by (Some l) p u k = finishes level s l (label_standing s l) p u refl (label-kept s l) k.0 k.1
 
--- what is settled of a leaf that is no use is its own plan
+-- the plan of a leaf that is no use is its own
 module _ (rs : List CompiledLibrary) (place : Span) (level : ℕ) (t : Tree) (s : State) where
   abbrev Answers : PlainCore → State → Type 0
   Answers c u = (RefersTo s (stands s.frames t) c × (u ≡ linked_code t c s)) ⊎ IsUse s t

@@ -154,7 +154,7 @@ module _ (own : LibName) (start : State) (at : BodyAt) (base depth : ℕ) (deep 
     step-both d t s here low k h =
         gave-both (Steps own rs start {A = ItemOrUse} at s) (Step-waits {A = ItemOrUse}) (item_step rs at depth d t s) (step-takes own rs start depth at d t s here.0 low k) (step-waits d t s here low k h)
 
--- Forms of a body are settled.
+-- Uses in a body are expanded.
 
 module _ (own : LibName) (rs : List CompiledLibrary) (start : State) (base depth : ℕ) (deep : base ≤ depth) (room : depth ≤ most_round) where
   abbrev pub SettlesWaiting : BodyAt → State → Taken × PlannedItem → State → Type 0

@@ -1,4 +1,4 @@
--- How states change while forms are settled.
+-- How states change while uses are expanded.
 use Rattle.std.proofs.Common.{ℕ, zero, suc, Bool, true, false, List, None}
 use Rattle.base_data.specs.Act.{after}
 use Rattle.base_data.specs.declared.library.LibName.{LibName}

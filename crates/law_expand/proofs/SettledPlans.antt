@@ -1,4 +1,4 @@
--- What is settled of a form is planned under what it may refer to.
+-- The plan of a planned form stands under what the form may refer to.
 use Rattle.std.proofs.Common.{ℕ, zero, suc, Bool, true, false, List, None}
 use Rattle.base_data.specs.Act.{after}
 use Rattle.base_data.specs.declared.library.LibName.{LibName}

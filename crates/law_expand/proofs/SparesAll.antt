@@ -100,7 +100,7 @@ module _ (own : LibName) (given : List Label) (go : Inside) (spares : Spares own
       (gave-both (λ p u. Later own s u) (P place level s) (plan_of place level t s) (plan-later own place level s b.sound.next t) (plan-away place level s t))
       (λ p u k. (onward-later own given s u k.0 (same-told own given s u k.1.0) b, k.1.1))
 
-  -- Forms are settled.
+  -- Uses are expanded.
 
   module _ (rs : List CompiledLibrary) (level : ℕ) where
     abbrev StepAway : State → PlanOrUse → Type 0

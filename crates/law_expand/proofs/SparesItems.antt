@@ -164,7 +164,7 @@ module _ (own : LibName) (given : List Label) where
       spares-performs depth d t (items.Use l) s h k = tt
       spares-performs depth d t (items.SetUse l) s h k = tt
 
-  -- Forms of a body are settled.
+  -- Uses in a body are expanded.
 
   module _ (rs : List CompiledLibrary) (depth : ℕ) where
     set-spares : (at : BodyAt) (d : Taken) (t : Tree) (l : Label) (b : Bool) (s : State) → (is_top at.kind ≡ true → at.level ≡ 0) → B s → W s d → Gave (Gives own given (λ u (p : Taken × ItemOrUse). W u p.0) s) (set_item_step at depth d t l b s)

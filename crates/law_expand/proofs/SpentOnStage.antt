@@ -1,4 +1,4 @@
--- What a stage says of keywords while they are used: no expression comes to be kept but that of the keyword that is finished.
+-- What a stage says of keywords while they are used: no expression comes to be kept but that of the keyword whose transformer is evaluated.
 use Rattle.std.proofs.Common.{◌≡◌, ℕ, Bool, true, false, List, [], ◌∷◌, length, ◌+◌, Option, None, Some, Result, Ok, Err, refl, sym, ◌∙◌, ap, inl, inr, if◌then◌else◌}
 use Rattle.std.specs.Prelude.{◌⊎◌}
 use Rattle.indexmap.specs.IndexMap.{insert_entry}
@@ -231,7 +231,7 @@ pub variable-told : (rs : List CompiledLibrary) (place : Span) (l : Label) (s : 
 unfolding asks_variable
 variable-told rs place l s = on-stage s (is_variable_transformer place rs l (macro_expression (bound_to s.bindings l)) (stage_of s)) (asks-told place rs l (macro_expression (bound_to s.bindings l)) (stage_of s))
 
--- a keyword that is finished
+-- a keyword whose transformer is evaluated
 pub finish-told : (rs : List CompiledLibrary) (place : Span) (l : Label) (c : PlainCore) (s : State) → Gave (λ a u. TellsBut l c s.keywords u.keywords) (standing.evaluate_transformer rs place l c s)
 unfolding standing.evaluate_transformer evaluate_transformer
 finish-told rs place l c s = by (transformer place rs c (stage_of s)) (transformer-told place rs c (stage_of s))

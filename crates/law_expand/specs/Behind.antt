@@ -31,4 +31,5 @@ pub record IsFollower (own : LibName) (records : List CompiledLibrary) (imports 
 abbrev pub RecordsFollow : Type 0
 RecordsFollow = (own : LibName) (path : List ℕ) (records : List CompiledLibrary) (imports : List (List ℕ × Label)) (version : List ℕ) (place : Span)
     (exports : List (List ℕ × Tree)) (forms : List Tree) (codes : Codes) (r : CompiledLibrary)
-    → IsFollower own records imports exports → library_record (ready own path records imports codes) records version place exports forms ≡ Ok r → Follows r records
+    → IsFollower own records imports exports → library_record (ready own path records imports codes) records version place exports forms
+    ≡ Ok r → Follows r records

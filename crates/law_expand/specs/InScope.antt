@@ -9,4 +9,5 @@ use Rattle.expand_forms.specs.Expression.{inside}
 
 -- in the same order, too
 abbrev pub ScopeStays : Type 0
-ScopeStays = (records : List CompiledLibrary) (room : ℕ) (place : Span) (level depth : ℕ) (t : Tree) (s u : State) (c : PlainCore) → (inside records room).form place level depth t s ≡ Ok (c, u) → u.scope ≡ s.scope
+ScopeStays = (records : List CompiledLibrary) (room : ℕ) (place : Span) (level depth : ℕ) (t : Tree) (s u : State) (c : PlainCore)
+    → (inside records room).form place level depth t s ≡ Ok (c, u) → u.scope ≡ s.scope

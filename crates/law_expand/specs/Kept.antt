@@ -49,7 +49,8 @@ pub record IsKeptExpression (own : LibName) (given : List Label) (c : PlainCore)
 pub record KeptAreGood (own : LibName) (given : List Label) (s : State) : Type 0 where
   pub below : (n : Named) → IsNameOfKept own s.keywords n → n.number < s.names.number
   pub good : (l : Label) (c : PlainCore) → IsOwn own l.0 → IsKeptWith s.keywords l c → IsKeptExpression own given c
-  pub apart : (l m : Label) (c d : PlainCore) (n : Named) → IsOwn own l.0 → IsOwn own m.0 → IsKeptWith s.keywords l c → IsKeptWith s.keywords m d → MakesName c n → MakesName d n → l ≡ m
+  pub apart : (l m : Label) (c d : PlainCore) (n : Named) → IsOwn own l.0 → IsOwn own m.0 → IsKeptWith s.keywords l c
+      → IsKeptWith s.keywords m d → MakesName c n → MakesName d n → l ≡ m
 
 -- What forms of a library are expanded in: the variables of its top are of level 0, and what is kept is good.
 pub record IsGoodState (own : LibName) (given : List Label) (s : State) : Type 0 where

@@ -36,7 +36,8 @@ ReferencesNameBinders = (records : List CompiledLibrary) (room : ℕ) (place : S
 
 -- An assignment assigns what its target stands for.
 abbrev pub AssignmentsNameBinders : Type 0
-AssignmentsNameBinders = (place : Span) (level : ℕ) (t id : Tree) (s u : State) (l : Label) → target_by place level t id (standing_of s id) s ≡ Ok (l, u) → stands s.frames id ≡ Some l
+AssignmentsNameBinders = (place : Span) (level : ℕ) (t id : Tree) (s u : State) (l : Label)
+    → target_by place level t id (standing_of s id) s ≡ Ok (l, u) → stands s.frames id ≡ Some l
 
 -- Where a binder's frame is stamped on its identifier, that stands for the label of the binder.
 abbrev pub BindersAreFound : Type 0
@@ -45,5 +46,6 @@ BindersAreFound = (frame : FrameNo) (place : Span) (level : ℕ) (top : Bool) (i
 
 -- What an identifier stands for, whose stamps name frames that were made, stays as it is while a form is expanded.
 abbrev pub BindersStay : Type 0
-BindersStay = (records : List CompiledLibrary) (room : ℕ) (place : Span) (level depth : ℕ) (t : Tree) (s u : State) (c : PlainCore) → (inside records room).form place level depth t s ≡ Ok (c, u)
+BindersStay = (records : List CompiledLibrary) (room : ℕ) (place : Span) (level depth : ℕ) (t : Tree) (s u : State) (c : PlainCore)
+    → (inside records room).form place level depth t s ≡ Ok (c, u)
     → (id : Tree) → LeavesAre (IsOld s.names.library s) id → stands u.frames id ≡ stands s.frames id

@@ -33,7 +33,8 @@ EndsKept l (Err f) = Unit {0}
 -- so it is where a keyword is used, where it is asked for its kind, and where its expression is evaluated
 pub record StageGrows : Type 0 where
   pub uses : (place : Span) (rs : List CompiledLibrary) (t : Tree) (l : Label) (e : Option PlainCore) (frame : Option FrameNo) (s : PlainStage) → EndsLater s (used place rs t l e frame s)
-  pub asks : (place : Span) (rs : List CompiledLibrary) (l : Label) (e : Option PlainCore) (s : PlainStage) → EndsLater s (is_variable_transformer place rs l e s)
+  pub asks : (place : Span) (rs : List CompiledLibrary) (l : Label) (e : Option PlainCore) (s : PlainStage)
+      → EndsLater s (is_variable_transformer place rs l e s)
   pub finishes : (place : Span) (rs : List CompiledLibrary) (l : Label) (c : PlainCore) (s : PlainStage) → EndsLater s (evaluate_transformer place rs l c s)
   -- and it is kept
   pub keeps : (place : Span) (rs : List CompiledLibrary) (l : Label) (c : PlainCore) (s : PlainStage) → EndsKept l (evaluate_transformer place rs l c s)

@@ -96,7 +96,8 @@ IsTop s l v = (bound_to s.bindings l ≡ Some (binding.Variable v)) × (v.top �
 -- the variables of the library have indices below the next one, no two the same
 pub record IndicesApart (own : LibName) (s : State) : Type 0 where
   pub below : (l : Label) (v : VarInfo) (i : ℕ) → IsOwn own l.0 → bound_to s.bindings l ≡ Some (binding.Variable v) → v.index ≡ Some i → i < s.index
-  pub apart : (l m : Label) (v w : VarInfo) (i : ℕ) → IsOwn own l.0 → IsOwn own m.0 → bound_to s.bindings l ≡ Some (binding.Variable v) → bound_to s.bindings m ≡ Some (binding.Variable w)
+  pub apart : (l m : Label) (v w : VarInfo) (i : ℕ) → IsOwn own l.0 → IsOwn own m.0 → bound_to s.bindings l ≡ Some (binding.Variable v)
+      → bound_to s.bindings m ≡ Some (binding.Variable w)
       → v.index ≡ Some i → w.index ≡ Some i → l ≡ m
 
 -- the symbol and the marks of a row
@@ -140,7 +141,8 @@ pub record Adds (own : LibName) (top : Bool) (ls : List Label) (ds : Depths) (s 
 -- Of the keywords whose labels were made, those that are kept stay kept; and each keyword of the library that comes is kept.
 pub record Keeps (own : LibName) (s t : State) : Type 0 where
   pub kept : (l : Label) → l.0.number < s.names.number → IsKept s l → IsKept t l
-  pub keywords : (l : Label) (level : ℕ) (e : Option PlainCore) → IsOwn own l.0 → IsMacro t l level e → IsMacro s l level e ⊎ (IsKept t l × (l.0.number < t.names.number))
+  pub keywords : (l : Label) (level : ℕ) (e : Option PlainCore) → IsOwn own l.0 → IsMacro t l level e
+      → IsMacro s l level e ⊎ (IsKept t l × (l.0.number < t.names.number))
 
 -- From a state to a later one: frames that were there have the rows that they had, the same is in scope, there are no new
 -- variables of the top, and keywords that come are kept.

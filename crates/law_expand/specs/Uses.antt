@@ -32,8 +32,10 @@ IsUseOf s l (vector r d) = ⊥
 
 -- It expands to what that form expands to, which has the place of the use where it has none itself. One use less is left then.
 abbrev pub UsesAreReplaced : Type 0
-UsesAreReplaced = (records : List CompiledLibrary) (room left : ℕ) (place : Span) (level depth : ℕ) (t : Tree) (l : Label) (s : State) → IsUseOf s l t → s.uses_left ≡ suc left → depth ≤ most_round
-    → (inside records (suc room)).form place level depth t s ≡ after (next_form records left place t (keyword_use.Macro l) None s) ((inside records (suc room)).form (place_of t place) level depth)
+UsesAreReplaced = (records : List CompiledLibrary) (room left : ℕ) (place : Span) (level depth : ℕ) (t : Tree) (l : Label) (s : State)
+    → IsUseOf s l t → s.uses_left ≡ suc left → depth ≤ most_round
+    → (inside records (suc room)).form place level depth t s
+    ≡ after (next_form records left place t (keyword_use.Macro l) None s) ((inside records (suc room)).form (place_of t place) level depth)
 
 -- the identifier of the keyword
 abbrev pub head_of : Tree → Tree
@@ -47,8 +49,11 @@ with_head_of s done t = record done { kept = with_head done.kept (kept_head s (h
 
 -- So it is in a body. There the form that comes has the body's frame, and what the keyword stood for is kept.
 abbrev pub BodyUsesAreReplaced : Type 0
-BodyUsesAreReplaced = (records : List CompiledLibrary) (room left : ℕ) (at : BodyAt) (depth : ℕ) (done : Taken) (t : Tree) (l : Label) (s : State) → IsUseOf s l t → s.uses_left ≡ suc left → depth ≤ most_round
-    → (inside records (suc room)).item at depth done t s ≡ after (next_form records left at.place t (keyword_use.Macro l) (Some at.frame) s) ((inside records (suc room)).item (at_use at t) depth (with_head_of s done t))
+BodyUsesAreReplaced = (records : List CompiledLibrary) (room left : ℕ) (at : BodyAt) (depth : ℕ) (done : Taken) (t : Tree) (l : Label)
+    (s : State) → IsUseOf s l t → s.uses_left ≡ suc left → depth ≤ most_round
+    → (inside records (suc room)).item at depth done t s
+    ≡ after (next_form records left at.place t (keyword_use.Macro l) (Some at.frame) s)
+    ((inside records (suc room)).item (at_use at t) depth (with_head_of s done t))
 
 -- a form is a use of a core form: a list that begins with an identifier that stands for it
 abbrev pub IsFormOf : State → CoreForm → Tree → Type 0
@@ -59,8 +64,10 @@ IsFormOf s f (vector r d) = ⊥
 
 -- A record form that is an expression expands to what the form expands to that it gives.
 abbrev pub RecordFormsAreReplaced : Type 0
-RecordFormsAreReplaced = (records : List CompiledLibrary) (room left : ℕ) (place : Span) (level depth : ℕ) (t : Tree) (f : CoreForm) (s : State) → IsFormOf s f t → role_of f ≡ role.RecordValue → s.uses_left ≡ suc left → depth ≤ most_round
-    → (inside records (suc room)).form place level depth t s ≡ after (next_form records left place t (keyword_use.Record f) None s) ((inside records (suc room)).form (place_of t place) level depth)
+RecordFormsAreReplaced = (records : List CompiledLibrary) (room left : ℕ) (place : Span) (level depth : ℕ) (t : Tree) (f : CoreForm)
+    (s : State) → IsFormOf s f t → role_of f ≡ role.RecordValue → s.uses_left ≡ suc left → depth ≤ most_round
+    → (inside records (suc room)).form place level depth t s
+    ≡ after (next_form records left place t (keyword_use.Record f) None s) ((inside records (suc room)).form (place_of t place) level depth)
 
 abbrev pub IsOfRecords : Role → Type 0
 IsOfRecords role.Record = Unit {0}
@@ -69,5 +76,8 @@ IsOfRecords _ = ⊥
 
 -- So it is in a body, where a definition of a record type may stand, too.
 abbrev pub BodyRecordFormsAreReplaced : Type 0
-BodyRecordFormsAreReplaced = (records : List CompiledLibrary) (room left : ℕ) (at : BodyAt) (depth : ℕ) (done : Taken) (t : Tree) (f : CoreForm) (s : State) → IsFormOf s f t → IsOfRecords (role_of f) → s.uses_left ≡ suc left → depth ≤ most_round
-    → (inside records (suc room)).item at depth done t s ≡ after (next_form records left at.place t (keyword_use.Record f) (Some at.frame) s) ((inside records (suc room)).item (at_use at t) depth (with_head_of s done t))
+BodyRecordFormsAreReplaced = (records : List CompiledLibrary) (room left : ℕ) (at : BodyAt) (depth : ℕ) (done : Taken) (t : Tree)
+    (f : CoreForm) (s : State) → IsFormOf s f t → IsOfRecords (role_of f) → s.uses_left ≡ suc left → depth ≤ most_round
+    → (inside records (suc room)).item at depth done t s
+    ≡ after (next_form records left at.place t (keyword_use.Record f) (Some at.frame) s)
+    ((inside records (suc room)).item (at_use at t) depth (with_head_of s done t))

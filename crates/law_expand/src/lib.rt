@@ -26,7 +26,7 @@
 //! and its templates suit the pattern variables in scope (`ReachOfCode`). Names are made from one counter, so what was
 //! made between two states is disjoint from what was made before and after.
 //!
-//! Keywords are finished while the forms round them are expanded, so their expressions take names from among those
+//! Transformers are evaluated while the forms around them are expanded, so their expressions take names from among those
 //! that these forms take. A third induction tells that core code shares no name with the expression of a keyword
 //! (`specs/Keywords`): when a name is new, no keyword that is kept has it, and what is kept later has later names.
 #![tactic(auto)]

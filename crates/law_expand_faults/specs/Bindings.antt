@@ -28,19 +28,26 @@ pub data IsBoundName (x : List ℕ) (ms : List Mark) : List Row → Type 0 where
 
 -- A frame binds an identifier once. The second binder is the fault, and what is no identifier is no binder.
 pub data IsBadBinder (s : State) (frame : FrameNo) (id : Tree) (place : Span) (f : Fault) : Type 0 where
-  second : is_leaf id ≡ true → IsBoundName (symbol_of id) (marks_of id) (rows_at frame s.frames) → TellsFault kind.Duplicate id place (symbol_of id ∷ []) f → IsBadBinder s frame id place f
+  second : is_leaf id ≡ true → IsBoundName (symbol_of id) (marks_of id) (rows_at frame s.frames)
+      → TellsFault kind.Duplicate id place (symbol_of id ∷ []) f → IsBadBinder s frame id place f
   no_identifier : is_leaf id ≡ false → TellsFault kind.BadForm id place [] f → IsBadBinder s frame id place f
 
 -- The first export, in order, whose identifier stands for nothing in the library.
 pub data IsBadExport (s : State) (at : TopAt) (f : Fault) : List (List ℕ × Tree) → Type 0 where
-  this_export : {external : List ℕ} {id : Tree} {es : List (List ℕ × Tree)} → stands s.frames (stamp at.frame id) ≡ None → TellsFault kind.ExportUnbound id at.place (symbol_of id ∷ []) f → IsBadExport s at f ((external, id) ∷ es)
-  another_export : {external : List ℕ} {id : Tree} {l : Label} {es : List (List ℕ × Tree)} → stands s.frames (stamp at.frame id) ≡ Some l → IsBadExport s at f es → IsBadExport s at f ((external, id) ∷ es)
+  this_export : {external : List ℕ} {id : Tree} {es : List (List ℕ × Tree)} → stands s.frames (stamp at.frame id) ≡ None
+      → TellsFault kind.ExportUnbound id at.place (symbol_of id ∷ []) f → IsBadExport s at f ((external, id) ∷ es)
+  another_export : {external : List ℕ} {id : Tree} {l : Label} {es : List (List ℕ × Tree)} → stands s.frames (stamp at.frame id) ≡ Some l
+      → IsBadExport s at f es → IsBadExport s at f ((external, id) ∷ es)
 
 -- Binders and exports are at fault exactly so.
 pub record BindingsAreTold : Type 0 where
-  pub variable_binders : (frame : FrameNo) (place : Span) (level : ℕ) (top : Bool) (id : Tree) (s : State) (f : Fault) → IsBadBinder s frame id place f → bind_variable frame place level top id s ≡ Err f
-  pub variable_binders_only : (frame : FrameNo) (place : Span) (level : ℕ) (top : Bool) (id : Tree) (s : State) (f : Fault) → bind_variable frame place level top id s ≡ Err f → IsBadBinder s frame id place f
-  pub keyword_binders : (frame : FrameNo) (place : Span) (level : ℕ) (b : BindingSpec) (s : State) (f : Fault) → IsBadBinder s frame b.id place f → bind_keyword frame place level b s ≡ Err f
-  pub keyword_binders_only : (frame : FrameNo) (place : Span) (level : ℕ) (b : BindingSpec) (s : State) (f : Fault) → bind_keyword frame place level b s ≡ Err f → IsBadBinder s frame b.id place f
+  pub variable_binders : (frame : FrameNo) (place : Span) (level : ℕ) (top : Bool) (id : Tree) (s : State) (f : Fault)
+      → IsBadBinder s frame id place f → bind_variable frame place level top id s ≡ Err f
+  pub variable_binders_only : (frame : FrameNo) (place : Span) (level : ℕ) (top : Bool) (id : Tree) (s : State) (f : Fault)
+      → bind_variable frame place level top id s ≡ Err f → IsBadBinder s frame id place f
+  pub keyword_binders : (frame : FrameNo) (place : Span) (level : ℕ) (b : BindingSpec) (s : State) (f : Fault)
+      → IsBadBinder s frame b.id place f → bind_keyword frame place level b s ≡ Err f
+  pub keyword_binders_only : (frame : FrameNo) (place : Span) (level : ℕ) (b : BindingSpec) (s : State) (f : Fault)
+      → bind_keyword frame place level b s ≡ Err f → IsBadBinder s frame b.id place f
   pub unbound_exports : (at : TopAt) (es : List (List ℕ × Tree)) (s : State) (f : Fault) → IsBadExport s at f es → exports at es s ≡ Err f
   pub unbound_exports_only : (at : TopAt) (es : List (List ℕ × Tree)) (s : State) (f : Fault) → exports at es s ≡ Err f → IsBadExport s at f es

@@ -22,8 +22,12 @@ pub record IsPutAt (place : Span) (b : Bare) (f : Fault) : Type 0 where
 -- The fault of an expression, of a call, of a library's lines and of an output stands at the form that asked for it. Whatever the use of a keyword comes
 -- to, once its transformer is there, it stands at the use.
 pub record EvaluationsAreTold : Type 0 where
-  pub expressions : (place : Span) (c : PlainCore) (s : PlainStage) (t : eval.WorldState) (left : ℕ) (b : Bare) (f : Fault) → outcome_of c s ≡ eval.faulted b t left → IsPutAt place b f → evaluate place c s ≡ Err f
-  pub calls : (place : Span) (v x : Value) (s : PlainStage) (t : eval.WorldState) (left : ℕ) (b : Bare) (f : Fault) → outcome_of_call v x s ≡ eval.faulted b t left → IsPutAt place b f → call place v x s ≡ Err f
-  pub libraries : (place : Span) (r : CompiledLibrary) (s : PlainStage) (t : eval.WorldState) (left : ℕ) (b : Bare) (f : Fault) → outcome_of_lines r.run s ≡ eval.faulted b t left → IsPutAt place b f → evaluate_library place r s ≡ Err f
-  pub outputs : (place : Span) (v : Value) (fuel : ℕ) (s : PlainStage) (b : Bare) (f : Fault) → to_syntax s.cells v fuel ≡ Err b → IsPutAt place b f → read_answer place (v, fuel) s ≡ Err f
+  pub expressions : (place : Span) (c : PlainCore) (s : PlainStage) (t : eval.WorldState) (left : ℕ) (b : Bare) (f : Fault)
+      → outcome_of c s ≡ eval.faulted b t left → IsPutAt place b f → evaluate place c s ≡ Err f
+  pub calls : (place : Span) (v x : Value) (s : PlainStage) (t : eval.WorldState) (left : ℕ) (b : Bare) (f : Fault)
+      → outcome_of_call v x s ≡ eval.faulted b t left → IsPutAt place b f → call place v x s ≡ Err f
+  pub libraries : (place : Span) (r : CompiledLibrary) (s : PlainStage) (t : eval.WorldState) (left : ℕ) (b : Bare) (f : Fault)
+      → outcome_of_lines r.run s ≡ eval.faulted b t left → IsPutAt place b f → evaluate_library place r s ≡ Err f
+  pub outputs : (place : Span) (v : Value) (fuel : ℕ) (s : PlainStage) (b : Bare) (f : Fault) → to_syntax s.cells v fuel ≡ Err b
+      → IsPutAt place b f → read_answer place (v, fuel) s ≡ Err f
   pub uses : (place : Span) (v : Value) (form : Tree) (s : PlainStage) (f : Fault) → transform place v form s ≡ Err f → f.span ≡ place

@@ -38,33 +38,45 @@ pub data IsVisible (s : State) (level : ℕ) (v : Variable) : Type 0 where
 -- for a variable that can't be used here; or for one that another library assigns.
 pub data IsBadReference (s : State) (place : Span) (level : ℕ) (id : Tree) (f : Fault) : Type 0 where
   unbound : standing_of s id ≡ standing.Nothing → TellsFault kind.Unbound id place (symbol_of id ∷ []) f → IsBadReference s place level id f
-  pattern_variable : standing_of s id ≡ standing.PatternVariable → TellsFault kind.KeywordMisuse id place (symbol_of id ∷ []) f → IsBadReference s place level id f
-  keyword : {k : CoreForm} → standing_of s id ≡ standing.Core k → TellsFault kind.KeywordMisuse id place (symbol_of id ∷ []) f → IsBadReference s place level id f
-  out_of_context : {v : Variable} → standing_of s id ≡ standing.Variable v → (IsVisible s level v → ⊥) → TellsFault kind.OutOfContext id place (symbol_of id ∷ []) f → IsBadReference s place level id f
-  assigned_elsewhere : {v : Variable} → standing_of s id ≡ standing.Variable v → v.own ≡ false → v.top ≡ true → v.assigned ≡ true → TellsFault kind.AssignedElsewhere id place (symbol_of id ∷ []) f
+  pattern_variable : standing_of s id ≡ standing.PatternVariable → TellsFault kind.KeywordMisuse id place (symbol_of id ∷ []) f
+      → IsBadReference s place level id f
+  keyword : {k : CoreForm} → standing_of s id ≡ standing.Core k → TellsFault kind.KeywordMisuse id place (symbol_of id ∷ []) f
+      → IsBadReference s place level id f
+  out_of_context : {v : Variable} → standing_of s id ≡ standing.Variable v → (IsVisible s level v → ⊥)
+      → TellsFault kind.OutOfContext id place (symbol_of id ∷ []) f → IsBadReference s place level id f
+  assigned_elsewhere : {v : Variable} → standing_of s id ≡ standing.Variable v → v.own ≡ false → v.top ≡ true → v.assigned ≡ true
+      → TellsFault kind.AssignedElsewhere id place (symbol_of id ∷ []) f
       → IsBadReference s place level id f
 
 -- The target of an assignment. A fault names the identifier. It stands at the assignment, but where the identifier itself can't be used here.
 pub data IsBadTarget (s : State) (place : Span) (level : ℕ) (form id : Tree) (f : Fault) : Type 0 where
   unbound_target : standing_of s id ≡ standing.Nothing → TellsFault kind.Unbound form place (symbol_of id ∷ []) f → IsBadTarget s place level form id f
-  pattern_target : standing_of s id ≡ standing.PatternVariable → TellsFault kind.KeywordMisuse id place (symbol_of id ∷ []) f → IsBadTarget s place level form id f
-  keyword_target : {k : CoreForm} → standing_of s id ≡ standing.Core k → TellsFault kind.KeywordMisuse form place (symbol_of id ∷ []) f → IsBadTarget s place level form id f
-  primitive_target : {op : Op} → standing_of s id ≡ standing.Primitive op → TellsFault kind.AssignedImport form place (symbol_of id ∷ []) f → IsBadTarget s place level form id f
-  target_out_of_context : {v : Variable} → standing_of s id ≡ standing.Variable v → (IsVisible s level v → ⊥) → TellsFault kind.OutOfContext id place (symbol_of id ∷ []) f → IsBadTarget s place level form id f
-  exported_target : {v : Variable} → standing_of s id ≡ standing.Variable v → IsVisible s level v → IsAmongForms v.label s.exports → TellsFault kind.AssignedExport form place (symbol_of id ∷ []) f → IsBadTarget s place level form id f
+  pattern_target : standing_of s id ≡ standing.PatternVariable → TellsFault kind.KeywordMisuse id place (symbol_of id ∷ []) f
+      → IsBadTarget s place level form id f
+  keyword_target : {k : CoreForm} → standing_of s id ≡ standing.Core k → TellsFault kind.KeywordMisuse form place (symbol_of id ∷ []) f
+      → IsBadTarget s place level form id f
+  primitive_target : {op : Op} → standing_of s id ≡ standing.Primitive op → TellsFault kind.AssignedImport form place (symbol_of id ∷ []) f
+      → IsBadTarget s place level form id f
+  target_out_of_context : {v : Variable} → standing_of s id ≡ standing.Variable v → (IsVisible s level v → ⊥)
+      → TellsFault kind.OutOfContext id place (symbol_of id ∷ []) f → IsBadTarget s place level form id f
+  exported_target : {v : Variable} → standing_of s id ≡ standing.Variable v → IsVisible s level v → IsAmongForms v.label s.exports
+      → TellsFault kind.AssignedExport form place (symbol_of id ∷ []) f → IsBadTarget s place level form id f
   imported_target : {v : Variable} → standing_of s id ≡ standing.Variable v → v.own ≡ false → v.top ≡ true → (IsAmongForms v.label s.exports → ⊥) → TellsFault kind.AssignedImport form place (symbol_of id ∷ []) f
       → IsBadTarget s place level form id f
 
 -- `(set! id value)`: the head stands for the keyword, and the form has its shape
 pub data IsAssignment (s : State) (place : Span) (id value : Tree) : Tree → Type 0 where
-  a_set : {span : Option Span} {head rest : Tree} → is_leaf head ≡ true → standing_of s head ≡ standing.Core core_forms.Set → shape core_forms.Set (pair span head rest) place ≡ Ok (shapes.Set id value)
+  a_set : {span : Option Span} {head rest : Tree} → is_leaf head ≡ true → standing_of s head ≡ standing.Core core_forms.Set
+      → shape core_forms.Set (pair span head rest) place ≡ Ok (shapes.Set id value)
       → IsAssignment s place id value (pair span head rest)
 
 -- An assignment to a keyword is a use of it, where that is a variable transformer; to look at it can be at fault, too.
 pub data IsBadAssignment (rs : List CompiledLibrary) (s : State) (place : Span) (level : ℕ) (form id : Tree) (f : Fault) : Type 0 where
   bad_target : IsBadTarget s place level form id f → IsBadAssignment rs s place level form id f
-  bad_keyword : {l : Label} → standing_of s id ≡ standing.Keyword l → asks_variable rs (place_of form place) l s ≡ Err f → IsBadAssignment rs s place level form id f
-  no_variable_transformer : {l : Label} {t : State} → standing_of s id ≡ standing.Keyword l → asks_variable rs (place_of form place) l s ≡ Ok (false, t) → TellsFault kind.KeywordMisuse form place (symbol_of id ∷ []) f
+  bad_keyword : {l : Label} → standing_of s id ≡ standing.Keyword l → asks_variable rs (place_of form place) l s ≡ Err f
+      → IsBadAssignment rs s place level form id f
+  no_variable_transformer : {l : Label} {t : State} → standing_of s id ≡ standing.Keyword l
+      → asks_variable rs (place_of form place) l s ≡ Ok (false, t) → TellsFault kind.KeywordMisuse form place (symbol_of id ∷ []) f
       → IsBadAssignment rs s place level form id f
 
 -- the keywords that stand only within other forms (R6RS 11.4.5, 11.17 and 11.19, libraries 6.2, 12.4 and 12.8)
@@ -90,9 +102,14 @@ pub data IsAuxiliary : CoreForm → Type 0 where
 -- An expression that is an identifier, and an assignment, is at fault exactly so before anything in it is expanded; and so is a form that an auxiliary
 -- keyword heads, at that keyword.
 pub record IdentifiersAreTold : Type 0 where
-  pub references : (rs : List CompiledLibrary) (place : Span) (level : ℕ) (span : Option Span) (x : List ℕ) (c : LeafContext) (s : State) (f : Fault) → IsBadReference s place level (leaf span x c) f → step rs place level (leaf span x c) s ≡ Err f
-  pub references_only : (rs : List CompiledLibrary) (place : Span) (level : ℕ) (span : Option Span) (x : List ℕ) (c : LeafContext) (s : State) (f : Fault) → step rs place level (leaf span x c) s ≡ Err f → IsBadReference s place level (leaf span x c) f
-  pub assignments : (rs : List CompiledLibrary) (place : Span) (level : ℕ) (form id value : Tree) (s : State) (f : Fault) → IsAssignment s place id value form → IsBadAssignment rs s place level form id f → step rs place level form s ≡ Err f
-  pub assignments_only : (rs : List CompiledLibrary) (place : Span) (level : ℕ) (form id value : Tree) (s : State) (f : Fault) → IsAssignment s place id value form → step rs place level form s ≡ Err f → IsBadAssignment rs s place level form id f
-  pub auxiliaries : (rs : List CompiledLibrary) (place : Span) (level : ℕ) (span : Option Span) (head rest : Tree) (k : CoreForm) (s : State) (f : Fault) → is_leaf head ≡ true → standing_of s head ≡ standing.Core k → IsAuxiliary k
+  pub references : (rs : List CompiledLibrary) (place : Span) (level : ℕ) (span : Option Span) (x : List ℕ) (c : LeafContext) (s : State)
+      (f : Fault) → IsBadReference s place level (leaf span x c) f → step rs place level (leaf span x c) s ≡ Err f
+  pub references_only : (rs : List CompiledLibrary) (place : Span) (level : ℕ) (span : Option Span) (x : List ℕ) (c : LeafContext)
+      (s : State) (f : Fault) → step rs place level (leaf span x c) s ≡ Err f → IsBadReference s place level (leaf span x c) f
+  pub assignments : (rs : List CompiledLibrary) (place : Span) (level : ℕ) (form id value : Tree) (s : State) (f : Fault)
+      → IsAssignment s place id value form → IsBadAssignment rs s place level form id f → step rs place level form s ≡ Err f
+  pub assignments_only : (rs : List CompiledLibrary) (place : Span) (level : ℕ) (form id value : Tree) (s : State) (f : Fault)
+      → IsAssignment s place id value form → step rs place level form s ≡ Err f → IsBadAssignment rs s place level form id f
+  pub auxiliaries : (rs : List CompiledLibrary) (place : Span) (level : ℕ) (span : Option Span) (head rest : Tree) (k : CoreForm)
+      (s : State) (f : Fault) → is_leaf head ≡ true → standing_of s head ≡ standing.Core k → IsAuxiliary k
       → TellsFault kind.KeywordMisuse head place (symbol_of head ∷ []) f → step rs place level (pair span head rest) s ≡ Err f

@@ -16,7 +16,9 @@ use Rattle.law_expand_faults.specs.Told.{TellsFault}
 
 -- Where no use is left, a form that is one is TooManyExpansions, which has no words; so is a form of a body.
 pub record UsesTooManyAreTold : Type 0 where
-  pub expressions : (rs : List CompiledLibrary) (place : Span) (level : ℕ) (t : Tree) (s u : State) (k : KeywordUse) (f : Fault) → step rs place level t s ≡ Ok (steps.Use k, u) → TellsFault kind.TooManyExpansions t place [] f
+  pub expressions : (rs : List CompiledLibrary) (place : Span) (level : ℕ) (t : Tree) (s u : State) (k : KeywordUse) (f : Fault)
+      → step rs place level t s ≡ Ok (steps.Use k, u) → TellsFault kind.TooManyExpansions t place [] f
       → expand_uses_to rs zero place level t s ≡ Err f
-  pub items : (rs : List CompiledLibrary) (at : BodyAt) (depth : ℕ) (done taken : Taken) (t : Tree) (s u : State) (k : KeywordUse) (f : Fault) → item_step rs at depth done t s ≡ Ok ((taken, item_steps.Use k), u)
+  pub items : (rs : List CompiledLibrary) (at : BodyAt) (depth : ℕ) (done taken : Taken) (t : Tree) (s u : State) (k : KeywordUse)
+      (f : Fault) → item_step rs at depth done t s ≡ Ok ((taken, item_steps.Use k), u)
       → TellsFault kind.TooManyExpansions t at.place [] f → expand_item_uses_to rs zero at depth done t s ≡ Err f

@@ -34,9 +34,11 @@ module _ (file : List ℕ) where
 
   -- bytes at this offset that begin no bracket, prefix, string or what a number sign begins, and no identifier or number
   pub data BadBare : ℕ → List ℕ → Fault → Type 0 where
-    bad_escape : (at : ℕ) (bytes : List ℕ) (f : Fault) → is_special (slice_index bytes 0) ≡ false → BadBehind BarePart (BadBackslash kind.BadEscape at) at bytes f → BadBare at bytes f
+    bad_escape : (at : ℕ) (bytes : List ℕ) (f : Fault) → is_special (slice_index bytes 0) ≡ false
+        → BadBehind BarePart (BadBackslash kind.BadEscape at) at bytes f → BadBare at bytes f
     no_char : (at : ℕ) (bytes : List ℕ) (p : Decoded) (ps : List Decoded) → characters bytes ≡ p ∷ ps → p.char ≡ None → BadBare at bytes (no_character file at)
-    text : (at : ℕ) (bytes : List ℕ) (n : ℕ) (f : Fault) → is_special (slice_index bytes 0) ≡ false → Bare bytes n → 0 < n → BadText at (at + n) (take n bytes) f → BadBare at bytes f
+    text : (at : ℕ) (bytes : List ℕ) (n : ℕ) (f : Fault) → is_special (slice_index bytes 0) ≡ false → Bare bytes n → 0 < n
+        → BadText at (at + n) (take n bytes) f → BadBare at bytes f
 
   -- bytes at this offset that begin with a number sign and the mark of a number, and spell no number
   pub data BadMarked : ℕ → List ℕ → Fault → Type 0 where

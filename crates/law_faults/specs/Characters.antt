@@ -26,14 +26,18 @@ module _ (file : List ℕ) where
   -- bytes at this offset that begin with `#\` and spell no character
   pub data BadCharacter : ℕ → List ℕ → Fault → Type 0 where
     source_end : (at : ℕ) (bytes : List ℕ) → characters (drop 2 bytes) ≡ [] → BadCharacter at bytes (fault_at file kind.BadToken at (at + 2))
-    no_char : (at : ℕ) (bytes : List ℕ) (p : Decoded) (ps : List Decoded) → characters (drop 2 bytes) ≡ p ∷ ps → p.char ≡ None → BadCharacter at bytes (fault_at file kind.BadUtf8 (at + 2) (at + 3))
+    no_char : (at : ℕ) (bytes : List ℕ) (p : Decoded) (ps : List Decoded) → characters (drop 2 bytes) ≡ p ∷ ps → p.char ≡ None
+        → BadCharacter at bytes (fault_at file kind.BadUtf8 (at + 2) (at + 3))
     -- what follows is neither a delimiter nor the end
     undelimited : (at : ℕ) (bytes : List ℕ) (size n : ℕ) → WholeCharacter bytes size n → is_delimited (characters (drop (2 + size + n) bytes)) ≡ false
         → BadCharacter at bytes (fault_at file kind.BadToken at (at + 2 + size + n))
     -- several characters that are no name, and not x and digits
-    unknown : (at : ℕ) (bytes : List ℕ) (size n : ℕ) → WholeCharacter bytes size n → 0 < n → is_delimited (characters (drop (2 + size + n) bytes)) ≡ true → named (text_of bytes size n) ≡ None
-        → (slice_index (text_of bytes size n) 0 == 0x78 && is_digits 16 (drop 1 (text_of bytes size n))) ≡ false → BadCharacter at bytes (fault_at file kind.BadToken at (at + 2 + size + n))
+    unknown : (at : ℕ) (bytes : List ℕ) (size n : ℕ) → WholeCharacter bytes size n → 0 < n
+        → is_delimited (characters (drop (2 + size + n) bytes)) ≡ true → named (text_of bytes size n) ≡ None
+        → (slice_index (text_of bytes size n) 0 == 0x78 && is_digits 16 (drop 1 (text_of bytes size n))) ≡ false
+        → BadCharacter at bytes (fault_at file kind.BadToken at (at + 2 + size + n))
     -- x and the digits of a number that no character has
-    no_scalar : (at : ℕ) (bytes : List ℕ) (size n : ℕ) → WholeCharacter bytes size n → 0 < n → is_delimited (characters (drop (2 + size + n) bytes)) ≡ true → named (text_of bytes size n) ≡ None
+    no_scalar : (at : ℕ) (bytes : List ℕ) (size n : ℕ) → WholeCharacter bytes size n → 0 < n
+        → is_delimited (characters (drop (2 + size + n) bytes)) ≡ true → named (text_of bytes size n) ≡ None
         → slice_index (text_of bytes size n) 0 ≡ 0x78 → is_digits 16 (drop 1 (text_of bytes size n)) ≡ true → scalar_of (drop 1 (text_of bytes size n)) ≡ None
         → BadCharacter at bytes (fault_at file kind.BadEscape at (at + 2 + size + n))

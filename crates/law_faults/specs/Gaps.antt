@@ -24,13 +24,16 @@ module _ (file : List ℕ) where
         → BadBlock os (at + p.size + q.size) rest f → BadBlock (o ∷ os) at (p ∷ q ∷ rest) f
     opening : (o : ℕ) (os : List ℕ) (at : ℕ) (p q : Decoded) (rest : List Decoded) (f : Fault) → opens (p ∷ q ∷ rest) ≡ true
         → BadBlock (at ∷ o ∷ os) (at + p.size + q.size) rest f → BadBlock (o ∷ os) at (p ∷ q ∷ rest) f
-    char : (o : ℕ) (os : List ℕ) (at : ℕ) (p : Decoded) (rest : List Decoded) (f : Fault) → is_none p.char ≡ false → closes (p ∷ rest) ≡ false → opens (p ∷ rest) ≡ false
+    char : (o : ℕ) (os : List ℕ) (at : ℕ) (p : Decoded) (rest : List Decoded) (f : Fault) → is_none p.char ≡ false
+        → closes (p ∷ rest) ≡ false → opens (p ∷ rest) ≡ false
         → BadBlock (o ∷ os) (at + p.size) rest f → BadBlock (o ∷ os) at (p ∷ rest) f
 
   -- a comment, at this offset, whose bytes can't go on
   pub data BadComment : ℕ → List ℕ → Fault → Type 0 where
-    line : (at : ℕ) (bytes : List ℕ) (f : Fault) → slice_index bytes 0 ≡ 0x3B → BadLine ends_comment (at + 1) (characters (drop 1 bytes)) f → BadComment at bytes f
-    block : (at : ℕ) (bytes : List ℕ) (f : Fault) → starts_with nat_eq bytes (codes "#|") ≡ true → BadBlock (at ∷ []) (at + 2) (characters (drop 2 bytes)) f → BadComment at bytes f
+    line : (at : ℕ) (bytes : List ℕ) (f : Fault) → slice_index bytes 0 ≡ 0x3B → BadLine ends_comment (at + 1) (characters (drop 1 bytes)) f
+        → BadComment at bytes f
+    block : (at : ℕ) (bytes : List ℕ) (f : Fault) → starts_with nat_eq bytes (codes "#|") ≡ true
+        → BadBlock (at ∷ []) (at + 2) (characters (drop 2 bytes)) f → BadComment at bytes f
 
   -- behind whitespace and comments stands a comment that can't go on
   abbrev pub BadGap : ℕ → List ℕ → Fault → Type 0

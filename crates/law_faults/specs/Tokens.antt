@@ -29,9 +29,12 @@ module _ (file : List ℕ) where
   -- the bytes at this offset begin no token, since one that begins with them can't go on
   pub data BadToken : ℕ → List ℕ → Fault → Type 0 where
     string : (at : ℕ) (bytes : List ℕ) (f : Fault) → slice_index bytes 0 ≡ 0x22 → BadString file at (at + 1) (drop 1 bytes) f → BadToken at bytes f
-    character : (at : ℕ) (bytes : List ℕ) (f : Fault) → slice_index bytes 0 ≡ 0x23 → slice_index bytes 1 ≡ 0x5C → BadCharacter file at bytes f → BadToken at bytes f
-    marked : (at : ℕ) (bytes : List ℕ) (f : Fault) → slice_index bytes 0 ≡ 0x23 → is_number_mark (slice_index bytes 1) ≡ true → BadMarked file at bytes f → BadToken at bytes f
-    hash : (at : ℕ) (bytes : List ℕ) (n : ℕ) → NoHash bytes → CharacterRun runs_on (characters (drop 1 bytes)) n → BadToken at bytes (fault_at file kind.BadToken at (at + 1 + n))
+    character : (at : ℕ) (bytes : List ℕ) (f : Fault) → slice_index bytes 0 ≡ 0x23 → slice_index bytes 1 ≡ 0x5C
+        → BadCharacter file at bytes f → BadToken at bytes f
+    marked : (at : ℕ) (bytes : List ℕ) (f : Fault) → slice_index bytes 0 ≡ 0x23 → is_number_mark (slice_index bytes 1) ≡ true
+        → BadMarked file at bytes f → BadToken at bytes f
+    hash : (at : ℕ) (bytes : List ℕ) (n : ℕ) → NoHash bytes → CharacterRun runs_on (characters (drop 1 bytes)) n
+        → BadToken at bytes (fault_at file kind.BadToken at (at + 1 + n))
     bare : (at : ℕ) (bytes : List ℕ) (f : Fault) → BadBare file at bytes f → BadToken at bytes f
 
   -- from an offset on a source goes on neither with a token nor to its end: in the gap that begins there stands a comment that can't

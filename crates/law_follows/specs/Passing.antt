@@ -28,5 +28,6 @@ module _ (base : RunBase) (files : Paths) (roots : List (List ℕ)) (s : Loading
       → (e : Entry) → HoldsFitting (kept dir roots s groups) now.store f e → stored (kept dir roots s groups) base.prelude now f ≡ Some e.stored
 
 abbrev pub RunsPass : Type 0
-RunsPass = (base : RunBase) (files : Paths) (roots : List (List ℕ)) (path : List ℕ) (found : Found) (s : Loading) (records : List CompiledLibrary) (program : CompiledLibrary)
+RunsPass = (base : RunBase) (files : Paths) (roots : List (List ℕ)) (path : List ℕ) (found : Found) (s : Loading)
+    (records : List CompiledLibrary) (program : CompiledLibrary)
     → IsRun base.prelude files roots path found s records program → RecordsPass base files roots s × EntriesPass base files roots s

@@ -58,7 +58,11 @@ cons c d = app (prim names.CONS) (c ∷ d ∷ [])
 
 -- the code of a text: a procedure without arguments, whose body is the text
 abbrev pub text_code : ℕ → PlainCore → PlainCode
-text_code n c = record { number = record { 0 = record { library = library.Core; number = n } }; cases = case (record { required = []; rest = None }) c no_case; plain = true }
+text_code n c = record {
+  number = record { 0 = record { library = library.Core; number = n } };
+  cases = case (record { required = []; rest = None }) c no_case;
+  plain = true;
+}
 
 -- whether the first of the lists is at its end
 abbrev pub first_is_null : PlainCore → PlainCore
@@ -94,7 +98,8 @@ map_one = two_armed (is_null (var 7)) (datum_at names.MAP 43 45 a.Nil) (cons map
 
 abbrev pub map_many : PlainCore
 map_many = two_armed (first_is_null (var 12)) (datum_at names.MAP 139 141 a.Nil)
-    (cons (app (prim names.APPLY) (var 11 ∷ app (var 2) (prim names.CAR ∷ var 12 ∷ []) ∷ [])) (app (var 3) (var 11 ∷ app (var 2) (prim names.CDR ∷ var 12 ∷ []) ∷ [])))
+    (cons (app (prim names.APPLY) (var 11 ∷ app (var 2) (prim names.CAR ∷ var 12 ∷ []) ∷ []))
+    (app (var 3) (var 11 ∷ app (var 2) (prim names.CDR ∷ var 12 ∷ []) ∷ [])))
 
 abbrev pub map_body : PlainCore
 map_body = two_armed (is_null (var 19)) (app (var 2) (var 17 ∷ var 18 ∷ [])) (app (var 3) (var 17 ∷ cons (var 18) (var 19) ∷ []))
@@ -106,7 +111,8 @@ map_text = letrec false (init (label 2) (lambda 4 (6 ∷ 7 ∷ []) None map_one)
 -- `for-each`
 
 abbrev pub for_each_body : PlainCore
-for_each_body = sequence (cores (app (prim names.APPLY) (prim names.MAP ∷ var 23 ∷ var 24 ∷ var 25 ∷ []) ∷ one_armed (datum_at names.FOR_EACH 49 51 (a.Bool false)) (datum_at names.FOR_EACH 52 54 (a.Bool false)) ∷ []))
+for_each_body = sequence (cores (app (prim names.APPLY) (prim names.MAP ∷ var 23 ∷ var 24 ∷ var 25 ∷ [])
+    ∷ one_armed (datum_at names.FOR_EACH 49 51 (a.Bool false)) (datum_at names.FOR_EACH 52 54 (a.Bool false)) ∷ []))
 
 abbrev pub for_each_text : PlainCore
 for_each_text = lambda 21 (23 ∷ 24 ∷ []) (Some 25) for_each_body
@@ -147,7 +153,8 @@ exists_text = letrec false (init (label 42) (lambda 43 (45 ∷ 46 ∷ []) None e
 -- `filter`
 
 abbrev pub filter_some : PlainCore
-filter_some = two_armed (app (var 63) (car (var 64) ∷ [])) (cons (car (var 64)) (app (var 60) (var 63 ∷ cdr (var 64) ∷ []))) (app (var 60) (var 63 ∷ cdr (var 64) ∷ []))
+filter_some = two_armed (app (var 63) (car (var 64) ∷ [])) (cons (car (var 64)) (app (var 60) (var 63 ∷ cdr (var 64) ∷ [])))
+    (app (var 60) (var 63 ∷ cdr (var 64) ∷ []))
 
 abbrev pub filter_loop : PlainCore
 filter_loop = two_armed (is_null (var 64)) (datum_at names.FILTER 42 44 a.Nil) filter_some

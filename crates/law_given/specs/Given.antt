@@ -52,7 +52,8 @@ pub record Visited (w : PlainSetting) (f : Value) (xs : List Value) (s : WorldSt
   pub is_nothing : v ≡ value.Unspecified
 
 -- f is called on each element, in their order, and the list of those is given whose answers a choice tells
-pub record Filters (w : PlainSetting) (g : Value) (args : List Value) (f : Value) (choice : List Value → List Value → List Value) (xs : List Value) (s : WorldState) : Type 0 where
+pub record Filters (w : PlainSetting) (g : Value) (args : List Value) (f : Value) (choice : List Value → List Value → List Value)
+    (xs : List Value) (s : WorldState) : Type 0 where
   pub value : Value
   pub state : WorldState
   pub called : Calls w g args s value state
@@ -129,7 +130,8 @@ pub record SearchFaults (w : PlainSetting) (g : Value) (args : List Value) (f : 
 
 -- What calls that gave a value did.
 
-pub record Filtered (w : PlainSetting) (f : Value) (choice : List Value → List Value → List Value) (xs : List Value) (s : WorldState) (v : Value) (t : WorldState) : Type 0 where
+pub record Filtered (w : PlainSetting) (f : Value) (choice : List Value → List Value → List Value) (xs : List Value) (s : WorldState)
+    (v : Value) (t : WorldState) : Type 0 where
   pub answers : List Value
   pub in_turn : InTurn w f xs s answers t
   pub list : IsList t.cells (choice xs answers) v

@@ -12,7 +12,8 @@ use Rattle.law_given.specs.Calls.{End, CallEnds, Calls}
 -- A call on each of some values, in their order, from a state on: their answers, and a state behind the last.
 pub data InTurn (w : PlainSetting) (f : Value) : List Value → WorldState → List Value → WorldState → Type 0 where
   no_call : {s t : WorldState} → LaterWorld s t → InTurn w f [] s [] t
-  one_call : {x y : Value} {xs ys : List Value} {s t u v : WorldState} → LaterWorld s t → Calls w f (x ∷ []) t y u → InTurn w f xs u ys v → InTurn w f (x ∷ xs) s (y ∷ ys) v
+  one_call : {x y : Value} {xs ys : List Value} {s t u v : WorldState} → LaterWorld s t → Calls w f (x ∷ []) t y u → InTurn w f xs u ys v
+      → InTurn w f (x ∷ xs) s (y ∷ ys) v
 
 -- Each of these calls gives a value, whatever cells were added before it.
 abbrev pub AllGive : PlainSetting → Value → List Value → WorldState → Type 0
@@ -22,18 +23,23 @@ AllGive w f (x ∷ xs) s = (t : WorldState) → LaterWorld s t → (y : Value) �
 -- A search: calls in their order until one answers true. What is left of the values from there on, and a state behind it.
 pub data SearchCalls (w : PlainSetting) (f : Value) : List Value → WorldState → List Value → WorldState → Type 0 where
   not_there : {s t : WorldState} → LaterWorld s t → SearchCalls w f [] s [] t
-  passed : {x y : Value} {xs rest : List Value} {s t u v : WorldState} → LaterWorld s t → Calls w f (x ∷ []) t y u → truth_of y ≡ false → SearchCalls w f xs u rest v → SearchCalls w f (x ∷ xs) s rest v
-  there : {x y : Value} {xs : List Value} {s t u v : WorldState} → LaterWorld s t → Calls w f (x ∷ []) t y u → truth_of y ≡ true → LaterWorld u v → SearchCalls w f (x ∷ xs) s (x ∷ xs) v
+  passed : {x y : Value} {xs rest : List Value} {s t u v : WorldState} → LaterWorld s t → Calls w f (x ∷ []) t y u → truth_of y ≡ false
+      → SearchCalls w f xs u rest v → SearchCalls w f (x ∷ xs) s rest v
+  there : {x y : Value} {xs : List Value} {s t u v : WorldState} → LaterWorld s t → Calls w f (x ∷ []) t y u → truth_of y ≡ true
+      → LaterWorld u v → SearchCalls w f (x ∷ xs) s (x ∷ xs) v
 
 -- Each call until then gives a value.
 abbrev pub SearchGives : PlainSetting → Value → List Value → WorldState → Type 0
 SearchGives w f [] s = Unit {0}
-SearchGives w f (x ∷ xs) s = (t : WorldState) → LaterWorld s t → (y : Value) × (u : WorldState) × Calls w f (x ∷ []) t y u × (truth_of y ≡ false → SearchGives w f xs u)
+SearchGives w f (x ∷ xs) s = (t : WorldState) → LaterWorld s t
+    → (y : Value) × (u : WorldState) × Calls w f (x ∷ []) t y u × (truth_of y ≡ false → SearchGives w f xs u)
 
 -- A search that a call stops: none before it answered true, and it ends at a fault.
 pub data SearchStops (w : PlainSetting) (f : Value) : List Value → WorldState → Bare → WorldState → Type 0 where
-  search_stops : {x : Value} {xs : List Value} {e : Bare} {s t u : WorldState} → LaterWorld s t → CallEnds w f (x ∷ []) t (Err e) u → SearchStops w f (x ∷ xs) s e u
-  search_goes_on : {x y : Value} {xs : List Value} {e : Bare} {s t u v : WorldState} → LaterWorld s t → Calls w f (x ∷ []) t y u → truth_of y ≡ false → SearchStops w f xs u e v → SearchStops w f (x ∷ xs) s e v
+  search_stops : {x : Value} {xs : List Value} {e : Bare} {s t u : WorldState} → LaterWorld s t → CallEnds w f (x ∷ []) t (Err e) u
+      → SearchStops w f (x ∷ xs) s e u
+  search_goes_on : {x y : Value} {xs : List Value} {e : Bare} {s t u v : WorldState} → LaterWorld s t → Calls w f (x ∷ []) t y u
+      → truth_of y ≡ false → SearchStops w f xs u e v → SearchStops w f (x ∷ xs) s e v
 
 -- where a call answered `#f`
 abbrev pub AfterFalse : End → Type 0 → Type 0
@@ -48,7 +54,8 @@ SearchEnds w f (x ∷ xs) s = (t : WorldState) → LaterWorld s t → (r : End) 
 -- A fold from the left: each call is on what the one before it gave and the next value.
 pub data FoldLeft (w : PlainSetting) (f : Value) : Value → List Value → WorldState → Value → WorldState → Type 0 where
   left_end : {z : Value} {s t : WorldState} → LaterWorld s t → FoldLeft w f z [] s z t
-  left_step : {z x y r : Value} {xs : List Value} {s t u v : WorldState} → LaterWorld s t → Calls w f (z ∷ x ∷ []) t y u → FoldLeft w f y xs u r v → FoldLeft w f z (x ∷ xs) s r v
+  left_step : {z x y r : Value} {xs : List Value} {s t u v : WorldState} → LaterWorld s t → Calls w f (z ∷ x ∷ []) t y u
+      → FoldLeft w f y xs u r v → FoldLeft w f z (x ∷ xs) s r v
 
 abbrev pub FoldLeftGives : PlainSetting → Value → Value → List Value → WorldState → Type 0
 FoldLeftGives w f z [] s = Unit {0}
@@ -57,13 +64,15 @@ FoldLeftGives w f z (x ∷ xs) s = (t : WorldState) → LaterWorld s t → (y : 
 -- A fold from the right: the call on the last value comes first.
 pub data FoldRight (w : PlainSetting) (f : Value) (z : Value) : List Value → WorldState → Value → WorldState → Type 0 where
   right_end : {s t : WorldState} → LaterWorld s t → FoldRight w f z [] s z t
-  right_step : {x y r : Value} {xs : List Value} {s t u v : WorldState} → FoldRight w f z xs s r t → LaterWorld t u → Calls w f (x ∷ r ∷ []) u y v → FoldRight w f z (x ∷ xs) s y v
+  right_step : {x y r : Value} {xs : List Value} {s t u v : WorldState} → FoldRight w f z xs s r t → LaterWorld t u
+      → Calls w f (x ∷ r ∷ []) u y v → FoldRight w f z (x ∷ xs) s y v
 
 -- A fold is possible where that of the values behind the first is, and the call on the first and what that gives gives a value.
 abbrev pub FoldRightGives : PlainSetting → Value → Value → List Value → WorldState → Type 0
 FoldRightGives w f z [] s = Unit {0}
 FoldRightGives w f z (x ∷ xs) s =
-    FoldRightGives w f z xs s × ((r : Value) (t u : WorldState) → FoldRight w f z xs s r t → LaterWorld t u → (y : Value) × (v : WorldState) × Calls w f (x ∷ r ∷ []) u y v)
+    FoldRightGives w f z xs s × ((r : Value) (t u : WorldState) → FoldRight w f z xs s r t → LaterWorld t u
+    → (y : Value) × (v : WorldState) × Calls w f (x ∷ r ∷ []) u y v)
 
 -- the values whose calls answered true, or not
 abbrev pub when_true : Bool → Value → List Value → List Value
@@ -88,25 +97,31 @@ AllGiveBy w f g (x ∷ xs) s = ((t : WorldState) → LaterWorld s t → (u : Wor
 pub data ForAll (w : PlainSetting) (f : Value) : List Value → WorldState → Value → WorldState → Type 0 where
   all_none : {s t : WorldState} → LaterWorld s t → ForAll w f [] s (truth true) t
   all_last : {x y : Value} {s t u v : WorldState} → LaterWorld s t → Calls w f (x ∷ []) t y u → LaterWorld u v → ForAll w f (x ∷ []) s y v
-  all_but : {x z y : Value} {xs : List Value} {s t u v : WorldState} → LaterWorld s t → Calls w f (x ∷ []) t y u → truth_of y ≡ false → LaterWorld u v → ForAll w f (x ∷ z ∷ xs) s (truth false) v
-  all_so_far : {x z y r : Value} {xs : List Value} {s t u v : WorldState} → LaterWorld s t → Calls w f (x ∷ []) t y u → truth_of y ≡ true → ForAll w f (z ∷ xs) u r v → ForAll w f (x ∷ z ∷ xs) s r v
+  all_but : {x z y : Value} {xs : List Value} {s t u v : WorldState} → LaterWorld s t → Calls w f (x ∷ []) t y u → truth_of y ≡ false
+      → LaterWorld u v → ForAll w f (x ∷ z ∷ xs) s (truth false) v
+  all_so_far : {x z y r : Value} {xs : List Value} {s t u v : WorldState} → LaterWorld s t → Calls w f (x ∷ []) t y u → truth_of y ≡ true
+      → ForAll w f (z ∷ xs) u r v → ForAll w f (x ∷ z ∷ xs) s r v
 
 -- Each call until then gives a value.
 abbrev pub ForAllGives : PlainSetting → Value → List Value → WorldState → Type 0
 ForAllGives w f [] s = Unit {0}
-ForAllGives w f (x ∷ xs) s = (t : WorldState) → LaterWorld s t → (y : Value) × (u : WorldState) × Calls w f (x ∷ []) t y u × (truth_of y ≡ true → ForAllGives w f xs u)
+ForAllGives w f (x ∷ xs) s = (t : WorldState) → LaterWorld s t
+    → (y : Value) × (u : WorldState) × Calls w f (x ∷ []) t y u × (truth_of y ≡ true → ForAllGives w f xs u)
 
 -- `exists`: calls in their order until one answers true. Its answer, or that of the last call, or `#f` where there is no call.
 pub data Exists (w : PlainSetting) (f : Value) : List Value → WorldState → Value → WorldState → Type 0 where
   some_none : {s t : WorldState} → LaterWorld s t → Exists w f [] s (truth false) t
   some_last : {x y : Value} {s t u v : WorldState} → LaterWorld s t → Calls w f (x ∷ []) t y u → LaterWorld u v → Exists w f (x ∷ []) s y v
-  some_here : {x z y : Value} {xs : List Value} {s t u v : WorldState} → LaterWorld s t → Calls w f (x ∷ []) t y u → truth_of y ≡ true → LaterWorld u v → Exists w f (x ∷ z ∷ xs) s y v
-  some_behind : {x z y r : Value} {xs : List Value} {s t u v : WorldState} → LaterWorld s t → Calls w f (x ∷ []) t y u → truth_of y ≡ false → Exists w f (z ∷ xs) u r v → Exists w f (x ∷ z ∷ xs) s r v
+  some_here : {x z y : Value} {xs : List Value} {s t u v : WorldState} → LaterWorld s t → Calls w f (x ∷ []) t y u → truth_of y ≡ true
+      → LaterWorld u v → Exists w f (x ∷ z ∷ xs) s y v
+  some_behind : {x z y r : Value} {xs : List Value} {s t u v : WorldState} → LaterWorld s t → Calls w f (x ∷ []) t y u → truth_of y ≡ false
+      → Exists w f (z ∷ xs) u r v → Exists w f (x ∷ z ∷ xs) s r v
 
 -- Calls in their order, of which the last ends at a fault.
 pub data Stops (w : PlainSetting) (f : Value) : List Value → WorldState → Bare → WorldState → Type 0 where
   stops_here : {x : Value} {xs : List Value} {e : Bare} {s t u : WorldState} → LaterWorld s t → CallEnds w f (x ∷ []) t (Err e) u → Stops w f (x ∷ xs) s e u
-  stops_behind : {x y : Value} {xs : List Value} {e : Bare} {s t u v : WorldState} → LaterWorld s t → Calls w f (x ∷ []) t y u → Stops w f xs u e v → Stops w f (x ∷ xs) s e v
+  stops_behind : {x y : Value} {xs : List Value} {e : Bare} {s t u v : WorldState} → LaterWorld s t → Calls w f (x ∷ []) t y u
+      → Stops w f xs u e v → Stops w f (x ∷ xs) s e v
 
 -- where a call gave a value
 abbrev pub AfterValue : End → Type 0 → Type 0

@@ -10,8 +10,10 @@ use Rattle.law_given.specs.Codes.{text_code, map_text, for_each_text, for_all_te
 -- the codes of all texts, in their order
 abbrev pub written : List PlainCode
 written =
-    text_code names.MAP map_text ∷ text_code names.FOR_EACH for_each_text ∷ text_code names.FOR_ALL for_all_text ∷ text_code names.EXISTS exists_text ∷ text_code names.FILTER filter_text ∷
-    text_code names.REMP remp_text ∷ text_code names.FIND find_text ∷ text_code names.MEMP memp_text ∷ text_code names.FOLD_LEFT fold_left_text ∷ text_code names.FOLD_RIGHT fold_right_text ∷ []
+    text_code names.MAP map_text ∷ text_code names.FOR_EACH for_each_text ∷ text_code names.FOR_ALL for_all_text
+    ∷ text_code names.EXISTS exists_text ∷ text_code names.FILTER filter_text ∷
+    text_code names.REMP remp_text ∷ text_code names.FIND find_text ∷ text_code names.MEMP memp_text
+    ∷ text_code names.FOLD_LEFT fold_left_text ∷ text_code names.FOLD_RIGHT fold_right_text ∷ []
 
 -- the table that codes make, with those inside them
 abbrev pub table_of : Codes → List PlainCode → Codes

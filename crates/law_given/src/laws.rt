@@ -18,14 +18,17 @@ ghost use Rattle.law_given.specs.Texts.{HasTexts, Includes, written_table};
 /// The procedures of the laws of this crate are those named `map`, `for-each`, `filter`, `remp`,
 /// `find`, `memp`, `for-all`, `exists`, `fold-left` and `fold-right`.
 pub fn numbers_are_by_name()
-    ensures { map op_named (codes "map" ∷ codes "for-each" ∷ codes "filter" ∷ codes "remp" ∷ codes "find" ∷ codes "memp" ∷ codes "for-all" ∷ codes "exists" ∷ codes "fold-left" ∷ codes "fold-right" ∷ []) ≡
+    ensures { map op_named (codes "map" ∷ codes "for-each" ∷ codes "filter" ∷ codes "remp" ∷ codes "find" ∷ codes "memp" ∷ codes "for-all"
+        ∷ codes "exists" ∷ codes "fold-left" ∷ codes "fold-right" ∷ []) ≡
         Some names.MAP ∷ Some names.FOR_EACH ∷ Some names.FILTER ∷ Some names.REMP ∷ Some names.FIND ∷ Some names.MEMP ∷ Some names.FOR_ALL ∷ Some names.EXISTS ∷ Some names.FOLD_LEFT ∷ Some names.FOLD_RIGHT ∷ [] }
 {}
 
 /// A call that gives a value with some fuel gives that value and that state with any more.
 pub fn some_fuel_is_enough()
-    ensures enough { (w : PlainSetting) (f : Value) (args : List Value) (s : WorldState) (n m : ℕ) (v : Value) (t : WorldState) → call_of w f args s n ≡ done v t m → Calls w f args s v t }
-    ensures one { (w : PlainSetting) (f : Value) (args : List Value) (s : WorldState) (v x : Value) (t u : WorldState) → Calls w f args s v t → Calls w f args s x u → (v ≡ x) × (t ≡ u) }
+    ensures enough { (w : PlainSetting) (f : Value) (args : List Value) (s : WorldState) (n m : ℕ) (v : Value) (t : WorldState)
+        → call_of w f args s n ≡ done v t m → Calls w f args s v t }
+    ensures one { (w : PlainSetting) (f : Value) (args : List Value) (s : WorldState) (v x : Value) (t u : WorldState)
+        → Calls w f args s v t → Calls w f args s x u → (v ≡ x) × (t ≡ u) }
 {}
 
 /// The codes of the texts in Scheme contain these texts, and codes of other numbers that come after
@@ -39,9 +42,12 @@ pub fn texts_stay()
 /// of the answers; whenever it gives a value it has done so, and where a call faults, that call is the
 /// last and its fault that of `map` (R6RS 11.9).
 pub fn map_gives_the_answers()
-    ensures answers { (w : PlainSetting) (f l : Value) (xs : List Value) (s : WorldState) → HasTexts w → IsList s.cells xs l → AllGive w f xs s → Maps w (built_in names.MAP) (f ∷ l ∷ []) f xs s }
-    ensures only { (w : PlainSetting) (f l : Value) (xs : List Value) (s t : WorldState) (v : Value) → HasTexts w → IsList s.cells xs l → Calls w (built_in names.MAP) (f ∷ l ∷ []) s v t → Mapped w f xs s v t }
-    ensures said { (w : PlainSetting) (f l : Value) (g : Value → Value) (xs : List Value) (s : WorldState) → HasTexts w → IsList s.cells xs l → AllGiveBy w f g xs s →
+    ensures answers { (w : PlainSetting) (f l : Value) (xs : List Value) (s : WorldState) → HasTexts w → IsList s.cells xs l
+        → AllGive w f xs s → Maps w (built_in names.MAP) (f ∷ l ∷ []) f xs s }
+    ensures only { (w : PlainSetting) (f l : Value) (xs : List Value) (s t : WorldState) (v : Value) → HasTexts w → IsList s.cells xs l
+        → Calls w (built_in names.MAP) (f ∷ l ∷ []) s v t → Mapped w f xs s v t }
+    ensures said { (w : PlainSetting) (f l : Value) (g : Value → Value) (xs : List Value) (s : WorldState) → HasTexts w
+        → IsList s.cells xs l → AllGiveBy w f g xs s →
         MapsBy w (built_in names.MAP) (f ∷ l ∷ []) g xs s }
     ensures faults { (w : PlainSetting) (f l : Value) (xs : List Value) (s : WorldState) → HasTexts w → IsList s.cells xs l → AllEnd w f xs s →
         Maps w (built_in names.MAP) (f ∷ l ∷ []) f xs s ⊎ Faults w (built_in names.MAP) (f ∷ l ∷ []) f xs s }
@@ -53,7 +59,8 @@ pub fn map_gives_the_answers()
 pub fn for_each_calls_in_order()
     ensures calls { (w : PlainSetting) (f l : Value) (xs : List Value) (s : WorldState) → HasTexts w → IsList s.cells xs l → AllGive w f xs s →
         Visits w (built_in names.FOR_EACH) (f ∷ l ∷ []) f xs s value.Unspecified }
-    ensures only { (w : PlainSetting) (f l : Value) (xs : List Value) (s t : WorldState) (v : Value) → HasTexts w → IsList s.cells xs l → Calls w (built_in names.FOR_EACH) (f ∷ l ∷ []) s v t → Visited w f xs s v t }
+    ensures only { (w : PlainSetting) (f l : Value) (xs : List Value) (s t : WorldState) (v : Value) → HasTexts w → IsList s.cells xs l
+        → Calls w (built_in names.FOR_EACH) (f ∷ l ∷ []) s v t → Visited w f xs s v t }
     ensures faults { (w : PlainSetting) (f l : Value) (xs : List Value) (s : WorldState) → HasTexts w → IsList s.cells xs l → AllEnd w f xs s →
         Visits w (built_in names.FOR_EACH) (f ∷ l ∷ []) f xs s value.Unspecified ⊎ Faults w (built_in names.FOR_EACH) (f ∷ l ∷ []) f xs s }
 {}
@@ -62,12 +69,16 @@ pub fn for_each_calls_in_order()
 /// in order; each is asked once, from the first on, and where a call faults, that call is the last and
 /// its fault is given (R6RS libraries 3).
 pub fn filter_keeps_and_remp_leaves_out()
-    ensures filter { (w : PlainSetting) (f l : Value) (xs : List Value) (s : WorldState) → HasTexts w → IsList s.cells xs l → AllGive w f xs s → Filters w (built_in names.FILTER) (f ∷ l ∷ []) f chosen xs s }
-    ensures filter_only { (w : PlainSetting) (f l : Value) (xs : List Value) (s t : WorldState) (v : Value) → HasTexts w → IsList s.cells xs l → Calls w (built_in names.FILTER) (f ∷ l ∷ []) s v t → Filtered w f chosen xs s v t }
+    ensures filter { (w : PlainSetting) (f l : Value) (xs : List Value) (s : WorldState) → HasTexts w → IsList s.cells xs l
+        → AllGive w f xs s → Filters w (built_in names.FILTER) (f ∷ l ∷ []) f chosen xs s }
+    ensures filter_only { (w : PlainSetting) (f l : Value) (xs : List Value) (s t : WorldState) (v : Value) → HasTexts w
+        → IsList s.cells xs l → Calls w (built_in names.FILTER) (f ∷ l ∷ []) s v t → Filtered w f chosen xs s v t }
     ensures filter_faults { (w : PlainSetting) (f l : Value) (xs : List Value) (s : WorldState) → HasTexts w → IsList s.cells xs l → AllEnd w f xs s →
         Filters w (built_in names.FILTER) (f ∷ l ∷ []) f chosen xs s ⊎ Faults w (built_in names.FILTER) (f ∷ l ∷ []) f xs s }
-    ensures remp { (w : PlainSetting) (f l : Value) (xs : List Value) (s : WorldState) → HasTexts w → IsList s.cells xs l → AllGive w f xs s → Filters w (built_in names.REMP) (f ∷ l ∷ []) f others xs s }
-    ensures remp_only { (w : PlainSetting) (f l : Value) (xs : List Value) (s t : WorldState) (v : Value) → HasTexts w → IsList s.cells xs l → Calls w (built_in names.REMP) (f ∷ l ∷ []) s v t → Filtered w f others xs s v t }
+    ensures remp { (w : PlainSetting) (f l : Value) (xs : List Value) (s : WorldState) → HasTexts w → IsList s.cells xs l
+        → AllGive w f xs s → Filters w (built_in names.REMP) (f ∷ l ∷ []) f others xs s }
+    ensures remp_only { (w : PlainSetting) (f l : Value) (xs : List Value) (s t : WorldState) (v : Value) → HasTexts w
+        → IsList s.cells xs l → Calls w (built_in names.REMP) (f ∷ l ∷ []) s v t → Filtered w f others xs s v t }
     ensures remp_faults { (w : PlainSetting) (f l : Value) (xs : List Value) (s : WorldState) → HasTexts w → IsList s.cells xs l → AllEnd w f xs s →
         Filters w (built_in names.REMP) (f ∷ l ∷ []) f others xs s ⊎ Faults w (built_in names.REMP) (f ∷ l ∷ []) f xs s }
 {}
@@ -76,10 +87,14 @@ pub fn filter_keeps_and_remp_leaves_out()
 /// there on; both give `#f` if there is none, ask no later element, and give the fault of a call that
 /// faults before (R6RS libraries 3).
 pub fn find_and_memp_stop_at_the_first()
-    ensures find { (w : PlainSetting) (f l : Value) (xs : List Value) (s : WorldState) → HasTexts w → IsList s.cells xs l → SearchGives w f xs s → Finds w (built_in names.FIND) (f ∷ l ∷ []) f xs s }
-    ensures memp { (w : PlainSetting) (f l : Value) (xs : List Value) (s : WorldState) → HasTexts w → IsList s.cells xs l → SearchGives w f xs s → FindsTail w (built_in names.MEMP) (f ∷ l ∷ []) f l xs s }
-    ensures find_only { (w : PlainSetting) (f l : Value) (xs : List Value) (s t : WorldState) (v : Value) → HasTexts w → IsList s.cells xs l → Calls w (built_in names.FIND) (f ∷ l ∷ []) s v t → FoundGiven w f xs s v t }
-    ensures memp_only { (w : PlainSetting) (f l : Value) (xs : List Value) (s t : WorldState) (v : Value) → HasTexts w → IsList s.cells xs l → Calls w (built_in names.MEMP) (f ∷ l ∷ []) s v t → TailFound w f l xs s v t }
+    ensures find { (w : PlainSetting) (f l : Value) (xs : List Value) (s : WorldState) → HasTexts w → IsList s.cells xs l
+        → SearchGives w f xs s → Finds w (built_in names.FIND) (f ∷ l ∷ []) f xs s }
+    ensures memp { (w : PlainSetting) (f l : Value) (xs : List Value) (s : WorldState) → HasTexts w → IsList s.cells xs l
+        → SearchGives w f xs s → FindsTail w (built_in names.MEMP) (f ∷ l ∷ []) f l xs s }
+    ensures find_only { (w : PlainSetting) (f l : Value) (xs : List Value) (s t : WorldState) (v : Value) → HasTexts w
+        → IsList s.cells xs l → Calls w (built_in names.FIND) (f ∷ l ∷ []) s v t → FoundGiven w f xs s v t }
+    ensures memp_only { (w : PlainSetting) (f l : Value) (xs : List Value) (s t : WorldState) (v : Value) → HasTexts w
+        → IsList s.cells xs l → Calls w (built_in names.MEMP) (f ∷ l ∷ []) s v t → TailFound w f l xs s v t }
     ensures find_faults { (w : PlainSetting) (f l : Value) (xs : List Value) (s : WorldState) → HasTexts w → IsList s.cells xs l → SearchEnds w f xs s →
         Finds w (built_in names.FIND) (f ∷ l ∷ []) f xs s ⊎ SearchFaults w (built_in names.FIND) (f ∷ l ∷ []) f xs s }
     ensures memp_faults { (w : PlainSetting) (f l : Value) (xs : List Value) (s : WorldState) → HasTexts w → IsList s.cells xs l → SearchEnds w f xs s →

@@ -23,7 +23,8 @@ pub data RowsInTurn (w : PlainSetting) (f : Value) : List (List Value) → World
 
 -- Calls on the rows, of which the last ends at a fault.
 pub data RowsStop (w : PlainSetting) (f : Value) : List (List Value) → WorldState → Bare → WorldState → Type 0 where
-  stops_here : {row : List Value} {rows : List (List Value)} {e : Bare} {s t u : WorldState} → LaterWorld s t → CallEnds w f row t (Err e) u → RowsStop w f (row ∷ rows) s e u
+  stops_here : {row : List Value} {rows : List (List Value)} {e : Bare} {s t u : WorldState} → LaterWorld s t
+      → CallEnds w f row t (Err e) u → RowsStop w f (row ∷ rows) s e u
   stops_behind : {row : List Value} {rows : List (List Value)} {y : Value} {e : Bare} {s t u v : WorldState}
       → LaterWorld s t → Calls w f row t y u → RowsStop w f rows u e v → RowsStop w f (row ∷ rows) s e v
 
@@ -52,11 +53,13 @@ pub data ForAllByRows (w : PlainSetting) (f : Value) : List (List Value) → Wor
 -- Each call until one answers `#f` ends.
 abbrev pub ForAllEnds : PlainSetting → Value → List (List Value) → WorldState → Type 0
 ForAllEnds w f [] s = Unit {0}
-ForAllEnds w f (row ∷ rows) s = (t : WorldState) → LaterWorld s t → (r : End) × (u : WorldState) × CallEnds w f row t r u × AfterValue r (λ y. truth_of y ≡ true → ForAllEnds w f rows u)
+ForAllEnds w f (row ∷ rows) s = (t : WorldState) → LaterWorld s t
+    → (r : End) × (u : WorldState) × CallEnds w f row t r u × AfterValue r (λ y. truth_of y ≡ true → ForAllEnds w f rows u)
 
 abbrev pub ForAllGives : PlainSetting → Value → List (List Value) → WorldState → Type 0
 ForAllGives w f [] s = Unit {0}
-ForAllGives w f (row ∷ rows) s = (t : WorldState) → LaterWorld s t → (y : Value) × (u : WorldState) × Calls w f row t y u × (truth_of y ≡ true → ForAllGives w f rows u)
+ForAllGives w f (row ∷ rows) s = (t : WorldState) → LaterWorld s t
+    → (y : Value) × (u : WorldState) × Calls w f row t y u × (truth_of y ≡ true → ForAllGives w f rows u)
 
 -- `exists`: calls until one answers true or faults. It ends as the last call does, or with that answer, or with `#f` where there is
 -- no row.
@@ -73,11 +76,13 @@ pub data ExistsByRows (w : PlainSetting) (f : Value) : List (List Value) → Wor
 -- Each call until one answers true ends.
 abbrev pub ExistsEnds : PlainSetting → Value → List (List Value) → WorldState → Type 0
 ExistsEnds w f [] s = Unit {0}
-ExistsEnds w f (row ∷ rows) s = (t : WorldState) → LaterWorld s t → (r : End) × (u : WorldState) × CallEnds w f row t r u × AfterValue r (λ y. truth_of y ≡ false → ExistsEnds w f rows u)
+ExistsEnds w f (row ∷ rows) s = (t : WorldState) → LaterWorld s t
+    → (r : End) × (u : WorldState) × CallEnds w f row t r u × AfterValue r (λ y. truth_of y ≡ false → ExistsEnds w f rows u)
 
 abbrev pub ExistsGives : PlainSetting → Value → List (List Value) → WorldState → Type 0
 ExistsGives w f [] s = Unit {0}
-ExistsGives w f (row ∷ rows) s = (t : WorldState) → LaterWorld s t → (y : Value) × (u : WorldState) × Calls w f row t y u × (truth_of y ≡ false → ExistsGives w f rows u)
+ExistsGives w f (row ∷ rows) s = (t : WorldState) → LaterWorld s t
+    → (y : Value) × (u : WorldState) × Calls w f row t y u × (truth_of y ≡ false → ExistsGives w f rows u)
 
 -- A fold from the left: each call is on what the one before it gave and the next row, till one faults.
 pub data FoldLeftByRows (w : PlainSetting) (f : Value) : Value → List (List Value) → WorldState → End → WorldState → Type 0 where
@@ -89,7 +94,8 @@ pub data FoldLeftByRows (w : PlainSetting) (f : Value) : Value → List (List Va
 
 abbrev pub FoldLeftEnds : PlainSetting → Value → Value → List (List Value) → WorldState → Type 0
 FoldLeftEnds w f z [] s = Unit {0}
-FoldLeftEnds w f z (row ∷ rows) s = (t : WorldState) → LaterWorld s t → (r : End) × (u : WorldState) × CallEnds w f (z ∷ row) t r u × AfterValue r (λ y. FoldLeftEnds w f y rows u)
+FoldLeftEnds w f z (row ∷ rows) s = (t : WorldState) → LaterWorld s t
+    → (r : End) × (u : WorldState) × CallEnds w f (z ∷ row) t r u × AfterValue r (λ y. FoldLeftEnds w f y rows u)
 
 abbrev pub FoldLeftGives : PlainSetting → Value → Value → List (List Value) → WorldState → Type 0
 FoldLeftGives w f z [] s = Unit {0}
@@ -100,15 +106,18 @@ pub data FoldRightByRows (w : PlainSetting) (f z : Value) : List (List Value) �
   right_end : {s t : WorldState} → LaterWorld s t → FoldRightByRows w f z [] s (Ok z) t
   right_step : {x : Value} {row : List Value} {rows : List (List Value)} {r : End} {s t u v : WorldState}
       → FoldRightByRows w f z rows s (Ok x) t → LaterWorld t u → CallEnds w f (row ++ x ∷ []) u r v → FoldRightByRows w f z (row ∷ rows) s r v
-  right_stops : {row : List Value} {rows : List (List Value)} {e : Bare} {s t : WorldState} → FoldRightByRows w f z rows s (Err e) t → FoldRightByRows w f z (row ∷ rows) s (Err e) t
+  right_stops : {row : List Value} {rows : List (List Value)} {e : Bare} {s t : WorldState} → FoldRightByRows w f z rows s (Err e) t
+      → FoldRightByRows w f z (row ∷ rows) s (Err e) t
 
 -- That of the rows behind the first ends, and where it gives a value the call on the first row and that ends.
 abbrev pub FoldRightEnds : PlainSetting → Value → Value → List (List Value) → WorldState → Type 0
 FoldRightEnds w f z [] s = Unit {0}
 FoldRightEnds w f z (row ∷ rows) s =
-    FoldRightEnds w f z rows s × ((x : Value) (t u : WorldState) → FoldRightByRows w f z rows s (Ok x) t → LaterWorld t u → (r : End) × (v : WorldState) × CallEnds w f (row ++ x ∷ []) u r v)
+    FoldRightEnds w f z rows s × ((x : Value) (t u : WorldState) → FoldRightByRows w f z rows s (Ok x) t → LaterWorld t u
+    → (r : End) × (v : WorldState) × CallEnds w f (row ++ x ∷ []) u r v)
 
 abbrev pub FoldRightGives : PlainSetting → Value → Value → List (List Value) → WorldState → Type 0
 FoldRightGives w f z [] s = Unit {0}
 FoldRightGives w f z (row ∷ rows) s =
-    FoldRightGives w f z rows s × ((x : Value) (t u : WorldState) → FoldRightByRows w f z rows s (Ok x) t → LaterWorld t u → (y : Value) × (v : WorldState) × Calls w f (row ++ x ∷ []) u y v)
+    FoldRightGives w f z rows s × ((x : Value) (t u : WorldState) → FoldRightByRows w f z rows s (Ok x) t → LaterWorld t u
+    → (y : Value) × (v : WorldState) × Calls w f (row ++ x ∷ []) u y v)

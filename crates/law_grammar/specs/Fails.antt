@@ -27,7 +27,8 @@ pub data Fails (file bytes : List ℕ) (nesting : ℕ) : Fault → Type 0 where
   -- bytes of what is skipped at the start are no characters
   at_start : (f : Fault) → BadStart file bytes f → Fails file bytes nesting f
   -- behind tokens with which data can begin come bytes that go on neither with a token nor to the end
-  at_bytes : {ls : List Lexeme} (f : Fault) (start at : ℕ) → Start bytes start → Lead bytes start ls at → CanGoOn file nesting ls → GoesWrong file bytes at f → Fails file bytes nesting f
+  at_bytes : {ls : List Lexeme} (f : Fault) (start at : ℕ) → Start bytes start → Lead bytes start ls at → CanGoOn file nesting ls
+      → GoesWrong file bytes at f → Fails file bytes nesting f
   -- behind such tokens stands one where none such can
   at_token : {f : Fault} (ls : List Lexeme) (k : Token) (y : Extent) (start at : ℕ) → Start bytes start → Lead bytes start (ls ++ lexeme k y ∷ []) at
       → CanGoOn file nesting ls → (CanGoOn file nesting (ls ++ lexeme k y ∷ []) → ⊥) → IsFaultAt file nesting ls k y f → Fails file bytes nesting f

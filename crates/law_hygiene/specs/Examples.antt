@@ -44,7 +44,8 @@ abbrev out : Tree → Tree
 out t = stamp (frame 2) (leave use_mark None t)
 
 abbrev scope : Scope
-scope = with_row (with_row (with_row [] (frame 0) (row_for (named if_name) (label 0))) (frame 1) (row_for (named t_name) (label 1))) (frame 2) (row_for (leave use_mark None template_t) (label 2))
+scope = with_row (with_row (with_row [] (frame 0) (row_for (named if_name) (label 0))) (frame 1) (row_for (named t_name) (label 1)))
+    (frame 2) (row_for (leave use_mark None template_t) (label 2))
 
 pub record MyOr : Type 0 where
   -- the `t` of the `lambda` goes in and comes out as that of the `lambda`

@@ -47,4 +47,5 @@ IsStart early es = (late : List Event) × (es ≡ early ++ late)
 -- the same use introduced, or by what captures it without the use.
 abbrev pub BySameUses : Type 0
 BySameUses = (fs : Scope) (es bs : List Event) (ms ns : List Mark) (s r : Option Span) (x y : List ℕ) (l : Label) → IsOnce es ms → IsOnce bs ns →
-    Captures fs (row_for (leaf r y (after bs ns)) l) (leaf s x (after es ms)) → (y ≡ x) × ((early : List Event) × IsStart early es × (uses early ms ≡ uses bs ns))
+    Captures fs (row_for (leaf r y (after bs ns)) l) (leaf s x (after es ms))
+    → (y ≡ x) × ((early : List Event) × IsStart early es × (uses early ms ≡ uses bs ns))

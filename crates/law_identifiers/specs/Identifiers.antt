@@ -18,13 +18,16 @@ use Rattle.law_fresh_expansion.specs.States.{FreshStateHolds}
 -- In a state with known marks and frames, as each is that an expansion comes to, what an identifier with such stands for stays as it is while a
 -- form is expanded.
 abbrev pub IdentifiersStay : Type 0
-IdentifiersStay = (libs : List LibName) (own : LibName) (records : List CompiledLibrary) (room : ℕ) (place : Span) (level depth : ℕ) (t : Tree) (s u : State) (c : PlainCore) → IsNewAmong libs own
+IdentifiersStay = (libs : List LibName) (own : LibName) (records : List CompiledLibrary) (room : ℕ) (place : Span) (level depth : ℕ)
+    (t : Tree) (s u : State) (c : PlainCore) → IsNewAmong libs own
     → FreshStateHolds own (IsKnown libs own) (HasKnown libs own) s.names.number s → (inside records room).form place level depth t s ≡ Ok (c, u)
     → (id : Tree) → TreeHolds (HasKnown libs own s.names.number) id → stands u.frames id ≡ stands s.frames id
 
 -- So where it is expanded after that form, and no use of a keyword, it becomes a reference to what it stood for before that form.
 abbrev pub ReferencesStay : Type 0
-ReferencesStay = (libs : List LibName) (own : LibName) (records : List CompiledLibrary) (room : ℕ) (place : Span) (level depth : ℕ) (t : Tree) (s u : State) (c : PlainCore) → IsNewAmong libs own
+ReferencesStay = (libs : List LibName) (own : LibName) (records : List CompiledLibrary) (room : ℕ) (place : Span) (level depth : ℕ)
+    (t : Tree) (s u : State) (c : PlainCore) → IsNewAmong libs own
     → FreshStateHolds own (IsKnown libs own) (HasKnown libs own) s.names.number s → (inside records room).form place level depth t s ≡ Ok (c, u)
     → (id : Tree) → TreeHolds (HasKnown libs own s.names.number) id → is_leaf id ≡ true
-    → (more : ℕ) (spot : Span) (high deep : ℕ) (v : State) (d : PlainCore) → (inside records more).form spot high deep id u ≡ Ok (d, v) → (RefersTo u (stands s.frames id) d × (v ≡ linked_code id d u)) ⊎ IsUse u id
+    → (more : ℕ) (spot : Span) (high deep : ℕ) (v : State) (d : PlainCore) → (inside records more).form spot high deep id u ≡ Ok (d, v)
+    → (RefersTo u (stands s.frames id) d × (v ≡ linked_code id d u)) ⊎ IsUse u id

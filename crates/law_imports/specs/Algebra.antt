@@ -22,4 +22,5 @@ Has names (e ∷ es) = (value_of e.0 names ≡ Some e.1) × Has names es
 
 -- an entry among some more, whose name stood before for another label
 abbrev pub Conflicts : Span → Labelled → Labelled → Fault → Type 0
-Conflicts span all more fault = (before after : Labelled) × (e : List ℕ × Label) × (l : Label) × (more ≡ before ++ e ∷ after) × (value_of e.0 (all ++ before) ≡ Some l) × (l ≡ e.1 → ⊥) × (fault ≡ conflict span e.0)
+Conflicts span all more fault = (before after : Labelled) × (e : List ℕ × Label) × (l : Label) × (more ≡ before ++ e ∷ after)
+    × (value_of e.0 (all ++ before) ≡ Some l) × (l ≡ e.1 → ⊥) × (fault ≡ conflict span e.0)

@@ -16,7 +16,8 @@ PrefixMovesEachInPlace = (p : List ℕ) (names : Labelled) (i : ℕ) → slice_g
 
 -- What stands for a label is the prefix with a name that stood for it.
 abbrev pub PrefixLeavesNoneWithout : Type 0
-PrefixLeavesNoneWithout = (p : List ℕ) (names : Labelled) (m : List ℕ) (l : Label) → value_of m (prefixed p names) ≡ Some l → (n : List ℕ) × (p ++ n ≡ m) × (value_of n names ≡ Some l)
+PrefixLeavesNoneWithout = (p : List ℕ) (names : Labelled) (m : List ℕ) (l : Label) → value_of m (prefixed p names) ≡ Some l
+    → (n : List ℕ) × (p ++ n ≡ m) × (value_of n names ≡ Some l)
 
 abbrev pub PrefixKeepsNamesOnce : Type 0
 PrefixKeepsNamesOnce = (p : List ℕ) (names : Labelled) → IsOnce names → IsOnce (prefixed p names)

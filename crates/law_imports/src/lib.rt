@@ -35,7 +35,8 @@ pub fn words_select_and_move()
 /// Joined names are the union of two sets, in which no name comes twice and none is lost; joining is
 /// refused exactly if a name has another label in each.
 pub fn joined_names_are_a_union()
-    ensures union { (span : Span) (all more r : Labelled) → joined span all more ≡ Ok r → (n : List ℕ) → value_of n r ≡ or_else (value_of n all) (value_of n more) }
+    ensures union { (span : Span) (all more r : Labelled) → joined span all more ≡ Ok r → (n : List ℕ)
+        → value_of n r ≡ or_else (value_of n all) (value_of n more) }
     ensures has { (span : Span) (all more r : Labelled) → joined span all more ≡ Ok r → Has r more }
     ensures once { (span : Span) (all more r : Labelled) → IsOnce all → joined span all more ≡ Ok r → IsOnce r }
     ensures conflict { (span : Span) (all more : Labelled) (f : Fault) → joined span all more ≡ Err f → Conflicts span all more f }

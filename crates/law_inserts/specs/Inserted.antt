@@ -44,19 +44,23 @@ mutual
     a_datum : {n : ℕ} {is : List Insert} {span : Option Span} {a : Atom} → IsInserted w n is (atom span a) (atom None a) is
     an_identifier : {n : ℕ} {is : List Insert} {span : Option Span} {x : List ℕ} {c : LeafContext} → IsInserted w n is (leaf span x c) (leaf None x c) is
     -- `(unsyntax e)`
-    an_insert : {is : List Insert} {h e t : Tree} → w.words h ≡ word.Lower → IsList (h ∷ e ∷ []) t → IsInserted w 0 is t (insert_leaf (length is)) (one_insert 0 e is)
+    an_insert : {is : List Insert} {h e t : Tree} → w.words h ≡ word.Lower → IsList (h ∷ e ∷ []) t
+        → IsInserted w 0 is t (insert_leaf (length is)) (one_insert 0 e is)
     -- `(... template)` stays as it is
     an_escape : {n : ℕ} {is : List Insert} {h u t : Tree} → w.words h ≡ word.Escape → IsList (h ∷ u ∷ []) t → IsInserted w n is t (unspanned t) is
     a_list : {n : ℕ} {is js ks : List Insert} {span : Option Span} {a d u : Tree} {us : List Tree}
         → IsPlainHead n (w.words a) → ((e : Tree) → w.words a ≡ word.Escape → IsList (e ∷ []) d → ⊥)
-        → IsElement w (level_behind (w.words a) n) is a us js → IsRest w n (level_behind (w.words a) n) js d u ks → IsInserted w n is (pair span a d) (chain us u) ks
-    a_vector : {n : ℕ} {is js : List Insert} {span : Option Span} {d u : Tree} → AreVectorElements w n is d u js → IsInserted w n is (vector span d) (vector None u) js
+        → IsElement w (level_behind (w.words a) n) is a us js → IsRest w n (level_behind (w.words a) n) js d u ks
+        → IsInserted w n is (pair span a d) (chain us u) ks
+    a_vector : {n : ℕ} {is js : List Insert} {span : Option Span} {d u : Tree} → AreVectorElements w n is d u js
+        → IsInserted w n is (vector span d) (vector None u) js
 
   -- the rest of a list at the first of these levels, whose elements are at the second
   pub data IsRest (w : Looked) : ℕ → ℕ → List Insert → Tree → Tree → List Insert → Type 0 where
     an_end : {n m : ℕ} {is js : List Insert} {d u : Tree} → is_pair d ≡ false → IsInserted w n is d u js → IsRest w n m is d u js
     -- `(1 . (unsyntax x))` is read as `(1 unsyntax x)`
-    a_tail : {n m : ℕ} {is js : List Insert} {span : Option Span} {a d u : Tree} → is_tail w.words a d ≡ true → IsInserted w n is (pair span a d) u js → IsRest w n m is (pair span a d) u js
+    a_tail : {n m : ℕ} {is js : List Insert} {span : Option Span} {a d u : Tree} → is_tail w.words a d ≡ true
+        → IsInserted w n is (pair span a d) u js → IsRest w n m is (pair span a d) u js
     another : {n m : ℕ} {is js ks : List Insert} {span : Option Span} {a d u : Tree} {us : List Tree}
         → is_tail w.words a d ≡ false → IsElement w m is a us js → IsRest w n m js d u ks → IsRest w n m is (pair span a d) (chain us u) ks
 
@@ -68,8 +72,10 @@ mutual
 
   -- an element of a list or vector, and the trees in its place
   pub data IsElement (w : Looked) : ℕ → List Insert → Tree → List Tree → List Insert → Type 0 where
-    each : {is : List Insert} {h t : Tree} {es : List Tree} → w.words h ≡ word.Lower → IsList (h ∷ es) t → IsElement w 0 is t (leaves_of es is) (all_inserts 0 es is)
-    spliced : {is : List Insert} {h t : Tree} {es : List Tree} → w.words h ≡ word.Splice → IsList (h ∷ es) t → IsElement w 0 is t (splices_of (unspanned w.dots) es is) (all_inserts 1 es is)
+    each : {is : List Insert} {h t : Tree} {es : List Tree} → w.words h ≡ word.Lower → IsList (h ∷ es) t
+        → IsElement w 0 is t (leaves_of es is) (all_inserts 0 es is)
+    spliced : {is : List Insert} {h t : Tree} {es : List Tree} → w.words h ≡ word.Splice → IsList (h ∷ es) t
+        → IsElement w 0 is t (splices_of (unspanned w.dots) es is) (all_inserts 1 es is)
     itself : {n : ℕ} {is js : List Insert} {t u : Tree} → IsKeptElement w n t → IsInserted w n is t u js → IsElement w n is t (u ∷ []) js
 
   -- no list behind `unsyntax` or `unsyntax-splicing`, where these are reached
@@ -86,4 +92,5 @@ HoldsLists (vector s d) = IsList (elements d) d × HoldsLists d
 
 -- what a form comes to is what its cases say
 abbrev pub InsertsAreTold : Type 0
-InsertsAreTold = (w : Looked) (t form : Tree) (place : Span) (q : QuasiSyntax) → HoldsLists t → quasi_syntax w t form place ≡ Ok q → IsInserted w 0 [] t (unspanned q.template) q.inserts
+InsertsAreTold = (w : Looked) (t form : Tree) (place : Span) (q : QuasiSyntax) → HoldsLists t → quasi_syntax w t form place ≡ Ok q
+    → IsInserted w 0 [] t (unspanned q.template) q.inserts

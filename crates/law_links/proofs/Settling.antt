@@ -1,4 +1,4 @@
--- What settles a form adds the link of the form that is no use.
+-- Expanding the uses in a form adds the link of the form that is no use.
 use Rattle.std.proofs.Common.{◌≡◌, ℕ, zero, suc, Bool, true, false, List, [], ◌∷◌, ◌++◌, Option, None, Some, Result, Ok, Err, refl, sym, ap, subst, ◌∙◌, inl, inr}
 use Rattle.base_data.specs.Act.{after}
 use Rattle.base_data.specs.declared.fault.Fault.{Fault}
@@ -117,7 +117,7 @@ module _ (rs : List CompiledLibrary) where
       let u : State = record s { uses_left = left } in
       grew-from s u (used_form rs (place_of t place) t k f u) (grows-same s u refl) (used-form-grew (place_of t place) t k f u)
 
-  -- PlannedForm: behind what uses added, the link of the form that is no use.
+  -- A planned form: behind what uses added, the link of the form that is no use.
 
   pub record Settles (s : State) (d : PlannedForm) (v : State) : Type 0 where
     pub last : State
@@ -177,7 +177,7 @@ module _ (rs : List CompiledLibrary) where
       by (steps.Plan p) u h again = record { last = u; grows = h.0; is = refl; quiet = h.1 }
       by (steps.Use k) u h again = onward u h again (next_form rs left place t k None u) (next-form-grew left place t k None u)
 
-  -- what settling leaves
+  -- what expanding uses leaves
   pub record SettledSo (s : State) (d : PlannedForm) (v : State) : Type 0 where
     pub grows : Grows s v
     pub link : PlanLinked d.form d.plan v

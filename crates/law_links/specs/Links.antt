@@ -32,9 +32,11 @@ primitive_label o = record { 0 = record { library = library.Core; number = o.0 }
 -- frame.
 pub data IsLink : Link → Type 0 where
   refers : (t : Tree) (s : State) {p : Span} {l : Label} → is_leaf t ≡ true → span_of t ≡ Some p → stands s.frames t ≡ Some l → IsLink (link_to p l kinds.Refer)
-  is_primitive : (t : Tree) (s : State) (l : Label) {p : Span} {o : Op} → is_leaf t ≡ true → span_of t ≡ Some p → stands s.frames t ≡ Some l → label_standing s l ≡ standing.Primitive o
+  is_primitive : (t : Tree) (s : State) (l : Label) {p : Span} {o : Op} → is_leaf t ≡ true → span_of t ≡ Some p
+      → stands s.frames t ≡ Some l → label_standing s l ≡ standing.Primitive o
       → IsLink (link_to p (primitive_label o) (kinds.Prim o))
-  binds : (t : Tree) (s u : State) (place : Span) (f : FrameNo) {p : Span} {l : Label} → is_leaf t ≡ true → span_of t ≡ Some p → put_row t place f l s ≡ Ok (tt, u) → IsLink (link_to p l kinds.Bind)
+  binds : (t : Tree) (s u : State) (place : Span) (f : FrameNo) {p : Span} {l : Label} → is_leaf t ≡ true → span_of t ≡ Some p
+      → put_row t place f l s ≡ Ok (tt, u) → IsLink (link_to p l kinds.Bind)
 
 -- the link of a reference with this code; pattern variables of templates have none
 abbrev pub CodeLinked : List Link → Span → PlainCore → Type 0

@@ -34,7 +34,8 @@ BindersAreLinked = (f : FrameNo) (place : Span) (level : ℕ) (top : Bool) (id :
 
 -- The links of a library are those of identifiers, and those of the references in its lines and in the expressions of its keywords are among them. The lines
 -- are those of the record.
-pub record RunIsLinked (records : List CompiledLibrary) (start : State) (at : TopAt) (exports : List (List ℕ × Tree)) (forms : List Tree) (l : Linked) : Type 0 where
+pub record RunIsLinked (records : List CompiledLibrary) (start : State) (at : TopAt) (exports : List (List ℕ × Tree)) (forms : List Tree)
+    (l : Linked) : Type 0 where
   pub taken : Taken
   pub first : State
   pub bound : List KeywordExpression
@@ -52,7 +53,9 @@ pub record RunIsLinked (records : List CompiledLibrary) (start : State) (at : To
 
 -- So it is of each library with a new name, behind records and codes of texts whose leaves have histories.
 abbrev pub LinksAreOfIdentifiers : Type 0
-LinksAreOfIdentifiers = (own : LibName) (path : List ℕ) (records : List CompiledLibrary) (imports : List (List ℕ × Label)) (version : List ℕ) (place : Span) (exports : List (List ℕ × Tree)) (forms : List Tree) (codes : Codes) (l : Linked)
-    → IsNewAmong (libraries_of records) own → Each (RecordHasOnly HasEvents (libraries_of records)) records → CodesHold (HasOnly HasEvents (libraries_of records)) codes → Each WasRead forms → Each (λ (e : List ℕ × Tree). WasRead e.1) exports
+LinksAreOfIdentifiers = (own : LibName) (path : List ℕ) (records : List CompiledLibrary) (imports : List (List ℕ × Label))
+    (version : List ℕ) (place : Span) (exports : List (List ℕ × Tree)) (forms : List Tree) (codes : Codes) (l : Linked)
+    → IsNewAmong (libraries_of records) own → Each (RecordHasOnly HasEvents (libraries_of records)) records
+    → CodesHold (HasOnly HasEvents (libraries_of records)) codes → Each WasRead forms → Each (λ (e : List ℕ × Tree). WasRead e.1) exports
     → library_linked (ready own path records imports codes) records version place exports forms ≡ Ok l
     → RunIsLinked records (started own records imports codes) (body_of (ready own path records imports codes) version place) exports forms l

@@ -20,10 +20,13 @@ mutual
     of_atom : {s : Option Span} {b : Atom} → is_text b ≡ false → IsDatumValue cells (datum.atom s b) (value.Atom b)
     of_string : {s : Option Span} {text : List ℕ} {p : Place} → string_at cells p.0 ≡ Some text → IsDatumValue cells (datum.atom s (a.Str text)) (value.Str p)
     of_symbol : {s : Option Span} {name : List ℕ} → IsDatumValue cells (datum.symbol s name) (value.Symbol name)
-    of_pair : {s : Option Span} {d e : PlainDatum} {p : Place} {x y : Value} → pair_at cells p.0 ≡ Some (x, y) → IsDatumValue cells d x → IsDatumValue cells e y → IsDatumValue cells (datum.pair s d e) (value.Pair p)
-    of_vector : {s : Option Span} {e : PlainDatum} {p : Place} {xs : List Value} → vector_at cells p.0 ≡ Some xs → AreData cells e xs → IsDatumValue cells (datum.vector s e) (value.Vector p)
+    of_pair : {s : Option Span} {d e : PlainDatum} {p : Place} {x y : Value} → pair_at cells p.0 ≡ Some (x, y) → IsDatumValue cells d x
+        → IsDatumValue cells e y → IsDatumValue cells (datum.pair s d e) (value.Pair p)
+    of_vector : {s : Option Span} {e : PlainDatum} {p : Place} {xs : List Value} → vector_at cells p.0 ≡ Some xs → AreData cells e xs
+        → IsDatumValue cells (datum.vector s e) (value.Vector p)
 
   -- values that stand for the elements of a list
   pub data AreData (cells : List Cell) : PlainDatum → List Value → Type 0 where
     no_data : {s : Option Span} → AreData cells (datum.atom s a.Nil) []
-    one_datum : {s : Option Span} {d e : PlainDatum} {x : Value} {xs : List Value} → IsDatumValue cells d x → AreData cells e xs → AreData cells (datum.pair s d e) (x ∷ xs)
+    one_datum : {s : Option Span} {d e : PlainDatum} {x : Value} {xs : List Value} → IsDatumValue cells d x → AreData cells e xs
+        → AreData cells (datum.pair s d e) (x ∷ xs)

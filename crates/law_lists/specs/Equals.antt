@@ -16,10 +16,13 @@ have_parts (value.Str p) (value.Str q) = true
 have_parts _ _ = false
 
 pub record IsEquality (cells : List Cell) (equal : Value → Value → Bool) : Type 0 where
-  pub pairs : (p q : Place) (a d b e : Value) → pair_at cells p.0 ≡ Some (a, d) → pair_at cells q.0 ≡ Some (b, e) → equal (value.Pair p) (value.Pair q) ≡ (equal a b && equal d e)
+  pub pairs : (p q : Place) (a d b e : Value) → pair_at cells p.0 ≡ Some (a, d) → pair_at cells q.0 ≡ Some (b, e)
+      → equal (value.Pair p) (value.Pair q) ≡ (equal a b && equal d e)
   -- as many elements, each equal to its like
-  pub vectors : (p q : Place) (xs ys : List Value) → vector_at cells p.0 ≡ Some xs → vector_at cells q.0 ≡ Some ys → equal (value.Vector p) (value.Vector q) ≡ pointwise equal xs ys
-  pub strings : (p q : Place) (s t : List ℕ) → string_at cells p.0 ≡ Some s → string_at cells q.0 ≡ Some t → equal (value.Str p) (value.Str q) ≡ pointwise nat_eq s t
+  pub vectors : (p q : Place) (xs ys : List Value) → vector_at cells p.0 ≡ Some xs → vector_at cells q.0 ≡ Some ys
+      → equal (value.Vector p) (value.Vector q) ≡ pointwise equal xs ys
+  pub strings : (p q : Place) (s t : List ℕ) → string_at cells p.0 ≡ Some s → string_at cells q.0 ≡ Some t
+      → equal (value.Str p) (value.Str q) ≡ pointwise nat_eq s t
   pub others : (x y : Value) → have_parts x y ≡ false → equal x y ≡ same x y
 
 abbrev pub is_syntax_object : Value → Bool

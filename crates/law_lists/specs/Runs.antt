@@ -18,7 +18,8 @@ IsList cells xs x = Runs cells xs (value.Atom a.Nil) x
 -- each of some values is the list of its elements
 pub data AreLists (cells : List Cell) : List (List Value) → List Value → Type 0 where
   no_lists : AreLists cells [] []
-  one_list : {xs : List Value} {xss : List (List Value)} {x : Value} {rest : List Value} → IsList cells xs x → AreLists cells xss rest → AreLists cells (xs ∷ xss) (x ∷ rest)
+  one_list : {xs : List Value} {xss : List (List Value)} {x : Value} {rest : List Value} → IsList cells xs x → AreLists cells xss rest
+      → AreLists cells (xs ∷ xss) (x ∷ rest)
 
 -- all elements, those of the first list first
 abbrev pub joined : List (List Value) → List Value

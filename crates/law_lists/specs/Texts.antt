@@ -14,7 +14,8 @@ pub data IsString (cells : List Cell) : List ℕ → Value → Type 0 where
 -- each of some values is the string of its characters
 pub data AreStrings (cells : List Cell) : List (List ℕ) → List Value → Type 0 where
   no_strings : AreStrings cells [] []
-  one_string : {cs : List ℕ} {css : List (List ℕ)} {x : Value} {rest : List Value} → IsString cells cs x → AreStrings cells css rest → AreStrings cells (cs ∷ css) (x ∷ rest)
+  one_string : {cs : List ℕ} {css : List (List ℕ)} {x : Value} {rest : List Value} → IsString cells cs x → AreStrings cells css rest
+      → AreStrings cells (cs ∷ css) (x ∷ rest)
 
 -- all characters, those of the first string first
 abbrev pub all_chars : List (List ℕ) → List ℕ

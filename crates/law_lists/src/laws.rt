@@ -35,7 +35,8 @@ ghost use Rattle.law_lists.specs.Texts.{IsString, AreStrings, all_chars};
 /// The primitives of the laws of this crate are those named `list?`, `length`, `reverse`, `list-tail`,
 /// `list-ref`, `string-length`, `string-ref`, `string-append`, `substring` and `string->list`.
 pub fn numbers_are_by_name()
-    ensures lists { map op_named (codes "list?" ∷ codes "length" ∷ codes "reverse" ∷ codes "list-tail" ∷ codes "list-ref" ∷ []) ≡ Some names.IS_LIST ∷ Some names.LENGTH ∷ Some names.REVERSE ∷ Some names.LIST_TAIL ∷ Some names.LIST_REF ∷ [] }
+    ensures lists { map op_named (codes "list?" ∷ codes "length" ∷ codes "reverse" ∷ codes "list-tail" ∷ codes "list-ref" ∷ [])
+        ≡ Some names.IS_LIST ∷ Some names.LENGTH ∷ Some names.REVERSE ∷ Some names.LIST_TAIL ∷ Some names.LIST_REF ∷ [] }
     ensures strings { map op_named (codes "string-length" ∷ codes "string-ref" ∷ codes "string-append" ∷ codes "substring" ∷ codes "string->list" ∷ []) ≡
         Some names.STRING_LENGTH ∷ Some names.STRING_REF ∷ Some names.STRING_APPEND ∷ Some names.SUBSTRING ∷ Some names.STRING_TO_LIST ∷ [] }
 {}
@@ -45,7 +46,8 @@ pub fn numbers_are_by_name()
 /// does. And it is the only one: whatever does so says the same of all values.
 pub fn equal_looks_into_parts()
     ensures is { (cells : List Cell) → WholeCells cells → IsEquality cells (equal cells) }
-    ensures only { (cells : List Cell) (other : Value → Value → Bool) (x y : Value) → WholeCells cells → IsEquality cells other → FitsIn cells x → FitsIn cells y →
+    ensures only { (cells : List Cell) (other : Value → Value → Bool) (x y : Value) → WholeCells cells → IsEquality cells other
+        → FitsIn cells x → FitsIn cells y →
         other x y ≡ equal cells x y }
 {}
 
@@ -62,17 +64,22 @@ pub fn eqv_tells_values_apart()
 pub fn lists_are_by_their_elements()
     ensures elements { (cells : List Cell) (xs : List Value) (x : Value) → WholeCells cells → IsList cells xs x → list_elements cells x ≡ Some xs }
     ensures only { (cells : List Cell) (xs : List Value) (x : Value) → list_elements cells x ≡ Some xs → IsList cells xs x }
-    ensures is_list { (cells : List Cell) (xs : List Value) (x : Value) → WholeCells cells → IsList cells xs x → list_made names.IS_LIST (x ∷ []) cells ≡ said true }
+    ensures is_list { (cells : List Cell) (xs : List Value) (x : Value) → WholeCells cells → IsList cells xs x
+        → list_made names.IS_LIST (x ∷ []) cells ≡ said true }
     ensures no_other { (cells : List Cell) (x : Value) → list_made names.IS_LIST (x ∷ []) cells ≡ said true → (xs : List Value) × IsList cells xs x }
-    ensures length { (cells : List Cell) (xs : List Value) (x : Value) → WholeCells cells → IsList cells xs x → list_made names.LENGTH (x ∷ []) cells ≡ natural (length xs) }
-    ensures reverse { (cells : List Cell) (xs : List Value) (x : Value) → WholeCells cells → IsList cells xs x → list_made names.REVERSE (x ∷ []) cells ≡ Some (made.List (reverse xs) nil) }
+    ensures length { (cells : List Cell) (xs : List Value) (x : Value) → WholeCells cells → IsList cells xs x
+        → list_made names.LENGTH (x ∷ []) cells ≡ natural (length xs) }
+    ensures reverse { (cells : List Cell) (xs : List Value) (x : Value) → WholeCells cells → IsList cells xs x
+        → list_made names.REVERSE (x ∷ []) cells ≡ Some (made.List (reverse xs) nil) }
 {}
 
 /// To make a list of elements before a rest makes new pairs with these cars, one behind another, and then this
 /// rest; what was a list before is one still.
 pub fn what_is_made_is_a_list()
-    ensures runs { (xs : List Value) (rest : Value) (name : Named) (cells : List Cell) → Runs (performed (made.List xs rest) name cells).1 xs rest (performed (made.List xs rest) name cells).0 }
-    ensures still { (xs ys : List Value) (rest end y : Value) (name : Named) (cells : List Cell) → Runs cells ys end y → Runs (performed (made.List xs rest) name cells).1 ys end y }
+    ensures runs { (xs : List Value) (rest : Value) (name : Named) (cells : List Cell)
+        → Runs (performed (made.List xs rest) name cells).1 xs rest (performed (made.List xs rest) name cells).0 }
+    ensures still { (xs ys : List Value) (rest end y : Value) (name : Named) (cells : List Cell) → Runs cells ys end y
+        → Runs (performed (made.List xs rest) name cells).1 ys end y }
 {}
 
 /// `append` makes new pairs of the elements of all its arguments but the last, one list after another, and the
@@ -102,7 +109,8 @@ pub fn strings_are_by_their_characters()
         string_made names.STRING_APPEND args cells ≡ Some (made.Text (encode_utf8_all (all_chars css))) }
     ensures substring { (cells : List Cell) (cs : List ℕ) (x : Value) (start end : ℕ) → IsString cells cs x → start ≤ end → end ≤ length cs →
         string_made names.SUBSTRING (x ∷ value.Atom (a.Int (pos start)) ∷ value.Atom (a.Int (pos end)) ∷ []) cells ≡ Some (made.Text (encode_utf8_all (take (end - start) (drop start cs)))) }
-    ensures listed { (cells : List Cell) (cs : List ℕ) (x : Value) → IsString cells cs x → unpacked_made names.STRING_TO_LIST (x ∷ []) cells ≡ Some (made.List (map char_value cs) nil) }
+    ensures listed { (cells : List Cell) (cs : List ℕ) (x : Value) → IsString cells cs x
+        → unpacked_made names.STRING_TO_LIST (x ∷ []) cells ≡ Some (made.List (map char_value cs) nil) }
     ensures stored { (cells : List Cell) (cs : List ℕ) (name : Named) → all_scalars cs ≡ true →
         IsString (performed (made.Text (encode_utf8_all cs)) name cells).1 cs (performed (made.Text (encode_utf8_all cs)) name cells).0 }
 {}
@@ -111,13 +119,18 @@ pub fn strings_are_by_their_characters()
 /// syntax object that is one. No two have one binder, nor has one the binder of an older leaf: a leaf whose
 /// marks were all taken before. Each is older than those that are made later (R6RS libraries 12.7).
 pub fn temporaries_are_new()
-    ensures list { (cells : List Cell) (xs : List Value) (x : Value) → WholeCells cells → IsList cells xs x → temporaries_made (x ∷ []) cells ≡ Some (made.Temporaries (length xs)) }
-    ensures syntax { (cells : List Cell) (s : Option Span) (ts : List Tree) → temporaries_made (value.Syn (spanned s (tree.chain ts tree.nil)) ∷ []) cells ≡ Some (made.Temporaries (length ts)) }
-    ensures made { (n : ℕ) (name : Named) (cells : List Cell) → IsList (performed (made.Temporaries n) name cells).1 (temporaries n name) (performed (made.Temporaries n) name cells).0 }
+    ensures list { (cells : List Cell) (xs : List Value) (x : Value) → WholeCells cells → IsList cells xs x
+        → temporaries_made (x ∷ []) cells ≡ Some (made.Temporaries (length xs)) }
+    ensures syntax { (cells : List Cell) (s : Option Span) (ts : List Tree)
+        → temporaries_made (value.Syn (spanned s (tree.chain ts tree.nil)) ∷ []) cells ≡ Some (made.Temporaries (length ts)) }
+    ensures made { (n : ℕ) (name : Named) (cells : List Cell)
+        → IsList (performed (made.Temporaries n) name cells).1 (temporaries n name) (performed (made.Temporaries n) name cells).0 }
     ensures count { (n : ℕ) (name : Named) → length (temporaries n name) ≡ n }
-    ensures apart { (n : ℕ) (name : Named) (i j : ℕ) (t u : Tree) → slice_get (temporaries n name) i ≡ Some (value.Syn t) → slice_get (temporaries n name) j ≡ Some (value.Syn u) →
+    ensures apart { (n : ℕ) (name : Named) (i j : ℕ) (t u : Tree) → slice_get (temporaries n name) i ≡ Some (value.Syn t)
+        → slice_get (temporaries n name) j ≡ Some (value.Syn u) →
         i ≢ j → same_binder t u ≡ false }
-    ensures older { (n : ℕ) (name : Named) (i : ℕ) (t u : Tree) → slice_get (temporaries n name) i ≡ Some (value.Syn t) → IsOlder name u → same_binder t u ≡ false }
+    ensures older { (n : ℕ) (name : Named) (i : ℕ) (t u : Tree) → slice_get (temporaries n name) i ≡ Some (value.Syn t) → IsOlder name u
+        → same_binder t u ≡ false }
     ensures later { (n : ℕ) (name : Named) (i : ℕ) (t : Tree) → slice_get (temporaries n name) i ≡ Some (value.Syn t) → IsOlder (name_after n name) t }
 {}
 

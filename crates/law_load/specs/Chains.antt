@@ -15,7 +15,8 @@ pub record IsImportOf (loaded : Libraries) (imports : List Import) (place : ℕ)
 -- one of some imports is at a place, or one of what it imports, and so on
 pub data LeadTo (loaded : Libraries) : List Import → ℕ → Type 0 where
   at_once : (imports : List Import) (place : ℕ) (library : Found) → IsImportOf loaded imports place library → LeadTo loaded imports place
-  by_others : (imports : List Import) (place from : ℕ) (library : Found) → IsImportOf loaded imports from library → LeadTo loaded library.opened.form.imports place → LeadTo loaded imports place
+  by_others : (imports : List Import) (place from : ℕ) (library : Found) → IsImportOf loaded imports from library
+      → LeadTo loaded library.opened.form.imports place → LeadTo loaded imports place
 
 -- a chain of imports leads to each that is needed
 abbrev pub ChainsLeadToNeeds : Libraries → Found → Type 0
@@ -26,4 +27,5 @@ abbrev pub NeedsAll : Libraries → Found → Type 0
 NeedsAll loaded program = (place : ℕ) (file : List ℕ) (library : Found) → IsAt loaded place file library → Needs program place
 
 abbrev pub ImportsLeadToAll : Libraries → Found → Type 0
-ImportsLeadToAll loaded program = (place : ℕ) (file : List ℕ) (library : Found) → IsAt loaded place file library → LeadTo loaded program.opened.form.imports place
+ImportsLeadToAll loaded program = (place : ℕ) (file : List ℕ) (library : Found) → IsAt loaded place file library
+    → LeadTo loaded program.opened.form.imports place

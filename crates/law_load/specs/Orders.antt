@@ -21,11 +21,13 @@ IsNotAmong files file = (n : ℕ) → slice_get files n ≡ Some file → ⊥
 -- and before all that the imports behind it load.
 pub data LoadsFollow (loaded : Libraries) : List (List ℕ) → List Import → List (List ℕ) → Type 0 where
   no_more : {before : List (List ℕ)} → LoadsFollow loaded before [] before
-  given : {before after : List (List ℕ)} {i : Import} {is : List Import} → is_some (exports i.set.library) ≡ true → LoadsFollow loaded before is after → LoadsFollow loaded before (i ∷ is) after
+  given : {before after : List (List ℕ)} {i : Import} {is : List Import} → is_some (exports i.set.library) ≡ true
+      → LoadsFollow loaded before is after → LoadsFollow loaded before (i ∷ is) after
   again : {before after : List (List ℕ)} {i : Import} {is : List Import} → is_some (exports i.set.library) ≡ false → IsAmong before (file_of i.set.library)
       → LoadsFollow loaded before is after → LoadsFollow loaded before (i ∷ is) after
   anew : {before below after : List (List ℕ)} {i : Import} {is : List Import} (place : ℕ) (library : Found) → is_some (exports i.set.library) ≡ false
-      → IsNotAmong before (file_of i.set.library) → IsAt loaded place (file_of i.set.library) library → LoadsFollow loaded before library.opened.form.imports below
+      → IsNotAmong before (file_of i.set.library) → IsAt loaded place (file_of i.set.library) library
+      → LoadsFollow loaded before library.opened.form.imports below
       → LoadsFollow loaded (below ++ file_of i.set.library ∷ []) is after → LoadsFollow loaded before (i ∷ is) after
 
 -- all is loaded in this order, and there is no other

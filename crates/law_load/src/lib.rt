@@ -39,61 +39,84 @@ ghost use Rattle.law_load.specs.Sources.{AreAsHeld, AreFoundOnce, AreFoundOnceBu
 /// Loading puts each library into the list once, under the file of its name; its place, and that of the
 /// program, is how many libraries were loaded before.
 pub fn each_library_once()
-    ensures libraries { (files : Paths) (roots : List (List ℕ)) (path : List ℕ) (program : Found) (s : Loading) → load files roots path ≡ Ok (program, s) → AreLoadedOnce s.done }
-    ensures program { (files : Paths) (roots : List (List ℕ)) (path : List ℕ) (program : Found) (s : Loading) → load files roots path ≡ Ok (program, s) → program.place ≡ length s.done }
-    ensures stopped { (files : Paths) (roots : List (List ℕ)) (path : List ℕ) (s : Loading) (f : Fault) → load files roots path ≡ Err (s, f) → AreLoadedOnce s.done }
+    ensures libraries { (files : Paths) (roots : List (List ℕ)) (path : List ℕ) (program : Found) (s : Loading)
+        → load files roots path ≡ Ok (program, s) → AreLoadedOnce s.done }
+    ensures program { (files : Paths) (roots : List (List ℕ)) (path : List ℕ) (program : Found) (s : Loading)
+        → load files roots path ≡ Ok (program, s) → program.place ≡ length s.done }
+    ensures stopped { (files : Paths) (roots : List (List ℕ)) (path : List ℕ) (s : Loading) (f : Fault)
+        → load files roots path ≡ Err (s, f) → AreLoadedOnce s.done }
 {}
 
 /// Each loaded library, and the program, comes after the libraries that it imports, and their versions
 /// fit its references.
 pub fn after_its_imports()
-    ensures libraries { (files : Paths) (roots : List (List ℕ)) (path : List ℕ) (program : Found) (s : Loading) → load files roots path ≡ Ok (program, s) → AreAfterTheirImports s.done }
-    ensures program { (files : Paths) (roots : List (List ℕ)) (path : List ℕ) (program : Found) (s : Loading) → load files roots path ≡ Ok (program, s) → IsAfterItsImports s.done program }
-    ensures stopped { (files : Paths) (roots : List (List ℕ)) (path : List ℕ) (s : Loading) (f : Fault) → load files roots path ≡ Err (s, f) → AreAfterTheirImports s.done }
+    ensures libraries { (files : Paths) (roots : List (List ℕ)) (path : List ℕ) (program : Found) (s : Loading)
+        → load files roots path ≡ Ok (program, s) → AreAfterTheirImports s.done }
+    ensures program { (files : Paths) (roots : List (List ℕ)) (path : List ℕ) (program : Found) (s : Loading)
+        → load files roots path ≡ Ok (program, s) → IsAfterItsImports s.done program }
+    ensures stopped { (files : Paths) (roots : List (List ℕ)) (path : List ℕ) (s : Loading) (f : Fault)
+        → load files roots path ≡ Err (s, f) → AreAfterTheirImports s.done }
 {}
 
 /// What a library or the program needs was loaded before it, and what that needs it needs, too.
 pub fn needs_are_closed()
-    ensures libraries { (files : Paths) (roots : List (List ℕ)) (path : List ℕ) (program : Found) (s : Loading) → load files roots path ≡ Ok (program, s) → AllNeedsAreClosed s.done }
-    ensures program { (files : Paths) (roots : List (List ℕ)) (path : List ℕ) (program : Found) (s : Loading) → load files roots path ≡ Ok (program, s) → NeedsAreClosed s.done program }
-    ensures stopped { (files : Paths) (roots : List (List ℕ)) (path : List ℕ) (s : Loading) (f : Fault) → load files roots path ≡ Err (s, f) → AllNeedsAreClosed s.done }
+    ensures libraries { (files : Paths) (roots : List (List ℕ)) (path : List ℕ) (program : Found) (s : Loading)
+        → load files roots path ≡ Ok (program, s) → AllNeedsAreClosed s.done }
+    ensures program { (files : Paths) (roots : List (List ℕ)) (path : List ℕ) (program : Found) (s : Loading)
+        → load files roots path ≡ Ok (program, s) → NeedsAreClosed s.done program }
+    ensures stopped { (files : Paths) (roots : List (List ℕ)) (path : List ℕ) (s : Loading) (f : Fault)
+        → load files roots path ≡ Err (s, f) → AllNeedsAreClosed s.done }
 {}
 
 /// A library or the program needs nothing but what it imports, and what that needs.
 pub fn only_imports_are_needed()
-    ensures libraries { (files : Paths) (roots : List (List ℕ)) (path : List ℕ) (program : Found) (s : Loading) → load files roots path ≡ Ok (program, s) → OnlyTheirImportsAreNeeded s.done }
-    ensures program { (files : Paths) (roots : List (List ℕ)) (path : List ℕ) (program : Found) (s : Loading) → load files roots path ≡ Ok (program, s) → OnlyImportsAreNeeded s.done program }
-    ensures stopped { (files : Paths) (roots : List (List ℕ)) (path : List ℕ) (s : Loading) (f : Fault) → load files roots path ≡ Err (s, f) → OnlyTheirImportsAreNeeded s.done }
+    ensures libraries { (files : Paths) (roots : List (List ℕ)) (path : List ℕ) (program : Found) (s : Loading)
+        → load files roots path ≡ Ok (program, s) → OnlyTheirImportsAreNeeded s.done }
+    ensures program { (files : Paths) (roots : List (List ℕ)) (path : List ℕ) (program : Found) (s : Loading)
+        → load files roots path ≡ Ok (program, s) → OnlyImportsAreNeeded s.done program }
+    ensures stopped { (files : Paths) (roots : List (List ℕ)) (path : List ℕ) (s : Loading) (f : Fault)
+        → load files roots path ≡ Err (s, f) → OnlyTheirImportsAreNeeded s.done }
 {}
 
 /// What is stored of each path that was read is what the files hold there, and a path with a file was
 /// read once; where loading stopped at a fault, the last one may have been read before.
 pub fn each_file_read_once()
-    ensures held { (files : Paths) (roots : List (List ℕ)) (path : List ℕ) (program : Found) (s : Loading) → load files roots path ≡ Ok (program, s) → AreAsHeld files s.sources }
-    ensures once { (files : Paths) (roots : List (List ℕ)) (path : List ℕ) (program : Found) (s : Loading) → load files roots path ≡ Ok (program, s) → AreFoundOnce s.sources }
-    ensures held_until { (files : Paths) (roots : List (List ℕ)) (path : List ℕ) (s : Loading) (f : Fault) → load files roots path ≡ Err (s, f) → AreAsHeld files s.sources }
-    ensures once_until { (files : Paths) (roots : List (List ℕ)) (path : List ℕ) (s : Loading) (f : Fault) → load files roots path ≡ Err (s, f) → AreFoundOnceButLast s.sources }
+    ensures held { (files : Paths) (roots : List (List ℕ)) (path : List ℕ) (program : Found) (s : Loading)
+        → load files roots path ≡ Ok (program, s) → AreAsHeld files s.sources }
+    ensures once { (files : Paths) (roots : List (List ℕ)) (path : List ℕ) (program : Found) (s : Loading)
+        → load files roots path ≡ Ok (program, s) → AreFoundOnce s.sources }
+    ensures held_until { (files : Paths) (roots : List (List ℕ)) (path : List ℕ) (s : Loading) (f : Fault)
+        → load files roots path ≡ Err (s, f) → AreAsHeld files s.sources }
+    ensures once_until { (files : Paths) (roots : List (List ℕ)) (path : List ℕ) (s : Loading) (f : Fault)
+        → load files roots path ≡ Err (s, f) → AreFoundOnceButLast s.sources }
 {}
 
 /// A program needs all that is loaded with it: a chain of imports leads from the program to each library.
 pub fn all_is_needed()
-    ensures needed { (files : Paths) (roots : List (List ℕ)) (path : List ℕ) (program : Found) (s : Loading) → load files roots path ≡ Ok (program, s) → NeedsAll s.done program }
-    ensures chains { (files : Paths) (roots : List (List ℕ)) (path : List ℕ) (program : Found) (s : Loading) → load files roots path ≡ Ok (program, s) → ChainsLeadToNeeds s.done program }
-    ensures all { (files : Paths) (roots : List (List ℕ)) (path : List ℕ) (program : Found) (s : Loading) → load files roots path ≡ Ok (program, s) → ImportsLeadToAll s.done program }
+    ensures needed { (files : Paths) (roots : List (List ℕ)) (path : List ℕ) (program : Found) (s : Loading)
+        → load files roots path ≡ Ok (program, s) → NeedsAll s.done program }
+    ensures chains { (files : Paths) (roots : List (List ℕ)) (path : List ℕ) (program : Found) (s : Loading)
+        → load files roots path ≡ Ok (program, s) → ChainsLeadToNeeds s.done program }
+    ensures all { (files : Paths) (roots : List (List ℕ)) (path : List ℕ) (program : Found) (s : Loading)
+        → load files roots path ≡ Ok (program, s) → ImportsLeadToAll s.done program }
 {}
 
 /// The order of loading is depth first along the imports: a library comes after all that its own
 /// imports load and before what the next import loads, at the first reference to it. There is one such
 /// order.
 pub fn order_is_depth_first()
-    ensures follows { (files : Paths) (roots : List (List ℕ)) (path : List ℕ) (program : Found) (s : Loading) → load files roots path ≡ Ok (program, s) → AreInOrder s.done program }
-    ensures only { (files : Paths) (roots : List (List ℕ)) (path : List ℕ) (program : Found) (s : Loading) → load files roots path ≡ Ok (program, s) → IsTheOrder s.done program }
+    ensures follows { (files : Paths) (roots : List (List ℕ)) (path : List ℕ) (program : Found) (s : Loading)
+        → load files roots path ≡ Ok (program, s) → AreInOrder s.done program }
+    ensures only { (files : Paths) (roots : List (List ℕ)) (path : List ℕ) (program : Found) (s : Loading)
+        → load files roots path ≡ Ok (program, s) → IsTheOrder s.done program }
 {}
 
 /// Each loaded library is what the file of its name holds below the first root that has this file.
 pub fn first_root_counts()
-    ensures libraries { (files : Paths) (roots : List (List ℕ)) (path : List ℕ) (program : Found) (s : Loading) → load files roots path ≡ Ok (program, s) → AllStandBelow files roots s.done }
-    ensures stopped { (files : Paths) (roots : List (List ℕ)) (path : List ℕ) (s : Loading) (f : Fault) → load files roots path ≡ Err (s, f) → AllStandBelow files roots s.done }
+    ensures libraries { (files : Paths) (roots : List (List ℕ)) (path : List ℕ) (program : Found) (s : Loading)
+        → load files roots path ≡ Ok (program, s) → AllStandBelow files roots s.done }
+    ensures stopped { (files : Paths) (roots : List (List ℕ)) (path : List ℕ) (s : Loading) (f : Fault)
+        → load files roots path ≡ Err (s, f) → AllStandBelow files roots s.done }
 {}
 
 /// Libraries of different names have different files, and no part of a name has a slash or a dot in the

@@ -38,5 +38,6 @@ module _ (base : RunBase) where
 
   -- they are those of a run
   pub record AreThoseOfRuns : Type 0 where
-    pub each : (others : List CompiledLibrary) (f : Found) (body : List PlainDatum) → expand_found base.prelude (base.derived ∷ others) f body ≡ expand_behind others f body
+    pub each : (others : List CompiledLibrary) (f : Found) (body : List PlainDatum)
+        → expand_found base.prelude (base.derived ∷ others) f body ≡ expand_behind others f body
     pub all : (rows : Libraries) → all_records base.prelude rows ≡ (records_behind rows >>= (λ others. Ok (base.derived ∷ others)))

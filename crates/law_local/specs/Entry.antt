@@ -72,9 +72,11 @@ pub record IsLaidOut (e : ExpandedEntry) : Type 0 where
   pub read : (i : ℕ) (g : List Source × Opened) → slice_get groups i ≡ Some g → IsGroup e.roots g.0 g.1
   -- the paths with bytes differ, and none of them is absent in any group
   pub apart : (i j : ℕ) (g h : List Source × Opened) → slice_get groups i ≡ Some g → slice_get groups j ≡ Some h → g.1.path ≡ h.1.path → i ≡ j
-  pub never_absent : (i j : ℕ) (g : List Source × Opened) (a : Source) → slice_get groups i ≡ Some g → slice_get e.sources j ≡ Some a → a.path ≡ g.1.path → is_some a.held ≡ true
+  pub never_absent : (i j : ℕ) (g : List Source × Opened) (a : Source) → slice_get groups i ≡ Some g → slice_get e.sources j ≡ Some a
+      → a.path ≡ g.1.path → is_some a.held ≡ true
   -- what a group refers to stands in an earlier one, and the last reaches every other
-  pub earlier : (i n : ℕ) (g : List Source × Opened) (import : Import) → slice_get groups i ≡ Some g → slice_get g.1.form.imports n ≡ Some import → is_some (exports import.set.library) ≡ false → IsEarlier groups i import
+  pub earlier : (i n : ℕ) (g : List Source × Opened) (import : Import) → slice_get groups i ≡ Some g
+      → slice_get g.1.form.imports n ≡ Some import → is_some (exports import.set.library) ≡ false → IsEarlier groups i import
   pub last : ℕ
   pub many : length groups ≡ suc last
   pub reaches : (i : ℕ) → i < last → Reaches groups last i
@@ -90,4 +92,5 @@ pub record IsSoundEntry (prelude : Result Codes Fault) (e : ExpandedEntry) : Typ
 
 -- whatever a store's bytes spell, by a reading of entries, is sound
 abbrev pub HonestStore : Result Codes Fault → (List ℕ → Option ExpandedEntry) → Paths → Type 0
-HonestStore prelude entry_in store = (place held : List ℕ) (e : ExpandedEntry) → at_path store place ≡ Some held → entry_in held ≡ Some e → IsSoundEntry prelude e
+HonestStore prelude entry_in store = (place held : List ℕ) (e : ExpandedEntry) → at_path store place ≡ Some held → entry_in held ≡ Some e
+    → IsSoundEntry prelude e

@@ -74,12 +74,14 @@ module _ (base : RunBase) where
 
   -- The sources of a library and of all that it needs, expanded alone, give the records that the run gave, or the fault.
   abbrev pub IsLocal : (Found → List Source) → Libraries → Type 0
-  IsLocal group loaded = (records : List CompiledLibrary) (f : Found) → IsNextLibrary group loaded records f → records_of base.prelude (all_sources group loaded f) ≡ behind_needed records f
+  IsLocal group loaded = (records : List CompiledLibrary) (f : Found) → IsNextLibrary group loaded records f
+      → records_of base.prelude (all_sources group loaded f) ≡ behind_needed records f
 
   -- so a sound entry of these sources holds what expansion gives
   abbrev pub EntriesHold : (Found → List Source) → Libraries → Type 0
   EntriesHold group loaded = (records : List CompiledLibrary) (f : Found) → IsNextLibrary group loaded records f
-      → (e : ExpandedEntry) → IsSoundEntry base.prelude e → e.sources ≡ all_sources group loaded f → expand_behind base records f (library_body f.opened.«data») ≡ Ok e.stored
+      → (e : ExpandedEntry) → IsSoundEntry base.prelude e → e.sources ≡ all_sources group loaded f
+      → expand_behind base records f (library_body f.opened.«data») ≡ Ok e.stored
 
   -- and the entry of what expansion gives is sound
   abbrev pub EntriesAreSound : (Found → List Source) → List (List ℕ) → Libraries → Type 0

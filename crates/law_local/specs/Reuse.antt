@@ -47,10 +47,12 @@ fits roots sources e = pointwise same_text e.roots roots && pointwise same_sourc
 
 -- its record can stand for that of the library
 unfoldable pub suits : CacheModel → List CompiledLibrary → Found → CompiledLibrary → Bool
-suits cache earlier f r = same_library r.name f.opened.form.name && (pointwise nat_eq r.version f.opened.form.version && (same_text r.path f.opened.path && cache.follows r earlier))
+suits cache earlier f r = same_library r.name f.opened.form.name &&
+    (pointwise nat_eq r.version f.opened.form.version && (same_text r.path f.opened.path && cache.follows r earlier))
 
 -- the place of a library holds its entry
-pub record HoldsEntry (cache : CacheModel) (roots : List (List ℕ)) (group : Found → List Source) (loaded : Libraries) (store : Paths) (f : Found) (r : CompiledLibrary) : Type 0 where
+pub record HoldsEntry (cache : CacheModel) (roots : List (List ℕ)) (group : Found → List Source) (loaded : Libraries) (store : Paths)
+    (f : Found) (r : CompiledLibrary) : Type 0 where
   pub held : List ℕ
   pub there : at_path store (cache.place f) ≡ Some held
   pub spells : cache.entry_in held ≡ Some (entry_of group roots loaded f r)
@@ -66,8 +68,10 @@ CanBeRead cache e = (cache.has_spelling e ≡ true) × ((length (cache.spelled e
 module _ (base : RunBase) where
   -- what is read of the spelling of an entry of a run, where it has one, is that entry
   abbrev pub ReadsBack : CacheModel → List (List ℕ) → (Found → List Source) → Libraries → Type 0
-  ReadsBack cache roots group loaded = (records : List CompiledLibrary) (f : Found) (r : CompiledLibrary) → IsNextLibrary base group loaded records f → expand_behind base records f (library_body f.opened.«data») ≡ Ok r
-      → cache.has_spelling (entry_of group roots loaded f r) ≡ true → (d : ExpandedEntry) → cache.entry_in (cache.spelled (entry_of group roots loaded f r)) ≡ Some d → d ≡ entry_of group roots loaded f r
+  ReadsBack cache roots group loaded = (records : List CompiledLibrary) (f : Found) (r : CompiledLibrary)
+      → IsNextLibrary base group loaded records f → expand_behind base records f (library_body f.opened.«data») ≡ Ok r
+      → cache.has_spelling (entry_of group roots loaded f r) ≡ true → (d : ExpandedEntry)
+      → cache.entry_in (cache.spelled (entry_of group roots loaded f r)) ≡ Some d → d ≡ entry_of group roots loaded f r
 
   module _ (cache : CacheModel) (roots : List (List ℕ)) (group : Found → List Source) (loaded : Libraries) where
     abbrev pub if_right : List CompiledLibrary → Found → Option ExpandedEntry → Option CompiledLibrary
@@ -88,29 +92,37 @@ module _ (base : RunBase) where
       -- An entry is kept unless it has no spelling or is too long. Where the store fails, only its place is touched, and
       -- nothing unsound is read there.
       pub data IsKept (e : ExpandedEntry) (place : List ℕ) (before : Paths) : Paths → Type 0 where
-        kept : {after : Paths} → cache.has_spelling e ≡ true → length (cache.spelled e) ≤ entry_limit → Sets place (cache.spelled e) before after → IsKept e place before after
+        kept : {after : Paths} → cache.has_spelling e ≡ true → length (cache.spelled e) ≤ entry_limit
+            → Sets place (cache.spelled e) before after → IsKept e place before after
         too_long : entry_limit < length (cache.spelled e) → IsKept e place before before
         unspelled : cache.has_spelling e ≡ false → IsKept e place before before
-        failed : {after : Paths} → quiet ≡ false → KeepsOthers place before after → ((held : List ℕ) (d : ExpandedEntry) → at_path after place ≡ Some held → cache.entry_in held ≡ Some d → IsSoundEntry base.prelude d) → IsKept e place before after
+        failed : {after : Paths} → quiet ≡ false → KeepsOthers place before after
+            → ((held : List ℕ) (d : ExpandedEntry) → at_path after place ≡ Some held → cache.entry_in held ≡ Some d
+            → IsSoundEntry base.prelude d) → IsKept e place before after
 
       -- the turn of one library: whether it is reused, its record, and the store that is left
       pub data LibraryTurn (records : List CompiledLibrary) (store : Paths) (f : Found) : Bool → CompiledLibrary → Paths → Type 0 where
         reused : {r : CompiledLibrary} → stored_for records store f ≡ Some r → LibraryTurn records store f true r store
-        expanded : {r : CompiledLibrary} {left : Paths} → (quiet ≡ true → stored_for records store f ≡ None) → expand_behind base records f (library_body f.opened.«data») ≡ Ok r
+        expanded : {r : CompiledLibrary} {left : Paths} → (quiet ≡ true → stored_for records store f ≡ None)
+            → expand_behind base records f (library_body f.opened.«data») ≡ Ok r
             → IsKept (entry_of group roots loaded f r) (cache.place f) store left → LibraryTurn records store f false r left
 
       -- the turns of all: which are reused, their records or the first fault, and the store that is left
       pub data LibraryTurns : Libraries → List CompiledLibrary → Paths → List Bool → Result (List CompiledLibrary) Fault → Paths → Type 0 where
         done : {records : List CompiledLibrary} {store : Paths} → LibraryTurns [] records store [] (Ok records) store
-        next : {row : List ℕ × Found} {rows : Libraries} {records : List CompiledLibrary} {store middle left : Paths} {flag : Bool} {flags : List Bool} {r : CompiledLibrary} {result : Result (List CompiledLibrary) Fault}
-            → LibraryTurn records store row.1 flag r middle → LibraryTurns rows (records ++ r ∷ []) middle flags result left → LibraryTurns (row ∷ rows) records store (flag ∷ flags) result left
+        next : {row : List ℕ × Found} {rows : Libraries} {records : List CompiledLibrary} {store middle left : Paths} {flag : Bool}
+            {flags : List Bool} {r : CompiledLibrary} {result : Result (List CompiledLibrary) Fault}
+            → LibraryTurn records store row.1 flag r middle → LibraryTurns rows (records ++ r ∷ []) middle flags result left
+            → LibraryTurns (row ∷ rows) records store (flag ∷ flags) result left
         fault : {row : List ℕ × Found} {rows : Libraries} {records : List CompiledLibrary} {store : Paths} {f : Fault}
-            → (quiet ≡ true → stored_for records store row.1 ≡ None) → expand_behind base records row.1 (library_body row.1.opened.«data») ≡ Err f → LibraryTurns (row ∷ rows) records store [] (Err f) store
+            → (quiet ≡ true → stored_for records store row.1 ≡ None)
+            → expand_behind base records row.1 (library_body row.1.opened.«data») ≡ Err f → LibraryTurns (row ∷ rows) records store [] (Err f) store
 
   -- ---- what reuse leaves as it is
 
   -- the turns over some store
-  pub record HasTurns (cache : CacheModel) (roots : List (List ℕ)) (group : Found → List Source) (loaded : Libraries) (rows : Libraries) (records : List CompiledLibrary) (store : Paths) : Type 0 where
+  pub record HasTurns (cache : CacheModel) (roots : List (List ℕ)) (group : Found → List Source) (loaded : Libraries) (rows : Libraries)
+      (records : List CompiledLibrary) (store : Paths) : Type 0 where
     pub flags : List Bool
     pub result : Result (List CompiledLibrary) Fault
     pub left : Paths
@@ -118,23 +130,31 @@ module _ (base : RunBase) where
 
   -- what a run gives a library suits it
   abbrev pub MakesWhatSuits : CacheModel → (Found → List Source) → Libraries → Type 0
-  MakesWhatSuits cache group loaded = (records : List CompiledLibrary) (f : Found) (r : CompiledLibrary) → IsNextLibrary base group loaded records f → expand_behind base records f (library_body f.opened.«data») ≡ Ok r → suits cache (behind base records f) f r ≡ true
+  MakesWhatSuits cache group loaded = (records : List CompiledLibrary) (f : Found) (r : CompiledLibrary)
+      → IsNextLibrary base group loaded records f → expand_behind base records f (library_body f.opened.«data») ≡ Ok r
+      → suits cache (behind base records f) f r ≡ true
 
   pub record ReuseChangesNothing (cache : CacheModel) (roots : List (List ℕ)) (group : Found → List Source) (loaded : Libraries) : Type 0 where
     -- over an honest store the records, or the first fault, are those of expansion
-    pub same : (quiet : Bool) (store : Paths) (flags : List Bool) (result : Result (List CompiledLibrary) Fault) (left : Paths) → HonestStore base.prelude cache.entry_in store
-        → LibraryTurns cache roots group loaded quiet loaded [] store flags result left → all_records base.prelude loaded ≡ (result >>= (λ others. Ok (base.derived ∷ others)))
+    pub same : (quiet : Bool) (store : Paths) (flags : List Bool) (result : Result (List CompiledLibrary) Fault) (left : Paths)
+        → HonestStore base.prelude cache.entry_in store
+        → LibraryTurns cache roots group loaded quiet loaded [] store flags result left
+        → all_records base.prelude loaded ≡ (result >>= (λ others. Ok (base.derived ∷ others)))
     -- and the store that is left is honest
-    pub honest : (quiet : Bool) (store : Paths) (flags : List Bool) (result : Result (List CompiledLibrary) Fault) (left : Paths) → HonestStore base.prelude cache.entry_in store
+    pub honest : (quiet : Bool) (store : Paths) (flags : List Bool) (result : Result (List CompiledLibrary) Fault) (left : Paths)
+        → HonestStore base.prelude cache.entry_in store
         → LibraryTurns cache roots group loaded quiet loaded [] store flags result left → HonestStore base.prelude cache.entry_in left
     -- where the store doesn't fail, the place of each library that has a record holds its entry, if that can be read and the place is its own
     pub kept : (store : Paths) (flags : List Bool) (result : Result (List CompiledLibrary) Fault) (left : Paths) → HonestStore base.prelude cache.entry_in store
         → LibraryTurns cache roots group loaded true loaded [] store flags result left
-        → (records : List CompiledLibrary) (f : Found) (r : CompiledLibrary) → IsNextLibrary base group loaded records f → expand_behind base records f (library_body f.opened.«data») ≡ Ok r
+        → (records : List CompiledLibrary) (f : Found) (r : CompiledLibrary) → IsNextLibrary base group loaded records f
+        → expand_behind base records f (library_body f.opened.«data») ≡ Ok r
         → IsAlone cache loaded f → CanBeRead cache (entry_of group roots loaded f r) → HoldsEntry cache roots group loaded left f r
     -- over an honest store an entry that fits is reused
-    pub fitting : MakesWhatSuits cache group loaded → (records : List CompiledLibrary) (f : Found) → IsNextLibrary base group loaded records f → (store : Paths) → HonestStore base.prelude cache.entry_in store
-        → (held : List ℕ) (e : ExpandedEntry) → at_path store (cache.place f) ≡ Some held → length held ≤ entry_limit → cache.entry_in held ≡ Some e → fits roots (all_sources group loaded f) e ≡ true
+    pub fitting : MakesWhatSuits cache group loaded → (records : List CompiledLibrary) (f : Found)
+        → IsNextLibrary base group loaded records f → (store : Paths) → HonestStore base.prelude cache.entry_in store
+        → (held : List ℕ) (e : ExpandedEntry) → at_path store (cache.place f) ≡ Some held → length held ≤ entry_limit
+        → cache.entry_in held ≡ Some e → fits roots (all_sources group loaded f) e ≡ true
         → stored_for cache roots group loaded records store f ≡ Some e.stored
     -- every store has turns in which it doesn't fail
     pub some : (store : Paths) → HasTurns cache roots group loaded loaded [] store

@@ -52,8 +52,10 @@ mutual
     takes_literal : {t : Tree} {v : Value} → is_alike fs t v ≡ true → Matches fs cells (literal t) v [] 0
     takes_atom : {a : Atom} {v : Value} → atom_of cells v ≡ Some a → Matches fs cells (pattern.atom a) v [] 0
     takes_list : {ps : PlainPatterns} {t : PlainPattern} {v r : Value} {xs : List Value} {bs cs : Bindings} {m n : ℕ}
-        → Begins cells xs r v → IsLast cells (limit ps) r → Fills fs cells ps xs bs m → Matches fs cells t r cs n → Matches fs cells (list ps t) v (bs ++ cs) (m + n)
-    takes_vector : {ps : PlainPatterns} {v : Value} {xs : List Value} {bs : Bindings} {n : ℕ} → vector_of cells v ≡ Some xs → Fills fs cells ps xs bs n → Matches fs cells (pattern.vector ps) v bs n
+        → Begins cells xs r v → IsLast cells (limit ps) r → Fills fs cells ps xs bs m → Matches fs cells t r cs n
+        → Matches fs cells (list ps t) v (bs ++ cs) (m + n)
+    takes_vector : {ps : PlainPatterns} {v : Value} {xs : List Value} {bs : Bindings} {n : ℕ} → vector_of cells v ≡ Some xs
+        → Fills fs cells ps xs bs n → Matches fs cells (pattern.vector ps) v bs n
 
   -- elements by patterns: the first ones by those before an ellipsis, the last ones by those after it, the others by the
   -- repeated one

@@ -25,4 +25,5 @@ pub record AreReadApart (file : List ℕ) (nesting : ℕ) (one other : List ℕ)
   pub differ : first ≡ second → ⊥
 
 abbrev pub NamesStayApart : Type 0
-NamesStayApart = (file : List ℕ) (nesting : ℕ) (v w : NamedVariable) → IsVariable v → IsVariable w → (v ≡ w → ⊥) → AreReadApart file nesting (name_of v) (name_of w)
+NamesStayApart = (file : List ℕ) (nesting : ℕ) (v w : NamedVariable) → IsVariable v → IsVariable w → (v ≡ w → ⊥)
+    → AreReadApart file nesting (name_of v) (name_of w)

@@ -91,7 +91,7 @@ module _ (base depth : ℕ) (deep : base ≤ depth) (room : depth ≤ most_round
     unfolding item_step
     step-deep at d t s h = gave-after (Deep {A = Item}) (Deep {A = ItemOrUse}) (item_plan at depth d t s) (λ p. item_step_of rs at depth t p.0 p.1) (item-deep at d t s h) (λ p u j. steps-deep at t p.0 p.1 u j)
 
-    -- forms of a body are settled
+    -- uses in a body are expanded
     pub expand_uses-deep : (left : ℕ) (at : BodyAt) (d : Taken) (t : Tree) (s : State) → AreDeep base d → Gave (Deep {A = PlannedItem}) (expand_item_uses_to rs left at depth d t s)
     unfolding expand_item_uses_to
     expand_uses-deep zero at d t s h =

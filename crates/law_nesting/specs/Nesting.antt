@@ -31,6 +31,8 @@ deepest = 4 * (most_round + 1)
 
 -- each line of a record, whatever the records before it and the forms of its library
 abbrev pub LinesNest : Type 0
-LinesNest = (between : Between) → IsAtMostText between → (own : LibName) (path : List ℕ) (records : List CompiledLibrary) (imports : List (List ℕ × Label)) (version : List ℕ) (place : Span)
+LinesNest = (between : Between) → IsAtMostText between → (own : LibName) (path : List ℕ) (records : List CompiledLibrary)
+    (imports : List (List ℕ × Label)) (version : List ℕ) (place : Span)
     (exports : List (List ℕ × Tree)) (forms : List Tree) (codes : Codes) (r : CompiledLibrary)
-    → library_record (ready own path records imports codes) records version place exports forms ≡ Ok r → Each (λ l. height_with between (line_core l) ≤ deepest) r.run
+    → library_record (ready own path records imports codes) records version place exports forms ≡ Ok r
+    → Each (λ l. height_with between (line_core l) ≤ deepest) r.run

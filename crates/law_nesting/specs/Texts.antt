@@ -40,7 +40,8 @@ ReadWhereNested = (d : PlainDatum) (n : ℕ) → CanBeRead d → nested d ≤ n 
 
 -- What spells core code nests as deep as the code and its constants do, and no deeper.
 abbrev pub SpellingsNest : Type 0
-SpellingsNest = (names : VariableNames) (c : PlainCore) (d : PlainDatum) (n : ℕ) → Each (λ e. nested e ≤ n) (constants c) → SpellsCode names c d → nested d ≤ height_with in_text c + n
+SpellingsNest = (names : VariableNames) (c : PlainCore) (d : PlainDatum) (n : ℕ) → Each (λ e. nested e ≤ n) (constants c)
+    → SpellsCode names c d → nested d ≤ height_with in_text c + n
 
 -- and what spells a line, one deeper
 abbrev pub LineSpellingsNest : Type 0

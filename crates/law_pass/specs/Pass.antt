@@ -11,5 +11,6 @@ use Rattle.law_run.specs.Spelled.{GivesText}
 
 -- The text of each run is a core text, by the cases of the checker's grammar.
 abbrev pub TextsPass : Type 0
-TextsPass = (files : Paths) (roots : List (List ℕ)) (path : List ℕ) (found : Found) (s : Loading) (records : List CompiledLibrary) (program : CompiledLibrary) (text : List ℕ)
+TextsPass = (files : Paths) (roots : List (List ℕ)) (path : List ℕ) (found : Found) (s : Loading) (records : List CompiledLibrary)
+    (program : CompiledLibrary) (text : List ℕ)
     → GivesText prelude_table files roots path found s records program text → Judged text verdict.Yes

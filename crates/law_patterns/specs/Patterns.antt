@@ -50,13 +50,16 @@ mutual
     an_underscore : {depth : ℕ} {t : Tree} → IsKeywordIdentifier fs form.Underscore t → IsPattern fs literals depth t [] any
     a_literal : {depth : ℕ} {t : Tree} → IsPlain fs t → IsAmong t literals → IsPattern fs literals depth t [] (literal t)
     -- any other identifier but the ellipsis
-    a_variable : {depth : ℕ} {t : Tree} {l : Label} → IsPlain fs t → (IsAmong t literals → ⊥) → IsPattern fs literals depth t (record { id = t; label = l; depth = depth } ∷ []) (variable l)
+    a_variable : {depth : ℕ} {t : Tree} {l : Label} → IsPlain fs t → (IsAmong t literals → ⊥)
+        → IsPattern fs literals depth t (record { id = t; label = l; depth = depth } ∷ []) (variable l)
     a_datum : {depth : ℕ} {span : Option Span} {a : Atom} → IsPattern fs literals depth (atom span a) [] (pattern.atom a)
     -- `(pattern ...)` and `(pattern ... . pattern)`
     a_list : {depth : ℕ} {t r x : Tree} {xs : List Tree} {us ws : List PatternVariable} {ps : PlainPatterns} {p : PlainPattern}
-        → IsChain (x ∷ xs) r t → AreElements fs literals depth (x ∷ xs) us ps → IsPattern fs literals depth r ws p → IsPattern fs literals depth t (us ++ ws) (list ps p)
+        → IsChain (x ∷ xs) r t → AreElements fs literals depth (x ∷ xs) us ps → IsPattern fs literals depth r ws p
+        → IsPattern fs literals depth t (us ++ ws) (list ps p)
     -- `#(pattern ...)`
-    a_vector : {depth : ℕ} {span : Option Span} {t : Tree} {us : List PatternVariable} {ps : PlainPatterns} → AreElements fs literals depth (elements t) us ps → IsPattern fs literals depth (vector span t) us (pattern.vector ps)
+    a_vector : {depth : ℕ} {span : Option Span} {t : Tree} {us : List PatternVariable} {ps : PlainPatterns}
+        → AreElements fs literals depth (elements t) us ps → IsPattern fs literals depth (vector span t) us (pattern.vector ps)
 
   -- elements, of which one may have an ellipsis behind it
   pub data AreElements (fs : Scope) (literals : List Tree) : ℕ → List Tree → List PatternVariable → PlainPatterns → Type 0 where
@@ -64,7 +67,8 @@ mutual
     an_element : {depth : ℕ} {x : Tree} {xs : List Tree} {us ws : List PatternVariable} {p : PlainPattern} {ps : PlainPatterns}
         → IsPattern fs literals depth x us p → AreElements fs literals depth xs ws ps → AreElements fs literals depth (x ∷ xs) (us ++ ws) (more p ps)
     an_ellipsis : {depth : ℕ} {x e : Tree} {xs : List Tree} {us ws : List PatternVariable} {p : PlainPattern} {ps : PlainPatterns}
-        → IsPattern fs literals (depth + 1) x us p → IsKeywordIdentifier fs form.Ellipsis e → AreOthers fs literals depth xs ws ps → AreElements fs literals depth (x ∷ e ∷ xs) (us ++ ws) (dots p ps)
+        → IsPattern fs literals (depth + 1) x us p → IsKeywordIdentifier fs form.Ellipsis e → AreOthers fs literals depth xs ws ps
+        → AreElements fs literals depth (x ∷ e ∷ xs) (us ++ ws) (dots p ps)
 
   -- elements without an ellipsis
   pub data AreOthers (fs : Scope) (literals : List Tree) : ℕ → List Tree → List PatternVariable → PlainPatterns → Type 0 where

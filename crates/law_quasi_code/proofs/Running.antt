@@ -58,7 +58,7 @@ use Rattle.law_quasi_code.proofs.Codes.{codes_of, codes_are}
 use Rattle.law_quasi_code.proofs.Showing.{Listed, listed_elements, elements_listed, shows_still, each_still, each_both, run_shows, stored_shows}
 use Rattle.law_quasi_code.proofs.WellMade.{IsSome, EndsInNil, IsPlan, ArePlans, IsArgument, AreJoined, IsWhole, argument_plan, well_made}
 
--- LaterWorld states.
+-- Later states.
 
 later-cells : (s t : WorldState) → LaterWorld s t → length s.cells ≤ length t.cells
 later-cells s t h =

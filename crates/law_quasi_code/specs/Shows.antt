@@ -24,10 +24,13 @@ mutual
     of_atom : {s : Option Span} {b : Atom} → is_text b ≡ false → Shows given cells (atom s b) (value.Atom b)
     of_string : {s : Option Span} {text : List ℕ} {p : Place} → string_at cells p.0 ≡ Some text → Shows given cells (atom s (a.Str text)) (value.Str p)
     of_symbol : {s : Option Span} {x : List ℕ} {c : LeafContext} → Shows given cells (leaf s x c) (value.Symbol x)
-    of_pair : {s : Option Span} {d e : Tree} {v x y : Value} → pair_of cells v ≡ Some (x, y) → Shows given cells d x → Shows given cells e y → Shows given cells (pair s d e) v
-    of_vector : {s : Option Span} {e : Tree} {p : Place} {xs : List Value} → vector_at cells p.0 ≡ Some xs → ShowsEach given cells e xs → Shows given cells (vector s e) (value.Vector p)
+    of_pair : {s : Option Span} {d e : Tree} {v x y : Value} → pair_of cells v ≡ Some (x, y) → Shows given cells d x
+        → Shows given cells e y → Shows given cells (pair s d e) v
+    of_vector : {s : Option Span} {e : Tree} {p : Place} {xs : List Value} → vector_at cells p.0 ≡ Some xs → ShowsEach given cells e xs
+        → Shows given cells (vector s e) (value.Vector p)
 
   -- values that show the elements of a list
   pub data ShowsEach (given : List (Tree × Value)) (cells : List Cell) : Tree → List Value → Type 0 where
     no_more : {s : Option Span} → ShowsEach given cells (atom s a.Nil) []
-    one_more : {s : Option Span} {d e : Tree} {x : Value} {xs : List Value} → Shows given cells d x → ShowsEach given cells e xs → ShowsEach given cells (pair s d e) (x ∷ xs)
+    one_more : {s : Option Span} {d e : Tree} {x : Value} {xs : List Value} → Shows given cells d x → ShowsEach given cells e xs
+        → ShowsEach given cells (pair s d e) (x ∷ xs)

@@ -38,7 +38,8 @@ abbrev pub AllGive : PlainSetting → Place → List (Tree × Value) → Given �
 AllGive w scope given f [] cs s = Unit {0}
 AllGive w scope given f (x ∷ xs) [] s = ⊥
 AllGive w scope given f (x ∷ xs) (c ∷ cs) s =
-    (t : WorldState) → LaterWorld s t → (v : Value) × (u : WorldState) × Gives (eval_of w c scope t) v u × SuitsAs x.spliced given u.cells (f x.expression) v × AllGive w scope given f xs cs u
+    (t : WorldState) → LaterWorld s t → (v : Value) × (u : WorldState) × Gives (eval_of w c scope t) v u
+    × SuitsAs x.spliced given u.cells (f x.expression) v × AllGive w scope given f xs cs u
 
 -- Evaluation gives a value that shows this.
 pub record GivesShown (w : PlainSetting) (scope : Place) (given : List (Tree × Value)) (c : PlainCore) (s : WorldState) (t : Tree) : Type 0 where
@@ -50,5 +51,6 @@ pub record GivesShown (w : PlainSetting) (scope : Place) (given : List (Tree × 
 -- Where the code of each expression of a `quasiquote` form gives a value that suits, so does the code of the form: its value shows the template with these in
 -- their places.
 abbrev pub CodeGivesTheTemplate : Type 0
-CodeGivesTheTemplate = (w : PlainSetting) (words : Words) (t form : Tree) (place : Span) (q : PlainQuasi) (scope : Place) (given : List (Tree × Value)) (f : Given) (cs : List PlainCore) (s : WorldState)
+CodeGivesTheTemplate = (w : PlainSetting) (words : Words) (t form : Tree) (place : Span) (q : PlainQuasi) (scope : Place)
+    (given : List (Tree × Value)) (f : Given) (cs : List PlainCore) (s : WorldState)
     → quasi words t form place ≡ Ok q → AllGive w scope given f (wants q) cs s → GivesShown w scope given (code.filled q cs).0 s (template.filled words f t 0)

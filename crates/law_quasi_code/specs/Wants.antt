@@ -59,4 +59,5 @@ abbrev mutual
 
 -- What is to be expanded of a `quasiquote` form is its expressions, in their order, where its calls don't nest too deep.
 abbrev pub PartsAreExpressions : Type 0
-PartsAreExpressions = (form : Tree) (depth : ℕ) (q : PlainQuasi) → depth + nesting q ≤ most_round → forms_of (quasi_parts form depth [] q) ≡ expressions (wants q)
+PartsAreExpressions = (form : Tree) (depth : ℕ) (q : PlainQuasi) → depth + nesting q ≤ most_round
+    → forms_of (quasi_parts form depth [] q) ≡ expressions (wants q)

@@ -25,7 +25,11 @@ use Rattle.law_shapes.specs.Records.{AreNames, AreClauses, Says, Lacks, IsIn}
 -- An identifier that stands for this name of the implementation, whatever the program imports: its only stamp is that of the
 -- implementation's frame.
 abbrev pub word : List ℕ → Tree
-word symbol = leaf None symbol (record { marks = []; stamps = (record { frame = record { 0 = record { library = library.Core; number = 0 } }; marks = [] }) ∷ [] })
+word symbol = leaf None symbol (record {
+  marks = [];
+  stamps =
+      (record { frame = record { 0 = record { library = library.Core; number = 0 } }; marks = [] }) ∷ [];
+})
 
 -- an identifier of the definitions alone
 abbrev pub own_word : List ℕ → Tree
@@ -119,7 +123,8 @@ entry f = field_entry f f.mutator
 -- `(make-record-type-descriptor 'name parent uid sealed opaque '#(field ...))`
 abbrev pub made_type : Tree → Description → Tree
 made_type name d =
-    list (word (codes "make-record-type-descriptor") ∷ (quoted name ∷ (d.parent ∷ (d.uid ∷ (truth d.sealed ∷ (truth d.opaque ∷ (quoted (vector_of (map entry d.fields)) ∷ [])))))))
+    list (word (codes "make-record-type-descriptor") ∷ (quoted name
+    ∷ (d.parent ∷ (d.uid ∷ (truth d.sealed ∷ (truth d.opaque ∷ (quoted (vector_of (map entry d.fields)) ∷ [])))))))
 
 -- `(make-record-constructor-descriptor rtd parent protocol)`
 abbrev pub made_constructor : Description → Tree
@@ -176,15 +181,18 @@ in_place_of t place u = if fits u then Ok u else Err (fault_at kind.TooDeep t pl
 -- `(define-record-type names clause ...)`, and the definitions that it stands for
 pub data StandsFor (fs : Scope) (own : List ℕ) (t : Tree) : Tree → Type 0 where
   record_type : {head spec : Tree} {ts : List Tree} {names : RecordNames} {d : Description}
-      → IsList (head ∷ spec ∷ ts) t → AreNames names spec → AreClauses fs names.name ts → Describe fs own names.name ts d → StandsFor fs own t (defining names d)
+      → IsList (head ∷ spec ∷ ts) t → AreNames names spec → AreClauses fs names.name ts → Describe fs own names.name ts d
+      → StandsFor fs own t (defining names d)
 
 -- A form comes to the definitions that it stands for, unless these pass a limit of trees.
 abbrev pub RecordTypesAreDefined : Type 0
-RecordTypesAreDefined = (fs : Scope) (t : Tree) (place : Span) (own : List ℕ) (u : Tree) → StandsFor fs own t u → record_forms fs t form.DefineRecordType place own ≡ in_place_of t place u
+RecordTypesAreDefined = (fs : Scope) (t : Tree) (place : Span) (own : List ℕ) (u : Tree) → StandsFor fs own t u
+    → record_forms fs t form.DefineRecordType place own ≡ in_place_of t place u
 
 -- What a form comes to, it stands for.
 abbrev pub DefinitionsAreStoodFor : Type 0
-DefinitionsAreStoodFor = (fs : Scope) (t : Tree) (place : Span) (own : List ℕ) (u : Tree) → record_forms fs t form.DefineRecordType place own ≡ Ok u → StandsFor fs own t u
+DefinitionsAreStoodFor = (fs : Scope) (t : Tree) (place : Span) (own : List ℕ) (u : Tree)
+    → record_forms fs t form.DefineRecordType place own ≡ Ok u → StandsFor fs own t u
 
 -- What stands for nothing is at fault, at the form or at one of its clauses.
 pub record IsBad (fs : Scope) (t : Tree) (place : Span) (own : List ℕ) : Type 0 where
@@ -205,5 +213,7 @@ pub record DescriptorsAreWritten : Type 0 where
       → record_forms fs t form.RecordTypeDescriptor place own ≡ in_place_of t place (list (x ∷ (word (codes "record-type-descriptor") ∷ [])))
   pub constructors : (fs : Scope) (t : Tree) (place : Span) (own : List ℕ) (x : Tree) → IsDescriptor x t
       → record_forms fs t form.RecordConstructorDescriptor place own ≡ in_place_of t place (list (x ∷ (word (codes "record-constructor-descriptor") ∷ [])))
-  pub other_types : (fs : Scope) (t : Tree) (place : Span) (own : List ℕ) → ((x : Tree) → IsDescriptor x t → ⊥) → record_forms fs t form.RecordTypeDescriptor place own ≡ Err (fault_at kind.BadForm t place [])
-  pub other_constructors : (fs : Scope) (t : Tree) (place : Span) (own : List ℕ) → ((x : Tree) → IsDescriptor x t → ⊥) → record_forms fs t form.RecordConstructorDescriptor place own ≡ Err (fault_at kind.BadForm t place [])
+  pub other_types : (fs : Scope) (t : Tree) (place : Span) (own : List ℕ) → ((x : Tree) → IsDescriptor x t → ⊥)
+      → record_forms fs t form.RecordTypeDescriptor place own ≡ Err (fault_at kind.BadForm t place [])
+  pub other_constructors : (fs : Scope) (t : Tree) (place : Span) (own : List ℕ) → ((x : Tree) → IsDescriptor x t → ⊥)
+      → record_forms fs t form.RecordConstructorDescriptor place own ≡ Err (fault_at kind.BadForm t place [])

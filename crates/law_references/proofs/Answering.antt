@@ -246,7 +246,7 @@ module _ (rs : List CompiledLibrary) where
   line-from : {level : ℕ} {p q : Span} {w z : Waits} {s u : State} {x : NotedLine} → p ≡ q → w ≡ z → Ends rs level q z s x u → Ends rs level p w s x u
   line-from {level} {p} {q} {w} {z} {s} {u} {x} e f h = subst (λ (a : Span). Ends rs level a w s x u) (sym e) (subst (λ (b : Waits). Ends rs level q b s x u) (sym f) h)
 
-  -- The item that is settled of a form of a body, and what was taken with it up to depths.
+  -- The planned item of a form of a body, and what was taken with it up to depths.
   items-same : (at : BodyAt) (depth depth' : ℕ) (done done' after after' : Taken) (t : Tree) (d d' : PlannedItem) (s v v' : State) → expand_item_uses rs at depth done t s ≡ Ok ((after, d), v) → expand_item_uses rs at depth' done' t s ≡ Ok ((after', d'), v')
       → shallow done ≡ shallow done' → ◌≡◌ {A = (Taken × PlannedItem) × State} ((shallow after, d), v) ((shallow after', d'), v')
   items-same at depth depth' done done' after after' t d d' s v v' e e' same =

@@ -1,4 +1,4 @@
--- How deep a form of a body stands is kept with what waits, and is nothing else to what is settled of it.
+-- How deep a form of a body stands is kept with what waits, and changes nothing else of its planned item.
 use Rattle.std.proofs.Common.{◌≡◌, ℕ, zero, suc, Bool, true, false, List, [], ◌∷◌, ◌++◌, map, Some, Result, Ok, Err, refl, sym, ap, ◌∙◌, if◌then◌else◌}
 use Rattle.std.specs.Prelude.{◌||◌, ◌&&◌, not}
 use Rattle.base_data.specs.Act.{after, give}

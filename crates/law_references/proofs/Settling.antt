@@ -1,4 +1,4 @@
--- What is settled of a form, where that is a reference or an assignment, names what its identifier stands for.
+-- The planned form of a form, where that is a reference or an assignment, names what its identifier stands for.
 use Rattle.std.proofs.Common.{◌≡◌, ℕ, zero, suc, Bool, true, false, List, [], ◌∷◌, Option, None, Some, Result, Ok, Err, refl, sym, ap, ◌∙◌, subst, inl, inr, if◌then◌else◌}
 use Rattle.std.specs.Prelude.{◌⊎◌, nat_lt}
 use Rattle.base_data.specs.Act.{after, give}
@@ -227,7 +227,7 @@ plan-so place level (leaf r x c) s = leaf-plans place level (leaf r x c) refl s
 plan-so place level (pair r a d) s = list-so place level (pair r a d) refl s a d
 plan-so place level (vector r d) s = tt
 
--- What is settled.
+-- Planned forms.
 module _ (rs : List CompiledLibrary) (level : ℕ) where
   abbrev pub Settles : PlannedForm → State → Type 0
   Settles d u = Plans level d.place d.form d.plan u

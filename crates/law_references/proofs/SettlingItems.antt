@@ -1,4 +1,4 @@
--- What is settled of a form of a body may be met.
+-- The planned item of a form of a body may be met.
 use Rattle.std.proofs.Common.{ℕ, zero, suc, Bool, true, false, List, Some, Result, arith}
 use Rattle.base_data.specs.Act.{after}
 use Rattle.base_data.specs.declared.fault.Fault.{Fault}

@@ -1,4 +1,4 @@
--- What is kept of keywords while forms are planned, used and bound: no expression comes but that of a keyword that is finished.
+-- What is kept of keywords while forms are planned, used and bound: no expression comes but that of a keyword whose transformer is evaluated.
 use Rattle.std.proofs.Common.{◌≡◌, ℕ, zero, suc, Bool, true, false, List, [], ◌∷◌, None, Some, Result, Ok, refl, ap, ◌∙◌, subst, if◌then◌else◌}
 use Rattle.std.specs.Prelude.{◌||◌, ◌&&◌, not}
 use Rattle.base_data.specs.Act.{after, give}

@@ -22,9 +22,11 @@ pub record IsHygienicReference (fs : Scope) (r : Row) (s : Option Span) (x : Lis
   -- A binder that a use introduced captures the leaf only if the same use introduced the leaf, or this was made with the mark, as a temporary is.
   pub binder : (m : Mark) → IsOfUse m r → Among ms m ⊎ IsIntroducedBy m es
   -- Where a use introduced the leaf, the binder is one that the same use introduced, or it captures the leaf as this stood in the template before.
-  pub reference : (m : Mark) (f : Option FrameNo) (early late : List Event) → es ≡ early ++ introduced m f ∷ late → IsOfUse m r ⊎ Captures fs r (leaf s x (after early ms))
+  pub reference : (m : Mark) (f : Option FrameNo) (early late : List Event) → es ≡ early ++ introduced m f ∷ late
+      → IsOfUse m r ⊎ Captures fs r (leaf s x (after early ms))
 
 -- Each leaf that an expansion comes to has such a history, and is captured so, whatever frames there are.
 abbrev pub CapturesAreHygienic : Type 0
-CapturesAreHygienic = (libs : List LibName) (own : LibName) (n : ℕ) (s : Option Span) (x : List ℕ) (c : LeafContext) (h : HasKnownEvents libs own n c) (fs : Scope) (r : Row)
+CapturesAreHygienic = (libs : List LibName) (own : LibName) (n : ℕ) (s : Option Span) (x : List ℕ) (c : LeafContext)
+    (h : HasKnownEvents libs own n c) (fs : Scope) (r : Row)
     → Captures fs r (leaf s x c) → IsHygienicReference fs r s x h.marks h.events

@@ -26,9 +26,14 @@ IsOfFormOrUse m t c = Among (contexts t) c ⊎ IsTrue (is_first m c.marks)
 
 -- So it is of each leaf that a use gives, of a keyword whose transformer is there and of a record form. The mark is the next name.
 pub record UsesIntroduceTheRest : Type 0 where
-  pub keywords : (libs : List LibName) (own : LibName) (place : Span) (v : Value) (t : Tree) (frame : Option FrameNo) (g h : PlainStage) (o : Tree) → IsNewAmong libs own
-      → StageHolds own (IsKnown libs own) (HasKnown libs own) g.names.number g → ValueHolds (HasKnown libs own g.names.number) v → TreeHolds (HasKnown libs own g.names.number) t
-      → transform_marked place v t frame (record { 0 = g.names }) (record g { names = name_after g.names }) ≡ Ok (o, h) → TreeHolds (IsOfFormOrUse (record { 0 = g.names }) t) o
-  pub records : (libs : List LibName) (own : LibName) (place : Span) (t : Tree) (f : CoreForm) (frame : Option FrameNo) (s u : State) (o : Tree) → Among libs library.Core → IsNewAmong libs own
+  pub keywords : (libs : List LibName) (own : LibName) (place : Span) (v : Value) (t : Tree) (frame : Option FrameNo) (g h : PlainStage)
+      (o : Tree) → IsNewAmong libs own
+      → StageHolds own (IsKnown libs own) (HasKnown libs own) g.names.number g → ValueHolds (HasKnown libs own g.names.number) v
+      → TreeHolds (HasKnown libs own g.names.number) t
+      → transform_marked place v t frame (record { 0 = g.names }) (record g { names = name_after g.names }) ≡ Ok (o, h)
+      → TreeHolds (IsOfFormOrUse (record { 0 = g.names }) t) o
+  pub records : (libs : List LibName) (own : LibName) (place : Span) (t : Tree) (f : CoreForm) (frame : Option FrameNo) (s u : State)
+      (o : Tree) → Among libs library.Core → IsNewAmong libs own
       → FreshStateHolds own (IsKnown libs own) (HasKnown libs own) s.names.number s → TreeHolds (HasKnown libs own s.names.number) t
-      → record_marked place t f frame (record { 0 = s.names }) (record s { names = name_after s.names }) ≡ Ok (o, u) → TreeHolds (IsOfFormOrUse (record { 0 = s.names }) t) o
+      → record_marked place t f frame (record { 0 = s.names }) (record s { names = name_after s.names }) ≡ Ok (o, u)
+      → TreeHolds (IsOfFormOrUse (record { 0 = s.names }) t) o

@@ -70,7 +70,8 @@ AreRightExports libs own first last f (e ∷ es) [] = ⊥
 -- The lines of a record are those of what the first pass took, and their references are right in the last state, whose rows the record has. Its keywords
 -- have the expressions that were expanded in the first pass and in the second, and the references of these are right, each to the end of its expression. Its
 -- exports are what their identifiers stand for.
-pub record RunIsRight (libs : List LibName) (own : LibName) (records : List CompiledLibrary) (start : State) (at : TopAt) (exports : List (List ℕ × Tree)) (forms : List Tree) (r : CompiledLibrary) : Type 0 where
+pub record RunIsRight (libs : List LibName) (own : LibName) (records : List CompiledLibrary) (start : State) (at : TopAt)
+    (exports : List (List ℕ × Tree)) (forms : List Tree) (r : CompiledLibrary) : Type 0 where
   pub taken : Taken
   pub first : State
   pub bound : List KeywordExpression
@@ -92,7 +93,10 @@ pub record RunIsRight (libs : List LibName) (own : LibName) (records : List Comp
 
 -- So it is of the record of each library with a new name, behind records and codes of texts whose leaves have histories.
 abbrev pub RecordsAreHygienic : Type 0
-RecordsAreHygienic = (own : LibName) (path : List ℕ) (records : List CompiledLibrary) (imports : List (List ℕ × Label)) (version : List ℕ) (place : Span) (exports : List (List ℕ × Tree)) (forms : List Tree) (codes : Codes) (r : CompiledLibrary)
-    → IsNewAmong (libraries_of records) own → Each (RecordHasOnly HasEvents (libraries_of records)) records → CodesHold (HasOnly HasEvents (libraries_of records)) codes → Each WasRead forms → Each (λ (e : List ℕ × Tree). WasRead e.1) exports
+RecordsAreHygienic = (own : LibName) (path : List ℕ) (records : List CompiledLibrary) (imports : List (List ℕ × Label)) (version : List ℕ)
+    (place : Span) (exports : List (List ℕ × Tree)) (forms : List Tree) (codes : Codes) (r : CompiledLibrary)
+    → IsNewAmong (libraries_of records) own → Each (RecordHasOnly HasEvents (libraries_of records)) records
+    → CodesHold (HasOnly HasEvents (libraries_of records)) codes → Each WasRead forms → Each (λ (e : List ℕ × Tree). WasRead e.1) exports
     → library_record (ready own path records imports codes) records version place exports forms ≡ Ok r
-    → RunIsRight (libraries_of records) own records (started own records imports codes) (body_of (ready own path records imports codes) version place) exports forms r
+    → RunIsRight (libraries_of records) own records (started own records imports codes)
+    (body_of (ready own path records imports codes) version place) exports forms r

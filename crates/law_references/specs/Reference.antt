@@ -26,6 +26,7 @@ pub record NamesItsBinder (s : State) (p : Option Span) (x : List ℕ) (k : Leaf
 
 -- Each identifier that an expansion comes to, whatever form it lies in, becomes such a reference, or it is a use of a keyword.
 abbrev pub ReferencesAreHygienic : Type 0
-ReferencesAreHygienic = (libs : List LibName) (own : LibName) (n : ℕ) (records : List CompiledLibrary) (room : ℕ) (place : Span) (level depth : ℕ) (p : Option Span) (x : List ℕ) (k : LeafContext) (s u : State) (c : PlainCore)
+ReferencesAreHygienic = (libs : List LibName) (own : LibName) (n : ℕ) (records : List CompiledLibrary) (room : ℕ) (place : Span)
+    (level depth : ℕ) (p : Option Span) (x : List ℕ) (k : LeafContext) (s u : State) (c : PlainCore)
     → (h : HasKnownEvents libs own n k) → (inside records room).form place level depth (leaf p x k) s ≡ Ok (c, u)
     → (NamesItsBinder s p x k h.marks h.events c × (u ≡ linked_code (leaf p x k) c s)) ⊎ IsUse s (leaf p x k)

@@ -73,7 +73,8 @@ is_one (vector p d) = false
 -- The pattern variables of a template, of a level, in the order of the leaves that stand for them, each with the template at this place that has no more than it.
 module _ (s : State) (place : Span) (level : ℕ) where
   abbrev pub of_binding : Tree → Label → Option Binding → List Reference
-  of_binding t l (Some (binding.PatternVariable at depth)) = if nat_eq at level then record { leaf = t; state = s; label = l; code = instance (template.variable l depth) place } ∷ [] else []
+  of_binding t l (Some (binding.PatternVariable at depth)) = if nat_eq at level then
+      record { leaf = t; state = s; label = l; code = instance (template.variable l depth) place } ∷ [] else []
   of_binding t l _ = []
 
   abbrev pub of_label : Tree → Option Label → List Reference

@@ -46,7 +46,8 @@ pub record IsCaptured (libs : List LibName) (own : LibName) (n : ℕ) (u : State
 
 -- the template that has no more than this pattern variable
 abbrev pub IsOnlyVariable : State → Label → PlainCore → Type 0
-IsOnlyVariable s l c = (level : ℕ) × ((depth : ℕ) × ((place : Span) × ((bound_to s.bindings l ≡ Some (binding.PatternVariable level depth)) × (c ≡ instance (template.variable l depth) place))))
+IsOnlyVariable s l c = (level : ℕ) × ((depth : ℕ) × ((place : Span)
+    × ((bound_to s.bindings l ≡ Some (binding.PatternVariable level depth)) × (c ≡ instance (template.variable l depth) place))))
 
 -- A reference, or a pattern variable of a template, names what its identifier stood for when it was taken, and stands for in this later state.
 pub record IsRightReference (libs : List LibName) (own : LibName) (u : State) (r : Reference) : Type 0 where
@@ -76,7 +77,9 @@ pub record Tells (libs : List LibName) (own : LibName) (c : PlainCore) (s u : St
 
 -- So it is of each form that the expansion of a new library comes to.
 abbrev pub FormsAreHygienic : Type 0
-FormsAreHygienic = (libs : List LibName) (own : LibName) (records : List CompiledLibrary) (room : ℕ) (place : Span) (level depth : ℕ) (t : Tree) (s u : State) (c : PlainCore) → Among libs library.Core → IsNewAmong libs own
-    → FreshStateHolds own (IsKnown libs own) (HasKnownEvents libs own) s.names.number s → RecordsHold (HasKnownEvents libs own s.names.number) records → TreeHolds (HasKnownEvents libs own s.names.number) t
+FormsAreHygienic = (libs : List LibName) (own : LibName) (records : List CompiledLibrary) (room : ℕ) (place : Span) (level depth : ℕ)
+    (t : Tree) (s u : State) (c : PlainCore) → Among libs library.Core → IsNewAmong libs own
+    → FreshStateHolds own (IsKnown libs own) (HasKnownEvents libs own) s.names.number s
+    → RecordsHold (HasKnownEvents libs own s.names.number) records → TreeHolds (HasKnownEvents libs own s.names.number) t
     → (inside records room).form place level depth t s ≡ Ok (c, u)
     → (x : Noted) × (Expands records place level t s c u x × Tells libs own c s u x)

@@ -48,16 +48,19 @@ pub data HasLength : PlainBinds → ℕ → Type 0 where
 
 mutual
   pub data AreLengths (binds : Binds) (turns : List ℕ) : ℕ → PlainTemplate → List ℕ → Type 0 where
-    long_variable : {inside depth n : ℕ} {l : Label} {bs : PlainBinds} → inside < depth → IsSeen binds l (depth - suc inside) turns (many bs) → HasLength bs n → AreLengths binds turns inside (variable l depth) (n ∷ [])
+    long_variable : {inside depth n : ℕ} {l : Label} {bs : PlainBinds} → inside < depth
+        → IsSeen binds l (depth - suc inside) turns (many bs) → HasLength bs n → AreLengths binds turns inside (variable l depth) (n ∷ [])
     short_variable : {inside depth : ℕ} {l : Label} → depth ≤ inside → AreLengths binds turns inside (variable l depth) []
     of_constant : {inside : ℕ} {t : tree.Tree} → AreLengths binds turns inside (constant t) []
-    of_list : {inside : ℕ} {is : PlainItems} {t : PlainTemplate} {ms ns : List ℕ} → AreItemLengths binds turns inside is ms → AreLengths binds turns inside t ns → AreLengths binds turns inside (list is t) (ms ++ ns)
+    of_list : {inside : ℕ} {is : PlainItems} {t : PlainTemplate} {ms ns : List ℕ} → AreItemLengths binds turns inside is ms
+        → AreLengths binds turns inside t ns → AreLengths binds turns inside (list is t) (ms ++ ns)
     of_vector : {inside : ℕ} {is : PlainItems} {ms : List ℕ} → AreItemLengths binds turns inside is ms → AreLengths binds turns inside (vector is) ms
 
   pub data AreItemLengths (binds : Binds) (turns : List ℕ) : ℕ → PlainItems → List ℕ → Type 0 where
     of_none : {inside : ℕ} → AreItemLengths binds turns inside none []
     of_more : {inside ellipses : ℕ} {t : PlainTemplate} {is : PlainItems} {ms ns : List ℕ}
-        → AreLengths binds turns (inside + ellipses) t ms → AreItemLengths binds turns inside is ns → AreItemLengths binds turns inside (more t ellipses is) (ms ++ ns)
+        → AreLengths binds turns (inside + ellipses) t ms → AreItemLengths binds turns inside is ns
+        → AreItemLengths binds turns inside (more t ellipses is) (ms ++ ns)
 
 abbrev pub AllAre : ℕ → List ℕ → Type 0
 AllAre n [] = Unit {0}
@@ -73,7 +76,8 @@ pub data IsAgreed : ℕ → List ℕ → Type 0 where
 -- values in pairs of the store, and what ends them
 pub data IsListed (cells : List Cell) : List Value → Value → Value → Type 0 where
   listed_none : {w : Value} → IsListed cells [] w w
-  listed_pair : {p : Place} {x d w : Value} {xs : List Value} → pair_at cells p.0 ≡ Some (x, d) → IsListed cells xs w d → IsListed cells (x ∷ xs) w (value.Pair p)
+  listed_pair : {p : Place} {x d w : Value} {xs : List Value} → pair_at cells p.0 ≡ Some (x, d) → IsListed cells xs w d
+      → IsListed cells (x ∷ xs) w (value.Pair p)
 
 -- the constant `()`
 pub data IsNil : PlainTemplate → Type 0 where
@@ -87,7 +91,8 @@ mutual
     itself : {turns : List ℕ} {t : tree.Tree} → IsInstance binds cells turns (constant t) (value.Syn t)
     as_list : {turns : List ℕ} {is : PlainItems} {t : PlainTemplate} {xs : List Value} {w v : Value}
         → AreInstances binds cells turns is xs → IsEnd binds cells turns t w → IsListed cells xs w v → IsInstance binds cells turns (list is t) v
-    as_vector : {turns : List ℕ} {is : PlainItems} {xs : List Value} {p : Place} → AreInstances binds cells turns is xs → vector_at cells p.0 ≡ Some xs → IsInstance binds cells turns (vector is) (value.Vector p)
+    as_vector : {turns : List ℕ} {is : PlainItems} {xs : List Value} {p : Place} → AreInstances binds cells turns is xs
+        → vector_at cells p.0 ≡ Some xs → IsInstance binds cells turns (vector is) (value.Vector p)
 
   -- a list ends in the empty list itself
   pub data IsEnd (binds : Binds) (cells : List Cell) : List ℕ → PlainTemplate → Value → Type 0 where
@@ -103,13 +108,15 @@ mutual
   pub data AreRepeated (binds : Binds) (cells : List Cell) : List ℕ → PlainTemplate → ℕ → List Value → Type 0 where
     no_ellipsis : {turns : List ℕ} {t : PlainTemplate} {v : Value} → IsInstance binds cells turns t v → AreRepeated binds cells turns t 0 (v ∷ [])
     an_ellipsis : {turns : List ℕ} {t : PlainTemplate} {ellipses n : ℕ} {ns : List ℕ} {xs : List Value}
-        → AreLengths binds turns ellipses t ns → IsAgreed n ns → AreTurns binds cells turns t ellipses n 0 xs → AreRepeated binds cells turns t (suc ellipses) xs
+        → AreLengths binds turns ellipses t ns → IsAgreed n ns → AreTurns binds cells turns t ellipses n 0 xs
+        → AreRepeated binds cells turns t (suc ellipses) xs
 
   -- so many turns, from the i-th on
   pub data AreTurns (binds : Binds) (cells : List Cell) : List ℕ → PlainTemplate → ℕ → ℕ → ℕ → List Value → Type 0 where
     no_turn : {turns : List ℕ} {t : PlainTemplate} {ellipses i : ℕ} → AreTurns binds cells turns t ellipses 0 i []
     a_turn : {turns : List ℕ} {t : PlainTemplate} {ellipses n i : ℕ} {xs ys : List Value}
-        → AreRepeated binds cells (turns ++ i ∷ []) t ellipses xs → AreTurns binds cells turns t ellipses n (i + 1) ys → AreTurns binds cells turns t ellipses (suc n) i (xs ++ ys)
+        → AreRepeated binds cells (turns ++ i ∷ []) t ellipses xs → AreTurns binds cells turns t ellipses n (i + 1) ys
+        → AreTurns binds cells turns t ellipses (suc n) i (xs ++ ys)
 
 -- a template with so many ellipses behind it, somewhere in another
 mutual
@@ -143,4 +150,5 @@ IsGiven binds t cells (Ok r) = Keeps cells r.1 × IsInstance binds r.1 [] t r.0
 IsGiven binds t cells (Err f) = IsUneven binds t f
 
 abbrev pub InstancesAreGiven : Type 0
-InstancesAreGiven = (absent : Absent) (binds : Binds) (t : PlainTemplate) (cells : List Cell) → Ready binds 0 t → IsGiven binds t cells (instance absent binds t [] cells)
+InstancesAreGiven = (absent : Absent) (binds : Binds) (t : PlainTemplate) (cells : List Cell) → Ready binds 0 t
+    → IsGiven binds t cells (instance absent binds t [] cells)

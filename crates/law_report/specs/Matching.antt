@@ -86,9 +86,11 @@ mutual
     same_atom : {a : Atom} {v : Value} → IsAtom cells a v → MatchesPattern fs cells (pattern.atom a) v [] 0
     -- `(pattern ... . pattern)`, with an ellipsis or without
     fills_list : {ps : PlainPatterns} {t : PlainPattern} {v r : Value} {xs : List Value} {bs cs : Bindings} {m n : ℕ}
-        → Begins cells xs r v → IsLast cells ps r → FillsElements fs cells ps xs bs m → MatchesPattern fs cells t r cs n → MatchesPattern fs cells (list ps t) v (bs ++ cs) (m + n)
+        → Begins cells xs r v → IsLast cells ps r → FillsElements fs cells ps xs bs m → MatchesPattern fs cells t r cs n
+        → MatchesPattern fs cells (list ps t) v (bs ++ cs) (m + n)
     -- `#(pattern ...)`
-    fills_vector : {ps : PlainPatterns} {v : Value} {xs : List Value} {bs : Bindings} {n : ℕ} → IsVectorValue cells xs v → FillsElements fs cells ps xs bs n → MatchesPattern fs cells (pattern.vector ps) v bs n
+    fills_vector : {ps : PlainPatterns} {v : Value} {xs : List Value} {bs : Bindings} {n : ℕ} → IsVectorValue cells xs v
+        → FillsElements fs cells ps xs bs n → MatchesPattern fs cells (pattern.vector ps) v bs n
 
   -- elements by patterns: the last ones by those behind an ellipsis, one each, and all between by the repeated one
   pub data FillsElements (fs : Scope) (cells : List Cell) : PlainPatterns → List Value → Bindings → ℕ → Type 0 where

@@ -1,4 +1,4 @@
-//! MatchesPattern and instances in the words of the report (R6RS libraries 12.4).
+//! Matches and instances in the words of the report (R6RS libraries 12.4).
 //!
 //! `law_matches` and `law_templates` prove what matching and instances do, in terms that the matcher has too: whether an
 //! identifier is like a literal, which atom a value is. Here each of these is said by cases of its own, so that a definition

@@ -43,7 +43,8 @@ KeptAreFitting files roots s = (dir : List ℕ) (groups : List Group) → AreGro
 
 -- what expansion gives a library can stand behind the records before it
 abbrev pub MakesWhatSuits : RunBase → List CompiledLibrary → Found → Type 0
-MakesWhatSuits base others f = (r : CompiledLibrary) → expand_behind base others f (library_body f.opened.«data») ≡ Ok r → suits (base.derived ∷ others) f r ≡ true
+MakesWhatSuits base others f = (r : CompiledLibrary) → expand_behind base others f (library_body f.opened.«data») ≡ Ok r
+    → suits (base.derived ∷ others) f r ≡ true
 
 -- then over an honest store the record of such an entry is what the store has
 abbrev pub FittingAreReused : RunBase → Paths → List (List ℕ) → Loading → Type 0

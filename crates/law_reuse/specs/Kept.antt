@@ -40,12 +40,14 @@ module _ (k : CacheInputs) where
 
 -- of each library that has a record, where it is alone in its place and its entry can be kept
 abbrev pub HoldsEntries : CacheInputs → RunBase → Paths → List (List ℕ) → Loading → Paths → Type 0
-HoldsEntries k base files roots s store = (others : List CompiledLibrary) (f : Found) (r : CompiledLibrary) → IsNextLibrary base (group_of files roots) s.done others f
+HoldsEntries k base files roots s store = (others : List CompiledLibrary) (f : Found) (r : CompiledLibrary)
+    → IsNextLibrary base (group_of files roots) s.done others f
     → expand_behind base others f (library_body f.opened.«data») ≡ Ok r → IsAlone k s.done f → CanBeKept k f r → HoldsShortEntry k store f r
 
 -- where no call of the store fails, over an honest store
 pub record EntriesAreKept (base : RunBase) (files : Paths) (roots : List (List ℕ)) (s : Loading) : Type 0 where
-  pub taken : (dir : List ℕ) (groups : List Group) → AreGroups (groups_from 0 0 s.sources) s.begun s.done groups → (before : Paths) (faults : ℕ) (last : TurnState)
+  pub taken : (dir : List ℕ) (groups : List Group) → AreGroups (groups_from 0 0 s.sources) s.begun s.done groups
+      → (before : Paths) (faults : ℕ) (last : TurnState)
       → ReuseTurns (kept dir roots s groups) base.prelude (state (begun base.derived) before faults) (found_in s.done) last → IsHonest base.prelude before
       → Quiet faults last.faults
       → HoldsEntries (kept dir roots s groups) base files roots s last.store
@@ -59,7 +61,8 @@ pub record EntriesAreKept (base : RunBase) (files : Paths) (roots : List (List �
 abbrev pub AllButFailedAreKept : RunBase → Paths → List (List ℕ) → Loading → Type 0
 AllButFailedAreKept base files roots s = (dir : List ℕ) (groups : List Group) → AreGroups (groups_from 0 0 s.sources) s.begun s.done groups
     → (before : Paths) (faults : ℕ) (last : TurnState)
-    → (turns : ReuseTurns (kept dir roots s groups) base.prelude (state (begun base.derived) before faults) (found_in s.done) last) → IsHonest base.prelude before
+    → (turns : ReuseTurns (kept dir roots s groups) base.prelude (state (begun base.derived) before faults) (found_in s.done) last)
+    → IsHonest base.prelude before
     → TurnsHonestly (kept dir roots s groups) base.prelude turns
     → (others : List CompiledLibrary) (f : Found) (r : CompiledLibrary) → IsNextLibrary base (group_of files roots) s.done others f
     → expand_behind base others f (library_body f.opened.«data») ≡ Ok r

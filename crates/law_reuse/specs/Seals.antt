@@ -31,7 +31,8 @@ module _ (k : CacheInputs) (prelude : Result Codes Fault) where
   TurnsHonestly done = Unit {0}
   TurnsHonestly (next turn turns) = TurnIsHonest turn × TurnsHonestly turns
 
-  abbrev pub StopsHonestly : {fault : Fault} {store : Paths} {faults : ℕ} {s : TurnState} {fs : List Found} → TurnsStop k prelude fault store faults s fs → Type 0
+  abbrev pub StopsHonestly : {fault : Fault} {store : Paths} {faults : ℕ} {s : TurnState} {fs : List Found}
+      → TurnsStop k prelude fault store faults s fs → Type 0
   StopsHonestly (here at) = Unit {0}
   StopsHonestly (later turn stops) = TurnIsHonest turn × StopsHonestly stops
 

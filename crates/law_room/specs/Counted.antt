@@ -180,7 +180,8 @@ all_left (r ∷ rs) s = left r s (all_left rs (next r s))
 -- these stand round a form, each in the state in which it is expanded
 pub data AreRound (place : Span) (level : ℕ) : State → List Round → Type 0 where
   innermost : {s : State} → AreRound place level s []
-  round : {s : State} {r : Round} {rs : List Round} → IsRound place level s r rs → AreRound place level (next r s) (rounds_within r s rs) → AreRound place level s (r ∷ rs)
+  round : {s : State} {r : Round} {rs : List Round} → IsRound place level s r rs → AreRound place level (next r s) (rounds_within r s rs)
+      → AreRound place level s (r ∷ rs)
 
 abbrev pub truth : Tree
 truth = atom None (atoms.Bool true)
@@ -221,8 +222,10 @@ code_in place (r ∷ rs) s c = code place r s (code_in place rs (next r s) c)
 
 pub record FormsCountOnce : Type 0 where
   -- A constant in 600 of them is taken,
-  pub taken : (records : List CompiledLibrary) (place : Span) (level : ℕ) (rs : List Round) (o : Option Span) (a : Atom) (s : State) → AreRound place level s rs → length rs ≤ most_round → is_nil_atom a ≡ false
+  pub taken : (records : List CompiledLibrary) (place : Span) (level : ℕ) (rs : List Round) (o : Option Span) (a : Atom) (s : State)
+      → AreRound place level s rs → length rs ≤ most_round → is_nil_atom a ≡ false
       → expression records place level (put_in rs (atom o a)) s ≡ Ok (code_in place rs s (quoted (strip (atom o a))), all_left rs s)
   -- and any form in 601 of them is TooDeep, unless it is an identifier, which might be a keyword where it is an operator.
-  pub refused : (records : List CompiledLibrary) (place : Span) (level : ℕ) (rs : List Round) (t : Tree) (s : State) → AreRound place level s rs → length rs ≡ most_round + 1 → is_leaf t ≡ false
+  pub refused : (records : List CompiledLibrary) (place : Span) (level : ℕ) (rs : List Round) (t : Tree) (s : State)
+      → AreRound place level s rs → length rs ≡ most_round + 1 → is_leaf t ≡ false
       → expression records place level (put_in rs t) s ≡ fault_form kind.TooDeep t place s

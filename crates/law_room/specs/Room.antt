@@ -19,25 +19,30 @@ IsEnough room depth = full_room ≤ room + depth
 
 -- an expression
 abbrev pub FormsNeedNoMore : Type 0
-FormsNeedNoMore = (records : List CompiledLibrary) (room other : ℕ) (place : Span) (level depth : ℕ) (t : Tree) (s : State) → IsEnough room depth → IsEnough other depth
+FormsNeedNoMore = (records : List CompiledLibrary) (room other : ℕ) (place : Span) (level depth : ℕ) (t : Tree) (s : State)
+    → IsEnough room depth → IsEnough other depth
     → (inside records room).form place level depth t s ≡ (inside records other).form place level depth t s
 
 -- a form of a body, behind those that were taken
 abbrev pub ItemsNeedNoMore : Type 0
-ItemsNeedNoMore = (records : List CompiledLibrary) (room other : ℕ) (at : BodyAt) (depth : ℕ) (done : Taken) (t : Tree) (s : State) → IsEnough room depth → IsEnough other depth
+ItemsNeedNoMore = (records : List CompiledLibrary) (room other : ℕ) (at : BodyAt) (depth : ℕ) (done : Taken) (t : Tree) (s : State)
+    → IsEnough room depth → IsEnough other depth
     → (inside records room).item at depth done t s ≡ (inside records other).item at depth done t s
 
 -- the case of a procedure that a form at this depth defines; it stands one deeper
 abbrev pub CasesNeedNoMore : Type 0
-CasesNeedNoMore = (records : List CompiledLibrary) (room other : ℕ) (place : Span) (level depth : ℕ) (t : Tree) (ids : FormalIds) (forms : List Tree) (s : State) → depth ≤ most_round → IsEnough room depth → IsEnough other depth
+CasesNeedNoMore = (records : List CompiledLibrary) (room other : ℕ) (place : Span) (level depth : ℕ) (t : Tree) (ids : FormalIds)
+    (forms : List Tree) (s : State) → depth ≤ most_round → IsEnough room depth → IsEnough other depth
     → (inside records room).procedure place level (depth + 1) t ids forms s ≡ (inside records other).procedure place level (depth + 1) t ids forms s
 
 -- the body of a procedure or `letrec`
 abbrev pub BodiesNeedNoMore : Type 0
-BodiesNeedNoMore = (records : List CompiledLibrary) (room other : ℕ) (place : Span) (level depth : ℕ) (t : Tree) (forms : List Tree) (s : State) → IsEnough room depth → IsEnough other depth
+BodiesNeedNoMore = (records : List CompiledLibrary) (room other : ℕ) (place : Span) (level depth : ℕ) (t : Tree) (forms : List Tree)
+    (s : State) → IsEnough room depth → IsEnough other depth
     → body (inside records room) place level depth t forms s ≡ body (inside records other) place level depth t forms s
 
 -- a library or program
 abbrev pub TopsNeedNoMore : Type 0
-TopsNeedNoMore = (records : List CompiledLibrary) (room other : ℕ) (at : TopAt) (exports : List (List ℕ × Tree)) (forms : List Tree) (s : State) → IsEnough room 0 → IsEnough other 0
+TopsNeedNoMore = (records : List CompiledLibrary) (room other : ℕ) (at : TopAt) (exports : List (List ℕ × Tree)) (forms : List Tree)
+    (s : State) → IsEnough room 0 → IsEnough other 0
     → top (inside records room) at exports forms s ≡ top (inside records other) at exports forms s

@@ -29,11 +29,13 @@ OwnFramesAreBound = (records : List CompiledLibrary) (room : ℕ) (place : Span)
 -- that is bound.
 abbrev pub NewLabelsAreUnbound : Type 0
 NewLabelsAreUnbound = (records : List CompiledLibrary) (room : ℕ) (place : Span) (level depth : ℕ) (t : Tree) (s u : State) (c : PlainCore)
-    → IsNumbered s.names.library s → (inside records room).form place level depth t s ≡ Ok (c, u) → IsNumbered s.names.library u × (bound_to u.bindings (record { 0 = u.names }) ≡ None)
+    → IsNumbered s.names.library s → (inside records room).form place level depth t s ≡ Ok (c, u)
+    → IsNumbered s.names.library u × (bound_to u.bindings (record { 0 = u.names }) ≡ None)
 
 -- so it is where the expansion of a library begins
 abbrev pub StartsAreNumbered : Type 0
-StartsAreNumbered = (own : LibName) (records : List CompiledLibrary) (imports : List (List ℕ × Label)) (codes : Codes) → IsReady own records → IsNumbered own (started own records imports codes)
+StartsAreNumbered = (own : LibName) (records : List CompiledLibrary) (imports : List (List ℕ × Label)) (codes : Codes)
+    → IsReady own records → IsNumbered own (started own records imports codes)
 
 -- So a record that expansion gives binds no label twice, and where no name is imported twice, no two of its rows have one frame,
 -- symbol and marks. (The names of the implementation itself are expanded from no library.)
@@ -44,4 +46,5 @@ pub record IsOnceOver (r : CompiledLibrary) : Type 0 where
 abbrev pub RecordsAreOnceOver : Type 0
 RecordsAreOnceOver = (own : LibName) (path : List ℕ) (records : List CompiledLibrary) (imports : List (List ℕ × Label)) (version : List ℕ) (place : Span)
     (exports : List (List ℕ × Tree)) (forms : List Tree) (codes : Codes) (r : CompiledLibrary)
-    → IsReady own records → (own ≡ library.Core → ⊥) → IsOnce imports → library_record (ready own path records imports codes) records version place exports forms ≡ Ok r → IsOnceOver r
+    → IsReady own records → (own ≡ library.Core → ⊥) → IsOnce imports
+    → library_record (ready own path records imports codes) records version place exports forms ≡ Ok r → IsOnceOver r

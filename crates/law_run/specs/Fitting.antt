@@ -36,7 +36,8 @@ AllFit earlier (r ∷ rs) = Fits earlier r × AllFit (earlier ++ r ∷ []) rs
 
 -- so it is with the records of every run
 abbrev pub RecordsFit : Type 0
-RecordsFit = (prelude : Result Codes Fault) (files : Paths) (roots : List (List ℕ)) (path : List ℕ) (found : Found) (s : Loading) (records : List CompiledLibrary) (program : CompiledLibrary)
+RecordsFit = (prelude : Result Codes Fault) (files : Paths) (roots : List (List ℕ)) (path : List ℕ) (found : Found) (s : Loading)
+    (records : List CompiledLibrary) (program : CompiledLibrary)
     → IsRun prelude files roots path found s records program → AllFit [] records
 
 -- The expansion of a library behind these records, with these names: none of them has its name; the frame of what record forms introduce, and
@@ -49,10 +50,14 @@ pub record BeginsApart (behind : List CompiledLibrary) (name : LibName) (names :
 
 -- so it is with each library that is loaded, behind those before it that it needs, and with the program
 pub record AllBegin (found : Found) (s : Loading) (records : List CompiledLibrary) : Type 0 where
-  pub each : (before after : List CompiledLibrary) (i : ℕ) (file : List ℕ) (f : Found) (names : Labelled) → records ≡ before ++ after → length before ≡ suc i → IsAt s.done i file f
-      → form_names (needed_records before (true ∷ f.needs)) f.opened.form.imports ≡ Ok names → BeginsApart (needed_records before (true ∷ f.needs)) f.opened.form.name names
-  pub last : (names : Labelled) → form_names (needed_records records (true ∷ found.needs)) found.opened.form.imports ≡ Ok names → BeginsApart (needed_records records (true ∷ found.needs)) library.Program names
+  pub each : (before after : List CompiledLibrary) (i : ℕ) (file : List ℕ) (f : Found) (names : Labelled) → records ≡ before ++ after
+      → length before ≡ suc i → IsAt s.done i file f
+      → form_names (needed_records before (true ∷ f.needs)) f.opened.form.imports ≡ Ok names
+      → BeginsApart (needed_records before (true ∷ f.needs)) f.opened.form.name names
+  pub last : (names : Labelled) → form_names (needed_records records (true ∷ found.needs)) found.opened.form.imports ≡ Ok names
+      → BeginsApart (needed_records records (true ∷ found.needs)) library.Program names
 
 abbrev pub ExpansionsBegin : Type 0
-ExpansionsBegin = (prelude : Result Codes Fault) (files : Paths) (roots : List (List ℕ)) (path : List ℕ) (found : Found) (s : Loading) (records : List CompiledLibrary) (program : CompiledLibrary)
+ExpansionsBegin = (prelude : Result Codes Fault) (files : Paths) (roots : List (List ℕ)) (path : List ℕ) (found : Found) (s : Loading)
+    (records : List CompiledLibrary) (program : CompiledLibrary)
     → IsRun prelude files roots path found s records program → AllBegin found s records

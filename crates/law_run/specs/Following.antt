@@ -25,22 +25,26 @@ pub record DoFollow (found : Found) (s : Loading) (records : List CompiledLibrar
   pub first : Follows derived []
   -- each library has its record, in the order of loading, which follows those that the library needs
   pub as_many : length others ≡ length s.done
-  pub each : (i : ℕ) (file : List ℕ) (f : Found) (r : CompiledLibrary) → IsAt s.done i file f → slice_get others i ≡ Some r → Follows r (derived ∷ records_at others (needed f))
+  pub each : (i : ℕ) (file : List ℕ) (f : Found) (r : CompiledLibrary) → IsAt s.done i file f → slice_get others i ≡ Some r
+      → Follows r (derived ∷ records_at others (needed f))
   pub last : Follows program (derived ∷ records_at others (needed found))
   -- and each follows all that stand before it
   pub all : AllFollow [] (records ++ program ∷ [])
 
 -- so it is in every run
 abbrev pub RecordsFollowInRuns : Type 0
-RecordsFollowInRuns = (prelude : Result Codes Fault) (files : Paths) (roots : List (List ℕ)) (path : List ℕ) (found : Found) (s : Loading) (records : List CompiledLibrary) (program : CompiledLibrary)
+RecordsFollowInRuns = (prelude : Result Codes Fault) (files : Paths) (roots : List (List ℕ)) (path : List ℕ) (found : Found) (s : Loading)
+    (records : List CompiledLibrary) (program : CompiledLibrary)
     → IsRun prelude files roots path found s records program → DoFollow found s records program
 
 -- all that its records make has a name of its own
 abbrev pub RunsNameOnce : Type 0
-RunsNameOnce = (prelude : Result Codes Fault) (files : Paths) (roots : List (List ℕ)) (path : List ℕ) (found : Found) (s : Loading) (records : List CompiledLibrary) (program : CompiledLibrary)
+RunsNameOnce = (prelude : Result Codes Fault) (files : Paths) (roots : List (List ℕ)) (path : List ℕ) (found : Found) (s : Loading)
+    (records : List CompiledLibrary) (program : CompiledLibrary)
     → IsRun prelude files roots path found s records program → NameOnce (records ++ program ∷ [])
 
 -- and all that they mention is known
 abbrev pub RunsMentionTheKnown : Type 0
-RunsMentionTheKnown = (prelude : Result Codes Fault) (files : Paths) (roots : List (List ℕ)) (path : List ℕ) (found : Found) (s : Loading) (records : List CompiledLibrary) (program : CompiledLibrary)
+RunsMentionTheKnown = (prelude : Result Codes Fault) (files : Paths) (roots : List (List ℕ)) (path : List ℕ) (found : Found) (s : Loading)
+    (records : List CompiledLibrary) (program : CompiledLibrary)
     → IsRun prelude files roots path found s records program → Each (MentionsTheKnown (records ++ program ∷ [])) (records ++ program ∷ [])

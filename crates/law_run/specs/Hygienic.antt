@@ -47,14 +47,16 @@ FormsWereRead = (place : Span) (body : List PlainDatum) (forms : List Tree) → 
 
 -- A library is expanded behind these records: what its imports name is known, the forms of its body are trees; and the references of its record
 -- are those of identifiers of this expansion, each of which names what it stood for, and both sentences of hygiene hold of it.
-pub record IsHygienicBehind (prelude : Result Codes Fault) (records : List CompiledLibrary) (path : List ℕ) (form : LibraryForm) (body : List PlainDatum) (r : CompiledLibrary) : Type 0 where
+pub record IsHygienicBehind (prelude : Result Codes Fault) (records : List CompiledLibrary) (path : List ℕ) (form : LibraryForm)
+    (body : List PlainDatum) (r : CompiledLibrary) : Type 0 where
   pub names : Labelled
   pub named : form_names records form.imports ≡ Ok names
   pub forms : List Tree
   pub read : trees_at form.name_span [] body ≡ Ok forms
   pub table : Codes
   pub given : prelude ≡ Ok table
-  pub right : RunIsRight (libraries_of records) form.name records (started form.name records names table) (body_of (ready form.name path records names table) form.version form.name_span) (map export_tree form.exports) forms r
+  pub right : RunIsRight (libraries_of records) form.name records (started form.name records names table)
+      (body_of (ready form.name path records names table) form.version form.name_span) (map export_tree form.exports) forms r
 
 -- so is the derived library, behind none
 pub record IsHygienicDerived (prelude : Result Codes Fault) (r : CompiledLibrary) : Type 0 where
@@ -62,7 +64,8 @@ pub record IsHygienicDerived (prelude : Result Codes Fault) (r : CompiledLibrary
   pub read : forms_of DERIVED_SOURCE.now ≡ Ok forms
   pub table : Codes
   pub given : prelude ≡ Ok table
-  pub right : RunIsRight (libraries_of []) library.Derived [] (started library.Derived [] derived_names.names table) (body_of (ready library.Derived derived_names.path [] derived_names.names table) [] derived_names.start) (derived_names.exports_of derived) forms r
+  pub right : RunIsRight (libraries_of []) library.Derived [] (started library.Derived [] derived_names.names table)
+      (body_of (ready library.Derived derived_names.path [] derived_names.names table) [] derived_names.start) (derived_names.exports_of derived) forms r
 
 -- The records of the derived library and of libraries, each behind those that it needs.
 pub record AllHygienic (prelude : Result Codes Fault) (rows : List (List ℕ × Found)) (derived : CompiledLibrary) (others : List CompiledLibrary) : Type 0 where
@@ -79,9 +82,11 @@ pub record PartIsHygienic (prelude : Result Codes Fault) (rows : List (List ℕ 
   pub all : AllHygienic prelude rows derived others
 
 -- and those of a run, with that of the program
-pub record RunIsHygienic (prelude : Result Codes Fault) (found : Found) (s : Loading) (records : List CompiledLibrary) (program : CompiledLibrary) : Type 0 where
+pub record RunIsHygienic (prelude : Result Codes Fault) (found : Found) (s : Loading) (records : List CompiledLibrary)
+    (program : CompiledLibrary) : Type 0 where
   pub libraries : PartIsHygienic prelude s.done records
-  pub last : IsHygienicBehind prelude (libraries.derived ∷ records_at libraries.others (needed found)) found.opened.path found.opened.form (program_body found.opened.«data») program
+  pub last : IsHygienicBehind prelude (libraries.derived ∷ records_at libraries.others (needed found)) found.opened.path found.opened.form
+      (program_body found.opened.«data») program
 
 -- So it is in every part of a run, also where a later library is at fault.
 abbrev pub PartsAreHygienic : Type 0
@@ -90,5 +95,6 @@ PartsAreHygienic = (files : Paths) (roots : List (List ℕ)) (path : List ℕ) (
 
 -- So it is in every run.
 abbrev pub RunsAreHygienic : Type 0
-RunsAreHygienic = (files : Paths) (roots : List (List ℕ)) (path : List ℕ) (found : Found) (s : Loading) (records : List CompiledLibrary) (program : CompiledLibrary)
+RunsAreHygienic = (files : Paths) (roots : List (List ℕ)) (path : List ℕ) (found : Found) (s : Loading) (records : List CompiledLibrary)
+    (program : CompiledLibrary)
     → IsRun prelude_table files roots path found s records program → RunIsHygienic prelude_table found s records program

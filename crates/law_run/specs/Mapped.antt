@@ -10,8 +10,10 @@ use Rattle.run_command.specs.declared.job.Kind.TheVariants.{Core, Xref}
 
 -- a fault in place of a map is the fault in place of the core text
 abbrev pub MapFaultsAreFaults : Type 0
-MapFaultsAreFaults = (prelude : Result Codes Fault) (loaded : Loads (Found × Loading)) (f : Fault) → text_by Xref prelude loaded ≡ Err f → text_by Core prelude loaded ≡ Err f
+MapFaultsAreFaults = (prelude : Result Codes Fault) (loaded : Loads (Found × Loading)) (f : Fault) → text_by Xref prelude loaded ≡ Err f
+    → text_by Core prelude loaded ≡ Err f
 
 -- and where there is a core text, there is a map
 abbrev pub TextsHaveMaps : Type 0
-TextsHaveMaps = (prelude : Result Codes Fault) (loaded : Loads (Found × Loading)) (text : List ℕ) → text_by Core prelude loaded ≡ Ok text → (written : List ℕ) × (text_by Xref prelude loaded ≡ Ok written)
+TextsHaveMaps = (prelude : Result Codes Fault) (loaded : Loads (Found × Loading)) (text : List ℕ) → text_by Core prelude loaded ≡ Ok text
+    → (written : List ℕ) × (text_by Xref prelude loaded ≡ Ok written)

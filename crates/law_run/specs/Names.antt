@@ -27,7 +27,8 @@ abbrev mutual
   NamesClosed names ns (assignment l c) = Among ns (name_of names l) × NamesClosed names ns c
   NamesClosed names ns (sequence cs) = AllNamesClosed names ns cs
   NamesClosed names ns (procedure n cs p) = CaseNamesClosed names ns cs
-  NamesClosed names ns (letrec o is c) = InitNamesClosed names (names_for names (init_labels is) ++ ns) is × NamesClosed names (names_for names (init_labels is) ++ ns) c
+  NamesClosed names ns (letrec o is c) = InitNamesClosed names (names_for names (init_labels is) ++ ns) is
+      × NamesClosed names (names_for names (init_labels is) ++ ns) c
   NamesClosed names ns (call c cs) = NamesClosed names ns c × AllNamesClosed names ns cs
   NamesClosed names ns (instance t s) = ⊥
   NamesClosed names ns (matching c cs s) = ⊥

@@ -47,15 +47,18 @@ module _ (own : LibName) (texts : List CodeNo) (records : List CompiledLibrary) 
 
   -- what is done with such a test of all that is begun inside it, from a whole state on
   abbrev pub TestsWhole : {A : Type 0} → (Inside → Does A) → Type 0
-  TestsWhole m = (test : State → Bool) (room : ℕ) (s : State) → PassesWhole test → IsWholeState own texts records s → StaysWhole own texts records (m (with_entry_test own test (inside records room)) s)
+  TestsWhole m = (test : State → Bool) (room : ℕ) (s : State) → PassesWhole test → IsWholeState own texts records s
+      → StaysWhole own texts records (m (with_entry_test own test (inside records room)) s)
 
 -- Whatever form is expanded in a whole state, or procedure that a definition binds: each form, procedure and form of a body that is begun directly
 -- inside it, begins in a state that passes any test that whole states pass, and a form of a body binds in a frame of the library.
 abbrev pub FormsBeginWhole : Type 0
-FormsBeginWhole = (own : LibName) (texts : List CodeNo) (records : List CompiledLibrary) (place : Span) (level depth : ℕ) (t : Tree) → TestsWhole own texts records (λ go. form_at go place level depth t)
+FormsBeginWhole = (own : LibName) (texts : List CodeNo) (records : List CompiledLibrary) (place : Span) (level depth : ℕ) (t : Tree)
+    → TestsWhole own texts records (λ go. form_at go place level depth t)
 
 abbrev pub ProceduresBeginWhole : Type 0
-ProceduresBeginWhole = (own : LibName) (texts : List CodeNo) (records : List CompiledLibrary) (place : Span) (level depth : ℕ) (t : Tree) (ids : FormalIds) (forms : List Tree)
+ProceduresBeginWhole = (own : LibName) (texts : List CodeNo) (records : List CompiledLibrary) (place : Span) (level depth : ℕ) (t : Tree)
+    (ids : FormalIds) (forms : List Tree)
     → TestsWhole own texts records (λ go. lambda_case go place level depth t ids forms)
 
 -- so it is inside the body of a library or program
@@ -80,6 +83,8 @@ pub record IsSpared (own : LibName) (s : State) (l : Label) : Type 0 where
 
 -- And so it is inside a form of a body, of which so much was taken before.
 abbrev pub ItemsBeginWhole : Type 0
-ItemsBeginWhole = (own : LibName) (texts : List CodeNo) (records : List CompiledLibrary) (at : BodyAt) (depth : ℕ) (done : Taken) (t : Tree) (test : State → Bool) (room : ℕ) (s : State)
-    → at.frame.0.library ≡ own → (is_top at.kind ≡ true → at.level ≡ 0) → Each (IsSpared own s) (waiting_labels done.waiting) → PassesWhole own texts records test → IsWholeState own texts records s
+ItemsBeginWhole = (own : LibName) (texts : List CodeNo) (records : List CompiledLibrary) (at : BodyAt) (depth : ℕ) (done : Taken)
+    (t : Tree) (test : State → Bool) (room : ℕ) (s : State)
+    → at.frame.0.library ≡ own → (is_top at.kind ≡ true → at.level ≡ 0) → Each (IsSpared own s) (waiting_labels done.waiting)
+    → PassesWhole own texts records test → IsWholeState own texts records s
     → StaysWhole own texts records (item (with_entry_test own test (inside records room)) at depth done t s)

@@ -18,27 +18,33 @@ use Rattle.law_run.specs.Fitting.{AllFit, BeginsApart}
 
 -- A part of a run: loading came so far, to its end or to a fault; of the libraries that it loaded the first were expanded, and have these
 -- records. Nothing is said of those that are left.
-pub record IsPartOfRun (prelude : Result Codes Fault) (files : Paths) (roots : List (List ℕ)) (path : List ℕ) (s : Loading) (first left : List (List ℕ × Found)) (records : List CompiledLibrary) : Type 0 where
+pub record IsPartOfRun (prelude : Result Codes Fault) (files : Paths) (roots : List (List ℕ)) (path : List ℕ) (s : Loading)
+    (first left : List (List ℕ × Found)) (records : List CompiledLibrary) : Type 0 where
   pub loaded : loading_of (load files roots path) ≡ s
   pub parts : s.done ≡ first ++ left
   pub recorded : all_records prelude first ≡ Ok records
 
 -- its records fit
 abbrev pub PartsFit : Type 0
-PartsFit = (prelude : Result Codes Fault) (files : Paths) (roots : List (List ℕ)) (path : List ℕ) (s : Loading) (first left : List (List ℕ × Found)) (records : List CompiledLibrary)
+PartsFit = (prelude : Result Codes Fault) (files : Paths) (roots : List (List ℕ)) (path : List ℕ) (s : Loading)
+    (first left : List (List ℕ × Found)) (records : List CompiledLibrary)
     → IsPartOfRun prelude files roots path s first left records → AllFit [] records
 
 -- the expansion of the library that comes next begins so, whatever comes of it
 abbrev pub PartsBegin : Type 0
-PartsBegin = (prelude : Result Codes Fault) (files : Paths) (roots : List (List ℕ)) (path : List ℕ) (s : Loading) (first : List (List ℕ × Found)) (file : List ℕ) (f : Found)
+PartsBegin = (prelude : Result Codes Fault) (files : Paths) (roots : List (List ℕ)) (path : List ℕ) (s : Loading)
+    (first : List (List ℕ × Found)) (file : List ℕ) (f : Found)
     (left : List (List ℕ × Found)) (records : List CompiledLibrary) (names : Labelled)
-    → IsPartOfRun prelude files roots path s first ((file, f) ∷ left) records → form_names (needed_records records (true ∷ f.needs)) f.opened.form.imports ≡ Ok names
+    → IsPartOfRun prelude files roots path s first ((file, f) ∷ left) records
+    → form_names (needed_records records (true ∷ f.needs)) f.opened.form.imports ≡ Ok names
     → BeginsApart (needed_records records (true ∷ f.needs)) f.opened.form.name names
 
 -- and that of the program, where loading came to its end and each library was expanded
 abbrev pub ProgramsBegin : Type 0
-ProgramsBegin = (prelude : Result Codes Fault) (files : Paths) (roots : List (List ℕ)) (path : List ℕ) (found : Found) (s : Loading) (records : List CompiledLibrary) (names : Labelled)
-    → load files roots path ≡ Ok (found, s) → all_records prelude s.done ≡ Ok records → form_names (needed_records records (true ∷ found.needs)) found.opened.form.imports ≡ Ok names
+ProgramsBegin = (prelude : Result Codes Fault) (files : Paths) (roots : List (List ℕ)) (path : List ℕ) (found : Found) (s : Loading)
+    (records : List CompiledLibrary) (names : Labelled)
+    → load files roots path ≡ Ok (found, s) → all_records prelude s.done ≡ Ok records
+    → form_names (needed_records records (true ∷ found.needs)) found.opened.form.imports ≡ Ok names
     → BeginsApart (needed_records records (true ∷ found.needs)) library.Program names
 
 -- so does that of the derived library, which comes first

@@ -25,7 +25,8 @@ use Rattle.law_text.specs.Text.{text_of, IsClosedOnce}
 
 -- a program is loaded with all that it imports, directly or not; each library is expanded, and then the program. What procedures mean that
 -- are texts is given.
-pub record IsRun (prelude : Result Codes Fault) (files : Paths) (roots : List (List ℕ)) (path : List ℕ) (found : Found) (s : Loading) (records : List CompiledLibrary) (program : CompiledLibrary) : Type 0 where
+pub record IsRun (prelude : Result Codes Fault) (files : Paths) (roots : List (List ℕ)) (path : List ℕ) (found : Found) (s : Loading)
+    (records : List CompiledLibrary) (program : CompiledLibrary) : Type 0 where
   pub loaded : load files roots path ≡ Ok (found, s)
   pub recorded : all_records prelude s.done ≡ Ok records
   pub expanded : expand_found prelude records found (program_body found.opened.«data») ≡ Ok program
@@ -48,17 +49,20 @@ pub record AllStand (found : Found) (s : Loading) (records : List CompiledLibrar
   pub first : Stands [] library.Derived derived
   -- each library has its record, in the order of loading
   pub as_many : length others ≡ length s.done
-  pub each : (i : ℕ) (file : List ℕ) (f : Found) (r : CompiledLibrary) → IsAt s.done i file f → slice_get others i ≡ Some r → Stands (derived ∷ records_at others (needed f)) f.opened.form.name r
+  pub each : (i : ℕ) (file : List ℕ) (f : Found) (r : CompiledLibrary) → IsAt s.done i file f → slice_get others i ≡ Some r
+      → Stands (derived ∷ records_at others (needed f)) f.opened.form.name r
   pub last : Stands (derived ∷ records_at others (needed found)) library.Program program
   -- no two of them have one name
   pub once : Once (names_of (records ++ program ∷ []))
 
 -- so it is in every run
 abbrev pub RecordsStand : Type 0
-RecordsStand = (prelude : Result Codes Fault) (files : Paths) (roots : List (List ℕ)) (path : List ℕ) (found : Found) (s : Loading) (records : List CompiledLibrary) (program : CompiledLibrary)
+RecordsStand = (prelude : Result Codes Fault) (files : Paths) (roots : List (List ℕ)) (path : List ℕ) (found : Found) (s : Loading)
+    (records : List CompiledLibrary) (program : CompiledLibrary)
     → IsRun prelude files roots path found s records program → AllStand found s records program
 
 -- and the text of every run is closed, and bound once
 abbrev pub RunsAreClosedOnce : Type 0
-RunsAreClosedOnce = (prelude : Result Codes Fault) (files : Paths) (roots : List (List ℕ)) (path : List ℕ) (found : Found) (s : Loading) (records : List CompiledLibrary) (program : CompiledLibrary)
+RunsAreClosedOnce = (prelude : Result Codes Fault) (files : Paths) (roots : List (List ℕ)) (path : List ℕ) (found : Found) (s : Loading)
+    (records : List CompiledLibrary) (program : CompiledLibrary)
     → IsRun prelude files roots path found s records program → IsClosedOnce (text_of records program)

@@ -28,7 +28,8 @@ abbrev pub run_lines : List CompiledLibrary → CompiledLibrary → List Line
 run_lines records program = all_lines records (plan_of records program) program
 
 -- a run, and the text that it gives
-pub record GivesText (prelude : Result Codes Fault) (files : Paths) (roots : List (List ℕ)) (path : List ℕ) (found : Found) (s : Loading) (records : List CompiledLibrary) (program : CompiledLibrary) (text : List ℕ) : Type 0 where
+pub record GivesText (prelude : Result Codes Fault) (files : Paths) (roots : List (List ℕ)) (path : List ℕ) (found : Found) (s : Loading)
+    (records : List CompiledLibrary) (program : CompiledLibrary) (text : List ℕ) : Type 0 where
   pub run : IsRun prelude files roots path found s records program
   pub given : core_text records (plan_of records program) program ≡ Ok text
 
@@ -40,7 +41,8 @@ pub record IsSpelled (names : VariableNames) (lines : List Line) : Type 0 where
   pub spelled : SpellLines names lines spellings
 
 abbrev pub RunsAreSpelled : Type 0
-RunsAreSpelled = (prelude : Result Codes Fault) (files : Paths) (roots : List (List ℕ)) (path : List ℕ) (found : Found) (s : Loading) (records : List CompiledLibrary) (program : CompiledLibrary) (text : List ℕ)
+RunsAreSpelled = (prelude : Result Codes Fault) (files : Paths) (roots : List (List ℕ)) (path : List ℕ) (found : Found) (s : Loading)
+    (records : List CompiledLibrary) (program : CompiledLibrary) (text : List ℕ)
     → GivesText prelude files roots path found s records program text → IsSpelled (run_names records program) (run_lines records program)
 
 -- each constant of the lines can be read, where some number of forms may be nested
@@ -48,14 +50,17 @@ abbrev pub CanAllBeRead : List Line → Type 0
 CanAllBeRead lines = Each (λ l. Each CanBeRead (constants (line_core l))) lines
 
 abbrev pub RunsAreReadBack : Type 0
-RunsAreReadBack = (prelude : Result Codes Fault) (files : Paths) (roots : List (List ℕ)) (path : List ℕ) (found : Found) (s : Loading) (records : List CompiledLibrary) (program : CompiledLibrary) (text : List ℕ)
+RunsAreReadBack = (prelude : Result Codes Fault) (files : Paths) (roots : List (List ℕ)) (path : List ℕ) (found : Found) (s : Loading)
+    (records : List CompiledLibrary) (program : CompiledLibrary) (text : List ℕ)
     → GivesText prelude files roots path found s records program text → CanAllBeRead (run_lines records program)
     → IsTextReadBack (run_names records program) (run_lines records program) text
 
 -- two runs with one text have the same lines but for their variables, of which the text tells the names
 abbrev pub RunsTellTheirLines : Type 0
-RunsTellTheirLines = (prelude prelude' : Result Codes Fault) (files files' : Paths) (roots roots' : List (List ℕ)) (path path' : List ℕ) (found found' : Found) (s s' : Loading)
+RunsTellTheirLines = (prelude prelude' : Result Codes Fault) (files files' : Paths) (roots roots' : List (List ℕ)) (path path' : List ℕ)
+    (found found' : Found) (s s' : Loading)
     (records records' : List CompiledLibrary) (program program' : CompiledLibrary) (text : List ℕ)
     → GivesText prelude files roots path found s records program text → CanAllBeRead (run_lines records program)
     → GivesText prelude' files' roots' path' found' s' records' program' text → CanAllBeRead (run_lines records' program')
-    → map (line_by_names (run_names records program)) (run_lines records program) ≡ map (line_by_names (run_names records' program')) (run_lines records' program')
+    → map (line_by_names (run_names records program)) (run_lines records program)
+    ≡ map (line_by_names (run_names records' program')) (run_lines records' program')

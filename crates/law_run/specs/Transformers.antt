@@ -51,16 +51,19 @@ KeptHaveProcedures g = (l : Label) (e : Option PlainCore) (v : Value) → keywor
 
 -- What is kept in a whole state, has its procedure.
 abbrev pub WholeStatesHaveProcedures : Type 0
-WholeStatesHaveProcedures = (own : LibName) (texts : List CodeNo) (records : List CompiledLibrary) (s : State) → IsWholeState own texts records s → KeptHaveProcedures (stage_of s)
+WholeStatesHaveProcedures = (own : LibName) (texts : List CodeNo) (records : List CompiledLibrary) (s : State)
+    → IsWholeState own texts records s → KeptHaveProcedures (stage_of s)
 
 -- So has the transformer of each keyword that is used there, an imported one that is evaluated now included, on the stage that is left then.
 abbrev pub UsesFindProcedures : Type 0
 UsesFindProcedures = (own : LibName) (texts : List CodeNo) (records : List CompiledLibrary) (place : Span) (l : Label) (s : State) (v : Value) (g : PlainStage)
-    → IsWholeState own texts records s → keyword_value place records l (macro_expression (bound_to s.bindings l)) (stage_of s) ≡ Ok (v, g) → HasProcedure g.cells v
+    → IsWholeState own texts records s → keyword_value place records l (macro_expression (bound_to s.bindings l)) (stage_of s) ≡ Ok (v, g)
+    → HasProcedure g.cells v
 
 -- A use whose transformer has none is at fault as one that got stuck, so where a fault is another one no such use led to it.
 abbrev pub MissingIsStuck : Type 0
-MissingIsStuck = (place : Span) (records : List CompiledLibrary) (form : Tree) (l : Label) (e : Option PlainCore) (frame : Option FrameNo) (s g : PlainStage) (v : Value)
+MissingIsStuck = (place : Span) (records : List CompiledLibrary) (form : Tree) (l : Label) (e : Option PlainCore) (frame : Option FrameNo)
+    (s g : PlainStage) (v : Value)
     → keyword_value place records l e s ≡ Ok (v, g) → procedure_in g.cells v ≡ None → used place records form l e frame s ≡ Err (stuck place)
 
 -- what is done ends in a whole state, or at fault in another way
@@ -75,7 +78,8 @@ FormsStayWhole = (own : LibName) (texts : List CodeNo) (records : List CompiledL
 
 -- and whatever the exports and forms of a library or program are, whose frame is of the library
 abbrev pub BodiesStayWhole : Type 0
-BodiesStayWhole = (own : LibName) (texts : List CodeNo) (records : List CompiledLibrary) (room : ℕ) (at : TopAt) (exports : List (List ℕ × Tree)) (forms : List Tree) (s : State)
+BodiesStayWhole = (own : LibName) (texts : List CodeNo) (records : List CompiledLibrary) (room : ℕ) (at : TopAt)
+    (exports : List (List ℕ × Tree)) (forms : List Tree) (s : State)
     → at.frame.0.library ≡ own → IsWholeState own texts records s → StaysWhole own texts records (top (inside records room) at exports forms s)
 
 -- ---- where an expansion begins
@@ -85,22 +89,27 @@ numbers_in codes = map (λ (e : CodeNo × PlainCode). e.0) codes
 
 -- the expansion of a library with a new name begins so, behind records that stand behind one another, whatever it imports
 abbrev pub StartsAreWhole : Type 0
-StartsAreWhole = (own : LibName) (records : List CompiledLibrary) (imports : List (List ℕ × Label)) (codes : Codes) → IsReady own records → AllBehind [] records → (IsOfTexts own → ⊥) → AreTexts codes
+StartsAreWhole = (own : LibName) (records : List CompiledLibrary) (imports : List (List ℕ × Label)) (codes : Codes) → IsReady own records
+    → AllBehind [] records → (IsOfTexts own → ⊥) → AreTexts codes
     → IsWholeState own (numbers_in codes) records (started own records imports codes)
 
 -- with the codes that the texts of the prelude come to
 abbrev pub StartsWhole : Result Codes Fault → List CompiledLibrary → LibName → Type 0
-StartsWhole prelude behind name = (table : Codes) (imports : Labelled) → prelude ≡ Ok table → IsWholeState name (numbers_in table) behind (started name behind imports table)
+StartsWhole prelude behind name = (table : Codes) (imports : Labelled) → prelude ≡ Ok table
+    → IsWholeState name (numbers_in table) behind (started name behind imports table)
 
 -- So it is with the library that comes next in a part of a run, whatever comes of it
 abbrev pub PartsStartWhole : Type 0
-PartsStartWhole = (files : Paths) (roots : List (List ℕ)) (path : List ℕ) (s : Loading) (first : List (List ℕ × Found)) (file : List ℕ) (f : Found) (left : List (List ℕ × Found)) (records : List CompiledLibrary)
-    → IsPartOfRun prelude_table files roots path s first ((file, f) ∷ left) records → StartsWhole prelude_table (needed_records records (true ∷ f.needs)) f.opened.form.name
+PartsStartWhole = (files : Paths) (roots : List (List ℕ)) (path : List ℕ) (s : Loading) (first : List (List ℕ × Found)) (file : List ℕ)
+    (f : Found) (left : List (List ℕ × Found)) (records : List CompiledLibrary)
+    → IsPartOfRun prelude_table files roots path s first ((file, f) ∷ left) records
+    → StartsWhole prelude_table (needed_records records (true ∷ f.needs)) f.opened.form.name
 
 -- with the program, where loading came to its end and each library was expanded
 abbrev pub ProgramsStartWhole : Type 0
 ProgramsStartWhole = (files : Paths) (roots : List (List ℕ)) (path : List ℕ) (found : Found) (s : Loading) (records : List CompiledLibrary)
-    → load files roots path ≡ Ok (found, s) → all_records prelude_table s.done ≡ Ok records → StartsWhole prelude_table (needed_records records (true ∷ found.needs)) found.opened.form.name
+    → load files roots path ≡ Ok (found, s) → all_records prelude_table s.done ≡ Ok records
+    → StartsWhole prelude_table (needed_records records (true ∷ found.needs)) found.opened.form.name
 
 -- and with the derived library, which comes first.
 abbrev pub DerivedStartsWhole : Type 0

@@ -14,6 +14,7 @@ use Rattle.law_run.specs.Names.{IsWrittenOnce}
 
 -- where a run gives a text
 abbrev pub RunsAreWrittenOnce : Type 0
-RunsAreWrittenOnce = (prelude : Result Codes Fault) (files : Paths) (roots : List (List ℕ)) (path : List ℕ) (found : Found) (s : Loading) (records : List CompiledLibrary) (program : CompiledLibrary) (text : List ℕ)
+RunsAreWrittenOnce = (prelude : Result Codes Fault) (files : Paths) (roots : List (List ℕ)) (path : List ℕ) (found : Found) (s : Loading)
+    (records : List CompiledLibrary) (program : CompiledLibrary) (text : List ℕ)
     → IsRun prelude files roots path found s records program → core_text records (plan_of records program) program ≡ Ok text
     → IsWrittenOnce (all_names records (plan_of records program) program) (text_of records program)

@@ -18,5 +18,6 @@ PreludeStaysWithin = (codes : Codes) → prelude_table ≡ Ok codes → CodesHol
 
 -- and those in all records of a run with these, and in the program's
 abbrev pub RunsStayWithin : Type 0
-RunsStayWithin = (files : Paths) (roots : List (List ℕ)) (path : List ℕ) (found : Found) (s : Loading) (records : List CompiledLibrary) (program : CompiledLibrary)
+RunsStayWithin = (files : Paths) (roots : List (List ℕ)) (path : List ℕ) (found : Found) (s : Loading) (records : List CompiledLibrary)
+    (program : CompiledLibrary)
     → IsRun prelude_table files roots path found s records program → Each (RecordHolds Fits) (records ++ program ∷ [])

@@ -20,7 +20,8 @@ use Rattle.stx_tree.specs.Measures.{max_height}
 -- each line of each record, constants aside
 abbrev pub RunsNest : Type 0
 RunsNest = (files : Paths) (roots : List (List ℕ)) (path : List ℕ) (found : Found) (s : Loading) (records : List CompiledLibrary) (program : CompiledLibrary)
-    → IsRun prelude_table files roots path found s records program → Each (λ r. Each (λ l. height_with in_text (line_core l) ≤ deepest) r.run) (records ++ program ∷ [])
+    → IsRun prelude_table files roots path found s records program
+    → Each (λ r. Each (λ l. height_with in_text (line_core l) ≤ deepest) r.run) (records ++ program ∷ [])
 
 -- A constant is the datum of a tree, which is at most 1,000 high; and a `define` is one list more.
 abbrev pub deepest_line : ℕ
@@ -32,5 +33,7 @@ pub record IsLow (d : PlainDatum) : Type 0 where
   pub read : (n : ℕ) → deepest_line ≤ n → IsReadable n d
 
 abbrev pub TextsNest : Type 0
-TextsNest = (files : Paths) (roots : List (List ℕ)) (path : List ℕ) (found : Found) (s : Loading) (records : List CompiledLibrary) (program : CompiledLibrary) (text : List ℕ) (ds : List PlainDatum)
-    → GivesText prelude_table files roots path found s records program text → SpellLines (run_names records program) (run_lines records program) ds → Each IsLow ds
+TextsNest = (files : Paths) (roots : List (List ℕ)) (path : List ℕ) (found : Found) (s : Loading) (records : List CompiledLibrary)
+    (program : CompiledLibrary) (text : List ℕ) (ds : List PlainDatum)
+    → GivesText prelude_table files roots path found s records program text
+    → SpellLines (run_names records program) (run_lines records program) ds → Each IsLow ds

@@ -33,7 +33,8 @@ AreWritten P (y ∷ ys) (t ∷ ts) = P y t × AreWritten P ys ts
 pub data IsFormalsForm : List Tree → Option Tree → Tree → Type 0 where
   no_more : {span : Option Span} → IsFormalsForm [] None (atom span Nil)
   all_others : {x : Tree} → IsId x → IsFormalsForm [] (Some x) x
-  one : {span : Option Span} {x rest : Tree} {xs : List Tree} {others : Option Tree} → IsId x → IsFormalsForm xs others rest → IsFormalsForm (x ∷ xs) others (pair span x rest)
+  one : {span : Option Span} {x rest : Tree} {xs : List Tree} {others : Option Tree} → IsId x → IsFormalsForm xs others rest
+      → IsFormalsForm (x ∷ xs) others (pair span x rest)
 
 abbrev pub AreFormals : FormalIds → Tree → Type 0
 AreFormals ids t = IsFormalsForm ids.required ids.rest t

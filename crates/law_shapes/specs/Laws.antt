@@ -23,4 +23,5 @@ OneShape = (which : CoreForm) (t : Tree) (s r : Shape) → HasShape which s t �
 
 -- what is written in none is at fault, at its place
 abbrev pub OthersAreBad : Type 0
-OthersAreBad = (which : CoreForm) (t : Tree) (place : Span) → ((s : Shape) → HasShape which s t → ⊥) → shape which t place ≡ Err (fault_at kind.BadForm t place [])
+OthersAreBad = (which : CoreForm) (t : Tree) (place : Span) → ((s : Shape) → HasShape which s t → ⊥)
+    → shape which t place ≡ Err (fault_at kind.BadForm t place [])

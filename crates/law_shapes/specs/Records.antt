@@ -51,7 +51,8 @@ mutator_name name field = beside name (((symbol_of name ++ codes "-") ++ symbol_
 -- `name`, or `(name constructor predicate)`
 pub data AreNames : RecordNames → Tree → Type 0 where
   made : {x : Tree} → IsId x → AreNames (record { name = x; constructor = constructor_name x; predicate = predicate_name x }) x
-  given : {name make test spec : Tree} → IsId name → IsId make → IsId test → IsList (name ∷ make ∷ test ∷ []) spec → AreNames (record { name = name; constructor = make; predicate = test }) spec
+  given : {name make test spec : Tree} → IsId name → IsId make → IsId test → IsList (name ∷ make ∷ test ∷ []) spec
+      → AreNames (record { name = name; constructor = make; predicate = test }) spec
 
 -- Clauses.
 
@@ -60,14 +61,17 @@ pub data IsField (fs : Scope) (name : Tree) : Field → Tree → Type 0 where
   -- `id`
   alone : {x : Tree} → IsId x → IsField fs name (record { id = x; accessor = accessor_name name x; mutator = None }) x
   -- `(immutable id)`
-  immutable : {head x t : Tree} → IsKeywordIdentifier fs form.Immutable head → IsId x → IsList (head ∷ x ∷ []) t → IsField fs name (record { id = x; accessor = accessor_name name x; mutator = None }) t
+  immutable : {head x t : Tree} → IsKeywordIdentifier fs form.Immutable head → IsId x → IsList (head ∷ x ∷ []) t
+      → IsField fs name (record { id = x; accessor = accessor_name name x; mutator = None }) t
   -- `(immutable id accessor)`
-  immutable_by : {head x get t : Tree} → IsKeywordIdentifier fs form.Immutable head → IsId x → IsId get → IsList (head ∷ x ∷ get ∷ []) t → IsField fs name (record { id = x; accessor = get; mutator = None }) t
+  immutable_by : {head x get t : Tree} → IsKeywordIdentifier fs form.Immutable head → IsId x → IsId get → IsList (head ∷ x ∷ get ∷ []) t
+      → IsField fs name (record { id = x; accessor = get; mutator = None }) t
   -- `(mutable id)`
   mutable : {head x t : Tree} → IsKeywordIdentifier fs form.Mutable head → IsId x → IsList (head ∷ x ∷ []) t
       → IsField fs name (record { id = x; accessor = accessor_name name x; mutator = Some (mutator_name name x) }) t
   -- `(mutable id accessor mutator)`
-  mutable_by : {head x get put t : Tree} → IsKeywordIdentifier fs form.Mutable head → IsId x → IsId get → IsId put → IsList (head ∷ x ∷ get ∷ put ∷ []) t → IsField fs name (record { id = x; accessor = get; mutator = Some put }) t
+  mutable_by : {head x get put t : Tree} → IsKeywordIdentifier fs form.Mutable head → IsId x → IsId get → IsId put
+      → IsList (head ∷ x ∷ get ∷ put ∷ []) t → IsField fs name (record { id = x; accessor = get; mutator = Some put }) t
 
 -- a clause, by what stands behind its word
 pub data IsClause (fs : Scope) (name : Tree) : CoreForm → RecordClause → List Tree → Type 0 where
@@ -106,11 +110,13 @@ LacksKind fs which ts = Lacks fs which ts
 pub data AreClauses (fs : Scope) (name : Tree) : List Tree → Type 0 where
   no_more : AreClauses fs name []
   one_more : {which : CoreForm} {c : RecordClause} {head t : Tree} {operands ts : List Tree}
-      → IsList (head ∷ operands) t → IsKeywordIdentifier fs which head → IsClause fs name which c operands → LacksKind fs which ts → AreClauses fs name ts → AreClauses fs name (t ∷ ts)
+      → IsList (head ∷ operands) t → IsKeywordIdentifier fs which head → IsClause fs name which c operands → LacksKind fs which ts
+      → AreClauses fs name ts → AreClauses fs name (t ∷ ts)
 
 -- one of the clauses is this
 pub data Says (fs : Scope) (name : Tree) (c : RecordClause) : List Tree → Type 0 where
-  said_here : {which : CoreForm} {head t : Tree} {operands ts : List Tree} → IsList (head ∷ operands) t → IsKeywordIdentifier fs which head → IsClause fs name which c operands → Says fs name c (t ∷ ts)
+  said_here : {which : CoreForm} {head t : Tree} {operands ts : List Tree} → IsList (head ∷ operands) t → IsKeywordIdentifier fs which head
+      → IsClause fs name which c operands → Says fs name c (t ∷ ts)
   said_behind : {t : Tree} {ts : List Tree} → Says fs name c ts → Says fs name c (t ∷ ts)
 
 -- one of these

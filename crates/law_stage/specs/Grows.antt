@@ -25,7 +25,8 @@ pub record StageGrowth (s t : PlainStage) : Type 0 where
   pub library : t.names.library ≡ s.names.library
   pub names : s.names.number ≤ t.names.number
   pub evaluated : (k : LibName) → has_library s.evaluated k ≡ true → has_library t.evaluated k ≡ true
-  pub kept : (l : Label) (e : Option PlainCore) (v : Value) → keyword_at s.keywords l ≡ Some (keyword.Kept e v) → keyword_at t.keywords l ≡ Some (keyword.Kept e v)
+  pub kept : (l : Label) (e : Option PlainCore) (v : Value) → keyword_at s.keywords l ≡ Some (keyword.Kept e v)
+      → keyword_at t.keywords l ≡ Some (keyword.Kept e v)
   pub spent : s.spent ≤ t.spent
 
 -- what holds of the stage that is left, unless there is a fault
@@ -47,13 +48,15 @@ abbrev pub BeginGrows : Type 0
 BeginGrows = (l : Label) (place : Span) (s : PlainStage) → IsNotKept (keyword_at s.keywords l) → GrowsBy s (begin_keyword l place s)
 
 abbrev pub FinishGrows : Type 0
-FinishGrows = (place : Span) (rs : List CompiledLibrary) (l : Label) (c : PlainCore) (s : PlainStage) → IsNotKept (keyword_at s.keywords l) → GrowsBy s (evaluate_transformer place rs l c s)
+FinishGrows = (place : Span) (rs : List CompiledLibrary) (l : Label) (c : PlainCore) (s : PlainStage) → IsNotKept (keyword_at s.keywords l)
+    → GrowsBy s (evaluate_transformer place rs l c s)
 
 abbrev pub ValueGrows : Type 0
 ValueGrows = (place : Span) (rs : List CompiledLibrary) (l : Label) (e : Option PlainCore) (s : PlainStage) → GrowsBy s (keyword_value place rs l e s)
 
 abbrev pub VariableGrows : Type 0
-VariableGrows = (place : Span) (rs : List CompiledLibrary) (l : Label) (e : Option PlainCore) (s : PlainStage) → GrowsBy s (is_variable_transformer place rs l e s)
+VariableGrows = (place : Span) (rs : List CompiledLibrary) (l : Label) (e : Option PlainCore) (s : PlainStage)
+    → GrowsBy s (is_variable_transformer place rs l e s)
 
 abbrev pub UseGrows : Type 0
 UseGrows = (place : Span) (rs : List CompiledLibrary) (form : Tree) (l : Label) (e : Option PlainCore) (frame : Option FrameNo) (s : PlainStage)

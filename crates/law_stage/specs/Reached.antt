@@ -50,7 +50,8 @@ EvaluatedInOrder = (place : Span) (rs : List CompiledLibrary) (c : PlainCore) (s
 
 -- With a library those records were evaluated that it refers to.
 abbrev pub IsClosed : List CompiledLibrary → List LibName → Type 0
-IsClosed rs ks = (r : CompiledLibrary) → Among rs r → has_library ks r.name ≡ true → (k : LibName) → has_library r.refs k ≡ true → has_library (names_of rs) k ≡ true
+IsClosed rs ks = (r : CompiledLibrary) → Among rs r → has_library ks r.name ≡ true → (k : LibName) → has_library r.refs k ≡ true
+    → has_library (names_of rs) k ≡ true
     → has_library ks k ≡ true
 
 -- This stays so; and each record to which a chain of references leads was evaluated then.
@@ -59,5 +60,6 @@ StaysClosed = (place : Span) (rs : List CompiledLibrary) (c : PlainCore) (s t : 
     → need place rs c s ≡ Ok (tt, t) → IsClosed rs t.evaluated
 
 abbrev pub ReachedAreEvaluated : Type 0
-ReachedAreEvaluated = (place : Span) (rs : List CompiledLibrary) (c : PlainCore) (s t : PlainStage) (k : LibName) → HaveOwnNames rs → RefersBack rs → IsClosed rs s.evaluated
+ReachedAreEvaluated = (place : Span) (rs : List CompiledLibrary) (c : PlainCore) (s t : PlainStage) (k : LibName) → HaveOwnNames rs
+    → RefersBack rs → IsClosed rs s.evaluated
     → need place rs c s ≡ Ok (tt, t) → ReachedFrom rs (libraries_of c) k → has_library (names_of rs) k ≡ true → has_library t.evaluated k ≡ true

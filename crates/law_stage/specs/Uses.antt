@@ -25,10 +25,12 @@ pub record CalledOn (place : Span) (rs : List CompiledLibrary) (l : Label) (e : 
 
 -- The cells of a call are dropped: after a use they are those with which the transformer was called.
 abbrev pub UsesDropCells : Type 0
-UsesDropCells = (place : Span) (rs : List CompiledLibrary) (form : Tree) (l : Label) (e : Option PlainCore) (frame : Option FrameNo) (s new : PlainStage) (t : Tree)
+UsesDropCells = (place : Span) (rs : List CompiledLibrary) (form : Tree) (l : Label) (e : Option PlainCore) (frame : Option FrameNo)
+    (s new : PlainStage) (t : Tree)
     → used place rs form l e frame s ≡ Ok (t, new) → CalledOn place rs l e s new
 
 -- Where the transformer was kept, a use changes nothing but the counts.
 abbrev pub KeptUsesOnlyCount : Type 0
-KeptUsesOnlyCount = (place : Span) (rs : List CompiledLibrary) (form : Tree) (l : Label) (e x : Option PlainCore) (v : Value) (frame : Option FrameNo) (s new : PlainStage) (t : Tree)
+KeptUsesOnlyCount = (place : Span) (rs : List CompiledLibrary) (form : Tree) (l : Label) (e x : Option PlainCore) (v : Value)
+    (frame : Option FrameNo) (s new : PlainStage) (t : Tree)
     → keyword_at s.keywords l ≡ Some (keyword.Kept x v) → used place rs form l e frame s ≡ Ok (t, new) → OnlyCounts s new

@@ -44,7 +44,7 @@ module _ (own : LibName) (texts : List CodeNo) (rs : List CompiledLibrary) (x : 
   abbrev R : {A : Type 0} → State → A → State → Type 0
   R s a u = Goes own texts rs s u
 
-  -- Forms are settled.
+  -- Uses are expanded.
 
   module _ (level : ℕ) where
     plan-goes : (place : Span) (t : Tree) (s : State) → Bs s → S s → Sure (R s) (plan_of place level t s)

@@ -103,7 +103,7 @@ module _ (own : LibName) (texts : List CodeNo) (rs : List CompiledLibrary) (x : 
     performs at low depth d t (items.Use l) s b h k = tt
     performs at low depth d t (items.SetUse l) s b h k = tt
 
-  -- Forms of a body are settled.
+  -- Uses in a body are expanded.
 
   module _ (depth : ℕ) where
     abbrev Step : State → Taken × ItemOrUse → State → Type 0

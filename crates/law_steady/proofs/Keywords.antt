@@ -161,7 +161,7 @@ module _ (own : LibName) (texts : List CodeNo) (rs : List CompiledLibrary) (x : 
   abbrev Wait : State → List BoundSpec → Type 0
   Wait s bs = Each (λ (b : BoundSpec). WaitsIn s b.label) bs
 
-  -- those that wait still do after another was finished
+  -- those that wait still do after another's transformer was evaluated
   wait-still : (s u : State) (l : Label) (bs : List BoundSpec) → s.names.number ≤ u.names.number → FreshBut own texts rs x l s u → (Among (map spec_label bs) l → ⊥) → Wait s bs → Wait u bs
   wait-still s u l [] up f n w = tt
   wait-still s u l (b ∷ bs) up f n w =
@@ -223,7 +223,7 @@ module _ (own : LibName) (texts : List CodeNo) (rs : List CompiledLibrary) (x : 
       by (y ∷ ys) l (inl e) = let le = l.0.1.0 in let same = ap (λ (n : Label). n.0.number) e in omega (arith, le, same)
       by (y ∷ ys) l (inr i) = by ys l.1 i
 
-  -- those that were bound, and then finished
+  -- those that were bound, and then evaluated
   pub pended-go : (s u v : State) (xs : List BoundSpec) → Pending own texts rs x s xs u → O s u → O u v → S v → FreshBeside (map spec_label xs) u v → Goes own texts rs s v
   pended-go s u v xs p o q h f = record {
     onward = onward-then own (given own texts rs) s u v o q;

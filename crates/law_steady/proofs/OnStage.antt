@@ -1,4 +1,4 @@
--- What an expansion does on its stage is safe: uses of keywords, and keywords that begin and are finished.
+-- What an expansion does on its stage is safe: uses of keywords, keywords that begin to wait, and transformers.
 use Rattle.std.proofs.Common.{◌≡◌, ◌≤◌, ◌<◌, ℕ, ◌+◌, Bool, true, false, List, [], ◌∷◌, ◌++◌, map, Option, Some, None, Result, Ok, Err, refl, sym, ap, subst, ◌∙◌, arith, inl, inr, if◌then◌else◌}
 use Rattle.std.specs.Prelude.{◌⊎◌, is_some}
 use Rattle.indexmap.specs.IndexMap.{insert_entry}
@@ -322,7 +322,7 @@ module _ (own : LibName) (texts : List CodeNo) (rs : List CompiledLibrary) (x : 
       (λ y t k. sure-after (λ ys u. Pending t ys u) (λ ys u. Pending s ys u) (each (bind_keyword f place level) [] bs t) (λ ys. give (y ∷ ys)) (keywords-pend f place level bs t k.next k.safe)
       (λ ys u j. pending-more s t u y ys k j)))
 
-  -- Keywords that are finished.
+  -- Transformers that are evaluated.
 
   -- of the own ones at most this one is kept then, of those that weren't and were made before
   abbrev pub FreshBut : Label → State → State → Type 0

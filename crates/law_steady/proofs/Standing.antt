@@ -19,8 +19,7 @@ use Rattle.law_core.specs.Records.{line_core, line_labels, line_binders, defined
 use Rattle.law_core.specs.Follows.{names_of, keywords, line_cores, IsOwn}
 use Rattle.law_core.proofs.GivenLemmas.{references_given}
 use Rattle.law_whole.proofs.Among.{among_first, among_second, among_parts, among_flat, each_of, each_at}
-use Rattle.eval_stage.specs.Libraries.{has_library}
-use Rattle.expand_forms.specs.Top as top
+use Rattle.eval_stage.specs.Libraries.{has_library, with_library}
 use Rattle.expand_forms.specs.Top.{code_of, with_label_of, with_labels_of, with_lines_of, refs_of}
 use Rattle.law_expand.specs.Good.{IsGood}
 use Rattle.law_expand.specs.Keywords.{HasGoodKeywords}
@@ -135,7 +134,7 @@ module _ (own : LibName) where
   label-first [] ks k h = h
   label-first (l ∷ ls) ks k h = label-first ls (with_label_of own ks l) k (by (same_library l.0.library own))
     where
-      by : (b : Bool) → has_library (if b then ks else top.with_library ks l.0.library) k ≡ true
+      by : (b : Bool) → has_library (if b then ks else with_library ks l.0.library) k ≡ true
       by true = h
       by false = has_with ks l.0.library k h
 
@@ -144,9 +143,9 @@ module _ (own : LibName) where
   label-there (m ∷ ls) ks l (inr a) = label-there ls (with_label_of own ks m) l a
   label-there (m ∷ ls) ks l (inl e) = subst (λ (x : Label). (x.0.library ≡ own) ⊎ (has_library (with_labels_of own ks (m ∷ ls)) x.0.library ≡ true)) (sym e) (by (same_library m.0.library own) refl)
     where
-      by : (b : Bool) → same_library m.0.library own ≡ b → (m.0.library ≡ own) ⊎ (has_library (with_labels_of own (if b then ks else top.with_library ks m.0.library) ls) m.0.library ≡ true)
+      by : (b : Bool) → same_library m.0.library own ≡ b → (m.0.library ≡ own) ⊎ (has_library (with_labels_of own (if b then ks else with_library ks m.0.library) ls) m.0.library ≡ true)
       by true is = inl ((same_library_decides m.0.library own).0 is)
-      by false is = inr (label-first ls (top.with_library ks m.0.library) m.0.library (with_has ks m.0.library))
+      by false is = inr (label-first ls (with_library ks m.0.library) m.0.library (with_has ks m.0.library))
 
   line-first : (xs : List Line) (ks : List LibName) (k : LibName) → has_library ks k ≡ true → has_library (with_lines_of own ks xs) k ≡ true
   line-first [] ks k h = h
@@ -184,7 +183,7 @@ module _ (own : LibName) where
       here not (inl e) = inl e
       here not (inr e) = inr (record { label = l; among = inl refl; is = sym e; foreign = λ o. let yes = (same_library_decides l.0.library own).1 o in absurd (cc) })
 
-      by : (b : Bool) → same_library l.0.library own ≡ b → (has_library (if b then ks else top.with_library ks l.0.library) k ≡ true) ⊎ From ls k → (has_library ks k ≡ true) ⊎ From (l ∷ ls) k
+      by : (b : Bool) → same_library l.0.library own ≡ b → (has_library (if b then ks else with_library ks l.0.library) k ≡ true) ⊎ From ls k → (has_library ks k ≡ true) ⊎ From (l ∷ ls) k
       by b is (inr f) = inr (more f)
       by true is (inl e) = inl e
       by false is (inl e) = here is (with_cases ks l.0.library k e)

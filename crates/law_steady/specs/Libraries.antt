@@ -37,9 +37,12 @@ ExpansionsNeverStuck = (own : LibName) (path : List ℕ) (records : List Compile
 -- The record that expansion gives stands behind them too, so the law applies to one library after another.
 abbrev pub RecordsStandBehind : Type 0
 RecordsStandBehind = (own : LibName) (path : List ℕ) (records : List CompiledLibrary) (imports : List (List ℕ × Label)) (version : List ℕ) (place : Span)
-    (exports : List (List ℕ × Tree)) (forms : List Tree) (codes : Codes) (r : CompiledLibrary) → IsReady own records → AllBehind [] records → (IsOfTexts own → ⊥)
-    → Each (λ (e : List ℕ × Label). IsThere records e.1.0.library) imports → library_record (ready own path records imports codes) records version place exports forms ≡ Ok r → IsBehind records r
+    (exports : List (List ℕ × Tree)) (forms : List Tree) (codes : Codes) (r : CompiledLibrary) → IsReady own records → AllBehind [] records
+    → (IsOfTexts own → ⊥)
+    → Each (λ (e : List ℕ × Label). IsThere records e.1.0.library) imports
+    → library_record (ready own path records imports codes) records version place exports forms ≡ Ok r → IsBehind records r
 
 -- One that stands behind some records stands behind more, if none of them has its name.
 abbrev pub MoreStandBefore : Type 0
-MoreStandBefore = (few many : List CompiledLibrary) (r : CompiledLibrary) → ((q : CompiledLibrary) → Among few q → Among many q) → (Among (names_of many) r.name → ⊥) → IsBehind few r → IsBehind many r
+MoreStandBefore = (few many : List CompiledLibrary) (r : CompiledLibrary) → ((q : CompiledLibrary) → Among few q → Among many q)
+    → (Among (names_of many) r.name → ⊥) → IsBehind few r → IsBehind many r

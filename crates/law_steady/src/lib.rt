@@ -14,9 +14,10 @@
 //! law_stuck, and that a world with the procedures that are texts is whole.
 //!
 //! The proof follows the forms as they nest. From a state in which the stage is steady each form leads to such a
-//! state, or is at fault in another way: every fault that a definition gives is named here. An own keyword is finished
-//! with an expression that is closed and well made and shares no name with one that is kept; that is what law_expand
-//! tells. Its label was made when it began, so nobody finished it meanwhile.
+//! state, or is at fault in another way: every fault that a definition gives is named here. The transformer of an
+//! own keyword is evaluated from an expression that is closed and well made and shares no name with one that is
+//! kept; that is what law_expand tells. Its label was made when it began to wait, so no other transformer was
+//! evaluated for it meanwhile.
 //!
 //! What forms expand to is defined in expand_forms. Nothing runs here.
 #![tactic(auto)]

@@ -32,7 +32,8 @@ pub record OnSteady (own : LibName) (texts : List CodeNo) (rs : List CompiledLib
 
 -- a use of a keyword, an imported one included, whose libraries and transformer are evaluated first
 abbrev pub UsesNeverStuck : Type 0
-UsesNeverStuck = (own : LibName) (texts : List CodeNo) (place : Span) (rs : List CompiledLibrary) (form : Tree) (l : Label) (e : Option PlainCore) (frame : Option FrameNo) (s : PlainStage)
+UsesNeverStuck = (own : LibName) (texts : List CodeNo) (place : Span) (rs : List CompiledLibrary) (form : Tree) (l : Label)
+    (e : Option PlainCore) (frame : Option FrameNo) (s : PlainStage)
     → OnSteady own texts rs s → IsImported rs l e → EndsSteady own texts rs (used place rs form l e frame s)
 
 -- the transformer that it is used by
@@ -50,8 +51,9 @@ abbrev pub BeginsNeverStuck : Type 0
 BeginsNeverStuck = (own : LibName) (texts : List CodeNo) (place : Span) (rs : List CompiledLibrary) (l : Label) (s : PlainStage)
     → OnSteady own texts rs s → IsNotKept (keyword_at s.keywords l) → EndsSteady own texts rs (begin_keyword l place s)
 
--- an own keyword that is finished: its expression has codes of the library, none of them in that of another keyword that is kept
+-- an own keyword whose transformer is evaluated: its expression has codes of the library, none of them in that of another keyword that is kept
 abbrev pub FinishesNeverStuck : Type 0
 FinishesNeverStuck = (own : LibName) (texts : List CodeNo) (place : Span) (rs : List CompiledLibrary) (l : Label) (c : PlainCore) (s : PlainStage)
-    → OnSteady own texts rs s → l.0.library ≡ own → IsNotKept (keyword_at s.keywords l) → IsKeywordExpression rs c → Each (λ (n : CodeNo). n.0.library ≡ own) (code_numbers c)
+    → OnSteady own texts rs s → l.0.library ≡ own → IsNotKept (keyword_at s.keywords l) → IsKeywordExpression rs c
+    → Each (λ (n : CodeNo). n.0.library ≡ own) (code_numbers c)
     → Each (λ n. OwnHasCode own s.keywords n → ⊥) (code_numbers c) → EndsSteady own texts rs (evaluate_transformer place rs l c s)

@@ -176,7 +176,9 @@ form-identifier-syntax = concat (
 
 -- one definition after another
 abbrev pub derived : List ℕ
-derived = concat (form-syntax-rules ∷ form-let ∷ form-let_star ∷ form-and ∷ form-or ∷ form-cond ∷ form-case-clauses ∷ form-case ∷ form-when ∷ form-unless ∷ form-with-syntax ∷ form-do ∷ form-let_star-values ∷ form-lv-formals ∷ form-lv-clauses ∷ form-let-values ∷ form-assert ∷ form-identifier-syntax ∷ [])
+derived = concat (form-syntax-rules ∷ form-let ∷ form-let_star ∷ form-and ∷ form-or ∷ form-cond ∷ form-case-clauses ∷ form-case ∷ form-when
+    ∷ form-unless ∷ form-with-syntax ∷ form-do ∷ form-let_star-values ∷ form-lv-formals ∷ form-lv-clauses ∷ form-let-values ∷ form-assert
+    ∷ form-identifier-syntax ∷ [])
 
 -- The text of the library is this.
 abbrev pub DerivedIsWritten : Type 0

@@ -59,7 +59,8 @@ mutual
   -- elements, and then what ends them
   pub data SpellsAllRepeats : PlainPatterns → PlainPattern → Tree → Type 0 where
     spells_end : {p : PlainPattern} {t : Tree} → SpellsRepeats p t → SpellsAllRepeats none p t
-    spells_more : {p q : PlainPattern} {ps : PlainPatterns} {s : Option Span} {t u : Tree} → SpellsRepeats p t → SpellsAllRepeats ps q u → SpellsAllRepeats (more p ps) q (tree.pair s t u)
+    spells_more : {p q : PlainPattern} {ps : PlainPatterns} {s : Option Span} {t u : Tree} → SpellsRepeats p t → SpellsAllRepeats ps q u
+        → SpellsAllRepeats (more p ps) q (tree.pair s t u)
 
 -- A template repeats a pattern, under so many ellipses: each variable carries their number as its depth, a part without
 -- variables may be the form itself, and an ellipsis stands behind a part with a variable. So no pattern with an underscore is
@@ -68,13 +69,16 @@ mutual
   pub data IsRepeat : ℕ → PlainPattern → PlainTemplate → Type 0 where
     repeats_variable : {depth : ℕ} {l : Label} → IsRepeat depth (variable l) (template.variable l depth)
     repeats_form : {depth : ℕ} {p : PlainPattern} {t : Tree} → SpellsRepeats p t → IsRepeat depth p (template.constant t)
-    repeats_list : {depth : ℕ} {ps : PlainPatterns} {p : PlainPattern} {is : PlainItems} {t : PlainTemplate} → AreRepeats depth ps is → IsRepeat depth p t → IsRepeat depth (list ps p) (template.list is t)
+    repeats_list : {depth : ℕ} {ps : PlainPatterns} {p : PlainPattern} {is : PlainItems} {t : PlainTemplate} → AreRepeats depth ps is
+        → IsRepeat depth p t → IsRepeat depth (list ps p) (template.list is t)
     repeats_vector : {depth : ℕ} {ps : PlainPatterns} {is : PlainItems} → AreRepeats depth ps is → IsRepeat depth (vector ps) (template.vector is)
 
   pub data AreRepeats : ℕ → PlainPatterns → PlainItems → Type 0 where
     repeats_none : {depth : ℕ} → AreRepeats depth none template.none
-    repeats_more : {depth : ℕ} {p : PlainPattern} {ps : PlainPatterns} {t : PlainTemplate} {is : PlainItems} → IsRepeat depth p t → AreRepeats depth ps is → AreRepeats depth (more p ps) (template.more t 0 is)
-    repeats_dots : {depth : ℕ} {p : PlainPattern} {ps : PlainPatterns} {t : PlainTemplate} {is : PlainItems} → IsSome (variables p) → IsRepeat (suc depth) p t → AreRepeats depth ps is → AreRepeats depth (dots p ps) (template.more t 1 is)
+    repeats_more : {depth : ℕ} {p : PlainPattern} {ps : PlainPatterns} {t : PlainTemplate} {is : PlainItems} → IsRepeat depth p t
+        → AreRepeats depth ps is → AreRepeats depth (more p ps) (template.more t 0 is)
+    repeats_dots : {depth : ℕ} {p : PlainPattern} {ps : PlainPatterns} {t : PlainTemplate} {is : PlainItems} → IsSome (variables p)
+        → IsRepeat (suc depth) p t → AreRepeats depth ps is → AreRepeats depth (dots p ps) (template.more t 1 is)
 
 -- A value over new cells is the same data as one over old cells, where it is the value itself, an identifier of the same
 -- binding, or the same atom, or where both are pairs or vectors and their parts are the same data. Whether a pair, a vector or
@@ -84,7 +88,8 @@ mutual
     itself : {v : Value} → Alike fs old new v v
     same_leaf : {t : Tree} {v : Value} → is_alike fs t v ≡ true → Alike fs old new v (value.Syn t)
     same_atom : {a : Atom} {v w : Value} → atom_of old v ≡ Some a → atom_of new w ≡ Some a → Alike fs old new v w
-    same_pair : {v w x d y e : Value} → pair_of old v ≡ Some (x, d) → pair_of new w ≡ Some (y, e) → Alike fs old new x y → Alike fs old new d e → Alike fs old new v w
+    same_pair : {v w x d y e : Value} → pair_of old v ≡ Some (x, d) → pair_of new w ≡ Some (y, e) → Alike fs old new x y
+        → Alike fs old new d e → Alike fs old new v w
     same_vector : {v w : Value} {xs ys : List Value} → vector_of old v ≡ Some xs → vector_of new w ≡ Some ys → AreAlike fs old new xs ys → Alike fs old new v w
 
   pub data AreAlike (fs : Scope) (old new : List Cell) : List Value → List Value → Type 0 where

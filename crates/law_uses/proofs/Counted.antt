@@ -67,7 +67,7 @@ module _ (rs : List CompiledLibrary) (level : ℕ) where
   is-refused u k z (counted.itself {left} {place} {t} {s}) e = subst (λ m. expand_uses_to rs m place level t s ≡ too_many t place u) (sym z) (none-left place t s u k e)
   is-refused u k z (counted.used {n} {more} {left} {place} {at} {t} {x} {y} {s} {u = r} {v} {w} {k = j} f g b) e = one-use more place t x s r v j f g ∙ is-refused u k z b e
 
-  -- what settling comes to
+  -- what expanding uses comes to
   abbrev Came : ℕ → Span → Tree → State → PlannedForm → State → Type 0
   Came more place t s d v =
       (n : ℕ) × ((left : ℕ) × ((w : State) × ((u : State) × (Becomes rs level n more left place t s d.place d.form w × ((step rs d.place level d.form w ≡ Ok (steps.Plan d.plan, u)) × (v ≡ linked d.form d.plan u))))))

@@ -25,31 +25,44 @@ use Rattle.expand_forms.specs.declared.expand_uses.PlanOrUse.TheVariants as step
 -- use gives stands at the place of the use.
 pub data Becomes (rs : List CompiledLibrary) (level : ℕ) : ℕ → ℕ → ℕ → Span → Tree → State → Span → Tree → State → Type 0 where
   itself : {left : ℕ} {place : Span} {t : Tree} {s : State} → Becomes rs level 0 left left place t s place t s
-  used : {n more left : ℕ} {place at : Span} {t x y : Tree} {s u v w : State} {k : KeywordUse} → step rs place level t s ≡ Ok (steps.Use k, u) → next_form rs more place t k None u ≡ Ok (x, v)
+  used : {n more left : ℕ} {place at : Span} {t x y : Tree} {s u v w : State} {k : KeywordUse}
+      → step rs place level t s ≡ Ok (steps.Use k, u) → next_form rs more place t k None u ≡ Ok (x, v)
       → Becomes rs level n more left (place_of t place) x v at y w → Becomes rs level (suc n) (suc more) left place t s at y w
 
 -- So does a form of a body, behind what was taken of the body before it.
 pub data BecomesItem (rs : List CompiledLibrary) (depth : ℕ) : ℕ → ℕ → ℕ → BodyAt → Taken → Tree → State → BodyAt → Taken → Tree → State → Type 0 where
   item_itself : {left : ℕ} {at : BodyAt} {done : Taken} {t : Tree} {s : State} → BecomesItem rs depth 0 left left at done t s at done t s
-  item_used : {n more left : ℕ} {at to : BodyAt} {done taken end : Taken} {t x y : Tree} {s u v w : State} {k : KeywordUse} → item_step rs at depth done t s ≡ Ok ((taken, item_steps.Use k), u)
-      → next_form rs more at.place t k (Some at.frame) u ≡ Ok (x, v) → BecomesItem rs depth n more left (at_use at t) taken x v to end y w → BecomesItem rs depth (suc n) (suc more) left at done t s to end y w
+  item_used : {n more left : ℕ} {at to : BodyAt} {done taken end : Taken} {t x y : Tree} {s u v w : State} {k : KeywordUse}
+      → item_step rs at depth done t s ≡ Ok ((taken, item_steps.Use k), u)
+      → next_form rs more at.place t k (Some at.frame) u ≡ Ok (x, v) → BecomesItem rs depth n more left (at_use at t) taken x v to end y w
+      → BecomesItem rs depth (suc n) (suc more) left at done t s to end y w
 
--- An expansion may make 1,000,000 uses. Each use takes one. A form that becomes one which is no use is settled as that, however few are left then; one
--- that becomes a use where none is left is refused, at that use. And a form is settled only so.
+-- An expansion may make 1,000,000 uses. Each use takes one. A form that becomes one which is no use is planned as that, however few are left then; one
+-- that becomes a use where none is left is refused, at that use. And a form is planned only so.
 pub record UsesAreCounted : Type 0 where
-  pub starts : (own : LibName) (records : List CompiledLibrary) (imports : List (List ℕ × Label)) (codes : Codes) → (started own records imports codes).uses_left ≡ 1000000
-  pub counted : (rs : List CompiledLibrary) (level n more left : ℕ) (place at : Span) (t y : Tree) (s w : State) → Becomes rs level n more left place t s at y w → more ≡ n + left
-  pub settled : (rs : List CompiledLibrary) (level n left : ℕ) (place at : Span) (t y : Tree) (s w u : State) (p : Plan) → Becomes rs level n s.uses_left left place t s at y w → step rs at level y w ≡ Ok (steps.Plan p, u)
+  pub starts : (own : LibName) (records : List CompiledLibrary) (imports : List (List ℕ × Label)) (codes : Codes)
+      → (started own records imports codes).uses_left ≡ 1000000
+  pub counted : (rs : List CompiledLibrary) (level n more left : ℕ) (place at : Span) (t y : Tree) (s w : State)
+      → Becomes rs level n more left place t s at y w → more ≡ n + left
+  pub settled : (rs : List CompiledLibrary) (level n left : ℕ) (place at : Span) (t y : Tree) (s w u : State) (p : Plan)
+      → Becomes rs level n s.uses_left left place t s at y w → step rs at level y w ≡ Ok (steps.Plan p, u)
       → expand_uses rs place level t s ≡ Ok (record { place = at; form = y; plan = p }, linked y p u)
-  pub refused : (rs : List CompiledLibrary) (level n : ℕ) (place at : Span) (t y : Tree) (s w u : State) (k : KeywordUse) → Becomes rs level n s.uses_left 0 place t s at y w → step rs at level y w ≡ Ok (steps.Use k, u)
+  pub refused : (rs : List CompiledLibrary) (level n : ℕ) (place at : Span) (t y : Tree) (s w u : State) (k : KeywordUse)
+      → Becomes rs level n s.uses_left 0 place t s at y w → step rs at level y w ≡ Ok (steps.Use k, u)
       → expand_uses rs place level t s ≡ too_many y at u
   pub only : (rs : List CompiledLibrary) (level : ℕ) (place : Span) (t : Tree) (s v : State) (d : PlannedForm) → expand_uses rs place level t s ≡ Ok (d, v)
-      → (n : ℕ) × ((left : ℕ) × ((w : State) × ((u : State) × (Becomes rs level n s.uses_left left place t s d.place d.form w × ((step rs d.place level d.form w ≡ Ok (steps.Plan d.plan, u)) × (v ≡ linked d.form d.plan u))))))
+      → (n : ℕ) × ((left : ℕ) × ((w : State) × ((u : State)
+      × (Becomes rs level n s.uses_left left place t s d.place d.form w
+      × ((step rs d.place level d.form w ≡ Ok (steps.Plan d.plan, u)) × (v ≡ linked d.form d.plan u))))))
 
 -- So it is in bodies.
 pub record BodyUsesAreCounted : Type 0 where
-  pub counted : (rs : List CompiledLibrary) (depth n more left : ℕ) (at to : BodyAt) (done end : Taken) (t y : Tree) (s w : State) → BecomesItem rs depth n more left at done t s to end y w → more ≡ n + left
-  pub settled : (rs : List CompiledLibrary) (depth n left : ℕ) (at to : BodyAt) (done end taken : Taken) (t y : Tree) (s w u : State) (i : Item) → BecomesItem rs depth n s.uses_left left at done t s to end y w
-      → item_step rs to depth end y w ≡ Ok ((taken, item_steps.Item i), u) → expand_item_uses rs at depth done t s ≡ Ok ((taken, record { at = to; form = y; item = i }), u)
-  pub refused : (rs : List CompiledLibrary) (depth n : ℕ) (at to : BodyAt) (done end taken : Taken) (t y : Tree) (s w u : State) (k : KeywordUse) → BecomesItem rs depth n s.uses_left 0 at done t s to end y w
+  pub counted : (rs : List CompiledLibrary) (depth n more left : ℕ) (at to : BodyAt) (done end : Taken) (t y : Tree) (s w : State)
+      → BecomesItem rs depth n more left at done t s to end y w → more ≡ n + left
+  pub settled : (rs : List CompiledLibrary) (depth n left : ℕ) (at to : BodyAt) (done end taken : Taken) (t y : Tree) (s w u : State)
+      (i : Item) → BecomesItem rs depth n s.uses_left left at done t s to end y w
+      → item_step rs to depth end y w ≡ Ok ((taken, item_steps.Item i), u)
+      → expand_item_uses rs at depth done t s ≡ Ok ((taken, record { at = to; form = y; item = i }), u)
+  pub refused : (rs : List CompiledLibrary) (depth n : ℕ) (at to : BodyAt) (done end taken : Taken) (t y : Tree) (s w u : State)
+      (k : KeywordUse) → BecomesItem rs depth n s.uses_left 0 at done t s to end y w
       → item_step rs to depth end y w ≡ Ok ((taken, item_steps.Use k), u) → expand_item_uses rs at depth done t s ≡ too_many y to.place u

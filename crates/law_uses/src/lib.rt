@@ -8,7 +8,7 @@
 //! ```
 //!
 //! Here it is told which use that is, form by form (`specs/Counted`): each use takes one of those that are left, one behind another; a form that
-//! becomes no use is settled, even if it took the last; and where none is left, it is the next use that is refused, at its own place.
+//! is no use any more is planned, even if it took the last; and where none is left, it is the next use that is refused, at its own place.
 #![tactic(auto)]
 
 pub mod laws;

@@ -61,7 +61,8 @@ abbrev pub example_text : ℕ → PlainCore
 example_text op = text_code op (lambda_of op)
 
 abbrev pub ops_with_text : List ℕ
-ops_with_text = names.FOR_EACH ∷ names.MAP ∷ names.FIND ∷ names.FOR_ALL ∷ names.EXISTS ∷ names.FILTER ∷ names.FOLD_LEFT ∷ names.FOLD_RIGHT ∷ names.REMP ∷ names.MEMP ∷ []
+ops_with_text = names.FOR_EACH ∷ names.MAP ∷ names.FIND ∷ names.FOR_ALL ∷ names.EXISTS ∷ names.FILTER ∷ names.FOLD_LEFT ∷ names.FOLD_RIGHT
+    ∷ names.REMP ∷ names.MEMP ∷ []
 
 abbrev pub OneIsWhole : Type 0
 OneIsWhole = WholeWorld (first_world (map example_text ops_with_text) []) []
@@ -71,8 +72,10 @@ OneIsWhole = WholeWorld (first_world (map example_text ops_with_text) []) []
 pub record BrokenWorlds (w : PlainSetting) (cells : List Cell) : Type 0 where
   pub no_code : (n : ℕ) (l : Label) (number : CodeNo) (place : Place) (es : Entries) (parent : Option Place)
       → slice_get cells n ≡ Some (cell.Scope ((l, Some (value.Closure number place)) ∷ es) parent) → code_at w.codes number ≡ None → WholeWorld w cells → ⊥
-  pub no_parent : (n : ℕ) (es : Entries) (place : Place) → slice_get cells n ≡ Some (cell.Scope es (Some place)) → slice_get cells place.0 ≡ None → WholeWorld w cells → ⊥
-  pub no_pair : (n : ℕ) (place : Place) (x : Value) → slice_get cells n ≡ Some (cell.Pair (value.Pair place) x) → slice_get cells place.0 ≡ None → WholeWorld w cells → ⊥
+  pub no_parent : (n : ℕ) (es : Entries) (place : Place) → slice_get cells n ≡ Some (cell.Scope es (Some place))
+      → slice_get cells place.0 ≡ None → WholeWorld w cells → ⊥
+  pub no_pair : (n : ℕ) (place : Place) (x : Value) → slice_get cells n ≡ Some (cell.Pair (value.Pair place) x)
+      → slice_get cells place.0 ≡ None → WholeWorld w cells → ⊥
   pub no_text : (op : ℕ) → has_text op ≡ true → code_at w.codes (text_number op) ≡ None → WholeWorld w cells → ⊥
 
 abbrev pub BrokenAreNotWhole : Type 0

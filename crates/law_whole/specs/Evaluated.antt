@@ -40,11 +40,13 @@ ScopeThere cells (Some scope) = IsTrue (has_variables (slice_get cells scope.0))
 
 -- Code that is ready where its own codes have been added, and takes no other code's number, comes to a value or a fault.
 abbrev pub EvalsNeverStuck : Type 0
-EvalsNeverStuck = (w : World) (c : PlainCore) (scope : Option Place) (n : ℕ) → IsWhole w → ScopeThere w.store.cells.list scope → Stay (codes_of w) (with_codes c (codes_of w))
+EvalsNeverStuck = (w : World) (c : PlainCore) (scope : Option Place) (n : ℕ) → IsWhole w → ScopeThere w.store.cells.list scope
+    → Stay (codes_of w) (with_codes c (codes_of w))
     → ReadyIn (setting_for w c) w.store.cells.list scope c → WholeEnding (setting_for w c) (evals w c scope n)
 
 abbrev pub CallsNeverStuck : Type 0
-CallsNeverStuck = (w : World) (f : Value) (args : List Value) (n : ℕ) → IsWhole w → ValuesReady (setting_of w) w.store.cells.list (f ∷ args) → WholeEnding (setting_of w) (calls w f args n)
+CallsNeverStuck = (w : World) (f : Value) (args : List Value) (n : ℕ) → IsWhole w
+    → ValuesReady (setting_of w) w.store.cells.list (f ∷ args) → WholeEnding (setting_of w) (calls w f args n)
 
 -- Libraries.
 
@@ -81,5 +83,6 @@ LibraryEnding w ls place unfit = ⊥
 
 -- The world is whole too once the values of the library's variables stand among those of libraries.
 abbrev pub LibrariesNeverStuck : Type 0
-LibrariesNeverStuck = (w : World) (ls : List Line) (n : ℕ) → IsWhole w → Stay (codes_of w) (with_lines ls (codes_of w)) → LibraryReady (setting_for_lines w ls) w.store.cells.list ls
+LibrariesNeverStuck = (w : World) (ls : List Line) (n : ℕ) → IsWhole w → Stay (codes_of w) (with_lines ls (codes_of w))
+    → LibraryReady (setting_for_lines w ls) w.store.cells.list ls
     → LibraryEnding (setting_for_lines w ls) (lines_labels ls) (length w.store.cells.list) (library_evaluated w ls n)

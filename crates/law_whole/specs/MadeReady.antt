@@ -28,12 +28,14 @@ AreGlobals w ls = AreFound w.globals.entries ls
 
 -- code that is closed under variables of libraries and well made, and whose codes have new numbers
 abbrev pub WellMadeNeverStuck : Type 0
-WellMadeNeverStuck = (w : World) (ls : List Label) (c : PlainCore) (n : ℕ) → IsWhole w → AreGlobals w ls → Closed ls c → IsWellMade [] c → AreNew (codes_of w) (code_numbers c)
+WellMadeNeverStuck = (w : World) (ls : List Label) (c : PlainCore) (n : ℕ) → IsWhole w → AreGlobals w ls → Closed ls c → IsWellMade [] c
+    → AreNew (codes_of w) (code_numbers c)
     → WholeEnding (setting_for w c) (evals w c None n)
 
 -- A record as expansion gives it: its lines are closed under such variables and its own, each is well made, and no two of its
 -- codes have one number.
 abbrev pub RecordsNeverStuck : Type 0
-RecordsNeverStuck = (w : World) (ls : List Label) (r : CompiledLibrary) (n : ℕ) → IsWhole w → AreGlobals w ls → LinesClosed (ls ++ defined r) r → Each (IsWellMade []) (line_cores r)
+RecordsNeverStuck = (w : World) (ls : List Label) (r : CompiledLibrary) (n : ℕ) → IsWhole w → AreGlobals w ls
+    → LinesClosed (ls ++ defined r) r → Each (IsWellMade []) (line_cores r)
     → Once (flat_map code_numbers (line_cores r)) → AreNew (codes_of w) (flat_map code_numbers (line_cores r))
     → LibraryEnding (setting_for_lines w r.run) (defined r) (length w.store.cells.list) (library_evaluated w r.run n)

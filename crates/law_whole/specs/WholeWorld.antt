@@ -1,4 +1,4 @@
--- WholeCells worlds, in which no evaluation meets cells that don't fit.
+-- Whole worlds, in which no evaluation meets cells that don't fit.
 use Rattle.std.specs.Prelude.{◌≡◌, ℕ, true, List, ◌∷◌, Option, None, Some, slice_get, IsTrue}
 use Rattle.base_data.specs.declared.name.Label.{Label}
 use Rattle.base_region.specs.declared.region.Place.{Place}

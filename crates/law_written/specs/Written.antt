@@ -58,11 +58,14 @@ abbrev pub MentionsAreWritten : Type 0
 MentionsAreWritten = (names : VariableNames) (c : PlainCore) (d : PlainDatum) (p : SpellsCode names c d) → written p ≡ map (name_of names) (mentions c)
 
 abbrev pub WrittenAreGenerated : Type 0
-WrittenAreGenerated = (names : VariableNames) (c : PlainCore) (d : PlainDatum) (p : SpellsCode names c d) → AreGenerated names → words.Each IsGenerated (written p)
+WrittenAreGenerated = (names : VariableNames) (c : PlainCore) (d : PlainDatum) (p : SpellsCode names c d) → AreGenerated names
+    → words.Each IsGenerated (written p)
 
 -- In each line of a record that is hygienic, whatever names it is written with, they are the names of the labels that the identifiers stood for which became
 -- these references, one for each and in their order.
 abbrev pub ReferencesAreWritten : Type 0
-ReferencesAreWritten = (names : VariableNames) (libs : List LibName) (own : LibName) (records : List CompiledLibrary) (start : State) (at : TopAt) (exports : List (List ℕ × Tree)) (forms : List Tree) (r : CompiledLibrary)
+ReferencesAreWritten = (names : VariableNames) (libs : List LibName) (own : LibName) (records : List CompiledLibrary) (start : State)
+    (at : TopAt) (exports : List (List ℕ × Tree)) (forms : List Tree) (r : CompiledLibrary)
     → (h : RunIsRight libs own records start at exports forms r)
-    → Each (λ x. ((d : PlainDatum) (p : SpellsLine names x.line d) → line_written p ≡ map (name_of names) (mentioned x.noted.references)) × Each (IsRightReference libs own h.last) x.noted.references) h.told
+    → Each (λ x. ((d : PlainDatum) (p : SpellsLine names x.line d) → line_written p ≡ map (name_of names) (mentioned x.noted.references))
+    × Each (IsRightReference libs own h.last) x.noted.references) h.told

@@ -93,7 +93,8 @@ pub(crate) fn look_for<F: Files>(
     sources: &mut Items<Source>,
 ) -> Result<Sought, OutsideError>
     ensures same { F.told files.new ≡ F.told files.old }
-    ensures found { (fs : Paths) → F.told files.old ≡ Some fs → IfOk result (λ sought. look_for fs max file.now sources.old search.now.roots.now ≡ (sources.new, sought)) }
+    ensures found { (fs : Paths) → F.told files.old ≡ Some fs
+        → IfOk result (λ sought. look_for fs max file.now sources.old search.now.roots.now ≡ (sources.new, sought)) }
     ensures within { IfOk result (IsSoughtWithin max) }
     ensures later { F.faults files.old ≤ F.faults files.new }
     ensures failed { result ≡ Err OutsideError.Failed → Rose (F.faults files.old) (F.faults files.new) }

@@ -188,7 +188,8 @@ fn enter<F: Files>(
 ) -> Result<Turn, LoadHalt>
     requires { known_next at loading.old ≡ Ok (Some Known.New) }
     ensures same { F.told files.new ≡ F.told files.old }
-    ensures given { (fs : Paths) → F.told files.old ≡ Some fs → Turns fs search.now.roots.now result stack.new.items loading.new (meaning fs search.now.roots.now at (reverse stack.old.items) loading.old) }
+    ensures given { (fs : Paths) → F.told files.old ≡ Some fs
+        → Turns fs search.now.roots.now result stack.new.items loading.new (meaning fs search.now.roots.now at (reverse stack.old.items) loading.old) }
     ensures later { F.faults files.old ≤ F.faults files.new }
     ensures failed { result ≡ Err LoadHalt.Read → Rose (F.faults files.old) (F.faults files.new) }
 {
@@ -243,7 +244,8 @@ fn step<F: Files>(
     loading: &mut Loading,
 ) -> Result<Turn, LoadHalt>
     ensures same { F.told files.new ≡ F.told files.old }
-    ensures given { (fs : Paths) → F.told files.old ≡ Some fs → Turns fs search.now.roots.now result stack.new.items loading.new (meaning fs search.now.roots.now at (reverse stack.old.items) loading.old) }
+    ensures given { (fs : Paths) → F.told files.old ≡ Some fs
+        → Turns fs search.now.roots.now result stack.new.items loading.new (meaning fs search.now.roots.now at (reverse stack.old.items) loading.old) }
     ensures later { F.faults files.old ≤ F.faults files.new }
     ensures failed { result ≡ Err LoadHalt.Read → Rose (F.faults files.old) (F.faults files.new) }
 {
@@ -289,7 +291,8 @@ pub(crate) fn load_all<F: Files>(
     loading: &mut Loading,
 ) -> Result<Found, LoadHalt>
     ensures same { F.told files.new ≡ F.told files.old }
-    ensures given { (fs : Paths) → F.told files.old ≡ Some fs → LoadsAfter result loading.new (load_file fs search.now.roots.now most_libraries opened loading.old) }
+    ensures given { (fs : Paths) → F.told files.old ≡ Some fs
+        → LoadsAfter result loading.new (load_file fs search.now.roots.now most_libraries opened loading.old) }
     ensures later { F.faults files.old ≤ F.faults files.new }
     ensures failed { result ≡ Err LoadHalt.Read → Rose (F.faults files.old) (F.faults files.new) }
 {

@@ -84,7 +84,8 @@ fn library_parts(
     items: &[Datum],
     head: &LibraryHead,
 ) -> Result<LibraryForm, Stop>
-    ensures { Gives (λ form. form) result (library_parts file.now (not_library file.now items.now) head.now.name.now (named head.now.name.now) (form_of (codes "export") head.now.exports.now) (form_of (codes "import") head.now.imports.now)) }
+    ensures { Gives (λ form. form) result (library_parts file.now (not_library file.now items.now) head.now.name.now
+        (named head.now.name.now) (form_of (codes "export") head.now.exports.now) (form_of (codes "import") head.now.imports.now)) }
 {
     let Some(named) = named(alloc, head.name)? else {
         return Err(not_library(alloc, file, items));

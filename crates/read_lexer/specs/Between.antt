@@ -35,16 +35,20 @@ closes text = begins_pair 0x7C 0x23 text
 -- the text of block comments that are open, so many of them, goes up to the `|#` that closes the last
 pub data BlockComment : ℕ → List Decoded → ℕ → Type 0 where
   closed : (text : List Decoded) → BlockComment 0 text 0
-  close : (depth n : ℕ) (p q : Decoded) (rest : List Decoded) → closes (p ∷ q ∷ rest) ≡ true → BlockComment depth rest n → BlockComment (suc depth) (p ∷ q ∷ rest) (p.size + q.size + n)
-  opening : (depth n : ℕ) (p q : Decoded) (rest : List Decoded) → opens (p ∷ q ∷ rest) ≡ true → BlockComment (suc (suc depth)) rest n → BlockComment (suc depth) (p ∷ q ∷ rest) (p.size + q.size + n)
+  close : (depth n : ℕ) (p q : Decoded) (rest : List Decoded) → closes (p ∷ q ∷ rest) ≡ true → BlockComment depth rest n
+      → BlockComment (suc depth) (p ∷ q ∷ rest) (p.size + q.size + n)
+  opening : (depth n : ℕ) (p q : Decoded) (rest : List Decoded) → opens (p ∷ q ∷ rest) ≡ true → BlockComment (suc (suc depth)) rest n
+      → BlockComment (suc depth) (p ∷ q ∷ rest) (p.size + q.size + n)
   char : (depth n : ℕ) (p : Decoded) (rest : List Decoded) → is_none p.char ≡ false → closes (p ∷ rest) ≡ false → opens (p ∷ rest) ≡ false
       → BlockComment (suc depth) rest n → BlockComment (suc depth) (p ∷ rest) (p.size + n)
 
 -- a whitespace character or a comment, which takes so many bytes
 pub data Atmosphere : List ℕ → ℕ → Type 0 where
-  whitespace : (bytes : List ℕ) (c size : ℕ) (rest : List Decoded) → characters bytes ≡ piece (Some c) size ∷ rest → is_whitespace c ≡ true → Atmosphere bytes size
+  whitespace : (bytes : List ℕ) (c size : ℕ) (rest : List Decoded) → characters bytes ≡ piece (Some c) size ∷ rest → is_whitespace c ≡ true
+      → Atmosphere bytes size
   line_comment : (bytes : List ℕ) (n : ℕ) → slice_index bytes 0 ≡ 0x3B → CommentLine (characters (drop 1 bytes)) n → Atmosphere bytes (1 + n)
-  block_comment : (bytes : List ℕ) (n : ℕ) → starts_with nat_eq bytes (codes "#|") ≡ true → BlockComment 1 (characters (drop 2 bytes)) n → Atmosphere bytes (2 + n)
+  block_comment : (bytes : List ℕ) (n : ℕ) → starts_with nat_eq bytes (codes "#|") ≡ true → BlockComment 1 (characters (drop 2 bytes)) n
+      → Atmosphere bytes (2 + n)
   report_mark : (bytes : List ℕ) → starts_with nat_eq bytes (codes "#!r6rs") ≡ true → is_delimited (characters (drop 6 bytes)) ≡ true → Atmosphere bytes 6
 
 abbrev pub whitespace_first : List Decoded → Bool

@@ -23,7 +23,8 @@ use Rattle.read_spelling.specs.declared.escapes.Letter.{Letter}
 
 -- a character of a bare token, or an escape
 pub data BarePart : List ℕ → ℕ → Type 0 where
-  char : (bytes : List ℕ) (c size : ℕ) (rest : List Decoded) → slice_index bytes 0 ≢ 0x5C → characters bytes ≡ piece (Some c) size ∷ rest → is_delimiter c ≡ false → BarePart bytes size
+  char : (bytes : List ℕ) (c size : ℕ) (rest : List Decoded) → slice_index bytes 0 ≢ 0x5C → characters bytes ≡ piece (Some c) size ∷ rest
+      → is_delimiter c ≡ false → BarePart bytes size
   escaped : (bytes : List ℕ) (l : Letter) → slice_index bytes 0 ≡ 0x5C → escape bytes ≡ Some l → BarePart bytes l.size
 
 abbrev pub runs_first : List Decoded → Bool
@@ -46,18 +47,22 @@ pub data CharacterRun (test : Option ℕ → Bool) : List Decoded → ℕ → Ty
 
 -- an element of a string, what it stands for, if anything, and how many bytes it takes (R6RS 4.2.7)
 pub data StringElement : List ℕ → Option ℕ → ℕ → Type 0 where
-  char : (bytes : List ℕ) (c size : ℕ) (rest : List Decoded) → slice_index bytes 0 ≢ 0x5C → characters bytes ≡ piece (Some c) size ∷ rest → line_end bytes ≡ 0 → StringElement bytes (Some c) size
+  char : (bytes : List ℕ) (c size : ℕ) (rest : List Decoded) → slice_index bytes 0 ≢ 0x5C → characters bytes ≡ piece (Some c) size ∷ rest
+      → line_end bytes ≡ 0 → StringElement bytes (Some c) size
   line : (bytes : List ℕ) → slice_index bytes 0 ≢ 0x5C → 0 < line_end bytes → StringElement bytes (Some 0x0A) (line_end bytes)
   simple : (bytes : List ℕ) (c : ℕ) → slice_index bytes 0 ≡ 0x5C → simple_escape (slice_index bytes 1) ≡ Some c → StringElement bytes (Some c) 2
   hex : (bytes : List ℕ) (l : Letter) → slice_index bytes 0 ≡ 0x5C → escape bytes ≡ Some l → StringElement bytes (Some l.char) l.size
-  continued : (bytes rest : List ℕ) (before after c size : ℕ) (ps : List Decoded) → slice_index bytes 0 ≡ 0x5C → simple_escape (slice_index bytes 1) ≡ None → slice_index bytes 1 ≢ 0x78
-      → CharacterRun is_intraline_char (characters (drop 1 bytes)) before → rest ≡ drop (1 + before) bytes → 0 < line_end rest → characters rest ≡ piece (Some c) size ∷ ps
+  continued : (bytes rest : List ℕ) (before after c size : ℕ) (ps : List Decoded) → slice_index bytes 0 ≡ 0x5C
+      → simple_escape (slice_index bytes 1) ≡ None → slice_index bytes 1 ≢ 0x78
+      → CharacterRun is_intraline_char (characters (drop 1 bytes)) before → rest ≡ drop (1 + before) bytes → 0 < line_end rest
+      → characters rest ≡ piece (Some c) size ∷ ps
       → CharacterRun is_intraline_char (characters (drop (line_end rest) rest)) after → StringElement bytes None (1 + before + line_end rest + after)
 
 -- the elements of a string, with the closing quote, and the text that they stand for
 pub data StringElements : List ℕ → ℕ → List ℕ → Type 0 where
   close : (bytes : List ℕ) → slice_index bytes 0 ≡ 0x22 → StringElements bytes 1 []
-  more : (bytes text : List ℕ) (char : Option ℕ) (size n : ℕ) → slice_index bytes 0 ≢ 0x22 → StringElement bytes char size → StringElements (drop size bytes) n text
+  more : (bytes text : List ℕ) (char : Option ℕ) (size n : ℕ) → slice_index bytes 0 ≢ 0x22 → StringElement bytes char size
+      → StringElements (drop size bytes) n text
       → StringElements bytes (size + n) (char_text char ++ text)
 
 -- ( ) [ ] ' `
@@ -78,14 +83,18 @@ is_special b = b == 0x28 || b == 0x29 || b == 0x5B || b == 0x5D || b == 0x27 || 
 -- the character that a text behind `#\` spells, where it is more than that character (R6RS 4.2.6)
 pub data SpellsCharacter : List ℕ → ℕ → Type 0 where
   by_name : (text : List ℕ) (c : ℕ) → named text ≡ Some c → SpellsCharacter text c
-  by_number : (text : List ℕ) (c : ℕ) → named text ≡ None → slice_index text 0 ≡ 0x78 → is_digits 16 (drop 1 text) ≡ true → scalar_of (drop 1 text) ≡ Some c → SpellsCharacter text c
+  by_number : (text : List ℕ) (c : ℕ) → named text ≡ None → slice_index text 0 ≡ 0x78 → is_digits 16 (drop 1 text) ≡ true
+      → scalar_of (drop 1 text) ≡ Some c → SpellsCharacter text c
 
 -- bytes that begin with `#\` spell a character in so many bytes, before a delimiter
 pub data IsCharacter : List ℕ → ℕ → ℕ → Type 0 where
-  one : (bytes : List ℕ) (c size : ℕ) (ps : List Decoded) → characters (drop 2 bytes) ≡ piece (Some c) size ∷ ps → CharacterRun runs_on (characters (drop (2 + size) bytes)) 0
+  one : (bytes : List ℕ) (c size : ℕ) (ps : List Decoded) → characters (drop 2 bytes) ≡ piece (Some c) size ∷ ps
+      → CharacterRun runs_on (characters (drop (2 + size) bytes)) 0
       → is_delimited (characters (drop (2 + size) bytes)) ≡ true → IsCharacter bytes (2 + size) c
-  long : (bytes : List ℕ) (c size n d : ℕ) (ps : List Decoded) → characters (drop 2 bytes) ≡ piece (Some c) size ∷ ps → CharacterRun runs_on (characters (drop (2 + size) bytes)) n → 0 < n
-      → is_delimited (characters (drop (2 + size + n) bytes)) ≡ true → SpellsCharacter (drop 2 (take (2 + size + n) bytes)) d → IsCharacter bytes (2 + size + n) d
+  long : (bytes : List ℕ) (c size n d : ℕ) (ps : List Decoded) → characters (drop 2 bytes) ≡ piece (Some c) size ∷ ps
+      → CharacterRun runs_on (characters (drop (2 + size) bytes)) n → 0 < n
+      → is_delimited (characters (drop (2 + size + n) bytes)) ≡ true → SpellsCharacter (drop 2 (take (2 + size + n) bytes)) d
+      → IsCharacter bytes (2 + size + n) d
 
 -- the token that a bare text spells: the dot, an identifier or a number (R6RS 4.2.4 and 4.2.8)
 pub data IsBare : List ℕ → Token → Type 0 where
@@ -100,18 +109,26 @@ pub data IsBare : List ℕ → Token → Type 0 where
 pub data IsToken : List ℕ → ℕ → Token → Type 0 where
   sign : (bytes : List ℕ) (t : Token) → sign_of (slice_index bytes 0) ≡ Some t → IsToken bytes 1 t
   unquote : (bytes : List ℕ) → slice_index bytes 0 ≡ 0x2C → slice_index bytes 1 ≢ 0x40 → IsToken bytes 1 (token.Abbreviation abbreviation.Unquote)
-  unquote_splicing : (bytes : List ℕ) → slice_index bytes 0 ≡ 0x2C → slice_index bytes 1 ≡ 0x40 → IsToken bytes 2 (token.Abbreviation abbreviation.UnquoteSplicing)
-  string : (bytes text : List ℕ) (n : ℕ) → slice_index bytes 0 ≡ 0x22 → StringElements (drop 1 bytes) n text → IsToken bytes (1 + n) (token.Atom (atom.Str text))
+  unquote_splicing : (bytes : List ℕ) → slice_index bytes 0 ≡ 0x2C → slice_index bytes 1 ≡ 0x40
+      → IsToken bytes 2 (token.Abbreviation abbreviation.UnquoteSplicing)
+  string : (bytes text : List ℕ) (n : ℕ) → slice_index bytes 0 ≡ 0x22 → StringElements (drop 1 bytes) n text
+      → IsToken bytes (1 + n) (token.Atom (atom.Str text))
   hash_sign : (bytes : List ℕ) (t : Token) → slice_index bytes 0 ≡ 0x23 → hash_sign_of (slice_index bytes 1) ≡ Some t → IsToken bytes 2 t
-  unsyntax : (bytes : List ℕ) → slice_index bytes 0 ≡ 0x23 → slice_index bytes 1 ≡ 0x2C → slice_index bytes 2 ≢ 0x40 → IsToken bytes 2 (token.Abbreviation abbreviation.Unsyntax)
+  unsyntax : (bytes : List ℕ) → slice_index bytes 0 ≡ 0x23 → slice_index bytes 1 ≡ 0x2C → slice_index bytes 2 ≢ 0x40
+      → IsToken bytes 2 (token.Abbreviation abbreviation.Unsyntax)
   unsyntax_splicing : (bytes : List ℕ) → slice_index bytes 0 ≡ 0x23 → slice_index bytes 1 ≡ 0x2C → slice_index bytes 2 ≡ 0x40
       → IsToken bytes 3 (token.Abbreviation abbreviation.UnsyntaxSplicing)
-  character : (bytes : List ℕ) (n c : ℕ) → slice_index bytes 0 ≡ 0x23 → slice_index bytes 1 ≡ 0x5C → IsCharacter bytes n c → IsToken bytes n (token.Atom (atom.Char c))
+  character : (bytes : List ℕ) (n c : ℕ) → slice_index bytes 0 ≡ 0x23 → slice_index bytes 1 ≡ 0x5C → IsCharacter bytes n c
+      → IsToken bytes n (token.Atom (atom.Char c))
   open_bytes : (bytes : List ℕ) → starts_with nat_eq bytes (codes "#vu8(") ≡ true → IsToken bytes 5 token.OpenBytes
-  yes : (bytes : List ℕ) → slice_index bytes 0 ≡ 0x23 → is_true (slice_index bytes 1) ≡ true → is_delimited (characters (drop 2 bytes)) ≡ true → IsToken bytes 2 (token.Atom (atom.Bool true))
-  no : (bytes : List ℕ) → slice_index bytes 0 ≡ 0x23 → is_false (slice_index bytes 1) ≡ true → is_delimited (characters (drop 2 bytes)) ≡ true → IsToken bytes 2 (token.Atom (atom.Bool false))
-  marked : (bytes : List ℕ) (n : ℕ) (z : ℤ) → slice_index bytes 0 ≡ 0x23 → is_number_mark (slice_index bytes 1) ≡ true → Bare (drop 2 bytes) n → 0 < radix (slice_index bytes 1)
-      → is_integer (radix (slice_index bytes 1)) (drop 2 (take (2 + n) bytes)) ≡ true → integer (radix (slice_index bytes 1)) (drop 2 (take (2 + n) bytes)) ≡ Some z
+  yes : (bytes : List ℕ) → slice_index bytes 0 ≡ 0x23 → is_true (slice_index bytes 1) ≡ true
+      → is_delimited (characters (drop 2 bytes)) ≡ true → IsToken bytes 2 (token.Atom (atom.Bool true))
+  no : (bytes : List ℕ) → slice_index bytes 0 ≡ 0x23 → is_false (slice_index bytes 1) ≡ true
+      → is_delimited (characters (drop 2 bytes)) ≡ true → IsToken bytes 2 (token.Atom (atom.Bool false))
+  marked : (bytes : List ℕ) (n : ℕ) (z : ℤ) → slice_index bytes 0 ≡ 0x23 → is_number_mark (slice_index bytes 1) ≡ true
+      → Bare (drop 2 bytes) n → 0 < radix (slice_index bytes 1)
+      → is_integer (radix (slice_index bytes 1)) (drop 2 (take (2 + n) bytes)) ≡ true
+      → integer (radix (slice_index bytes 1)) (drop 2 (take (2 + n) bytes)) ≡ Some z
       → IsToken bytes (2 + n) (token.Atom (atom.Int z))
   bare : (bytes : List ℕ) (n : ℕ) (t : Token) → is_special (slice_index bytes 0) ≡ false → Bare bytes n → 0 < n → IsBare (take n bytes) t → IsToken bytes n t
 

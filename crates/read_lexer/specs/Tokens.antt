@@ -96,7 +96,8 @@ radix b = if b == 0x78 || b == 0x58 then 16 else if b == 0x62 || b == 0x42 then 
 
 -- the integer that a text spells in a base, where there is one
 abbrev pub integer_in : List ℕ → ℕ → List ℕ → ℕ → ℕ → Result Token Fault
-integer_in file base text from to = if nat_lt 0 base && is_integer base text then number file from to (integer base text) else refused file kind.BadNumber from to
+integer_in file base text from to = if nat_lt 0 base && is_integer base text then number file from to
+    (integer base text) else refused file kind.BadNumber from to
 
 -- a number behind its mark, which is the second of the bytes; no number has a backslash, so a bad escape is a bad number
 abbrev pub marked_at : List ℕ → List ℕ → ℕ → Result Lexeme Fault

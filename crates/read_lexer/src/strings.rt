@@ -155,7 +155,8 @@ fn escape_part(context: &StringContext, bytes: &[u8], at: u32) -> Result<SourceP
     requires some { 0 < length bytes.now }
     requires quoted { context.now.quote < at }
     requires fits { at + length bytes.now < 2 ^ 32 }
-    ensures gives { Gives (λ p. piece p.char p.size) result (escape_part context.now.file.now context.now.quote bytes.now at (simple_escape (slice_index bytes.now 1))) }
+    ensures gives { Gives (λ p. piece p.char p.size) result
+        (escape_part context.now.file.now context.now.quote bytes.now at (simple_escape (slice_index bytes.now 1))) }
     ensures size { IfOk result (λ p. (0 < p.size) × (p.size ≤ length bytes.now)) }
 {
     let b = byte_at(bytes, 1);

@@ -31,7 +31,10 @@ impl Model for Keywords {
 
     ghost view = { λ k. tt };
 
-    ghost invariant = { λ k. (k.quote ≡ keyword_of abbreviation.Quote) × (k.quasiquote ≡ keyword_of abbreviation.Quasiquote) × (k.unquote ≡ keyword_of abbreviation.Unquote) × (k.unquote_splicing ≡ keyword_of abbreviation.UnquoteSplicing) × (k.syntax ≡ keyword_of abbreviation.Syntax) × (k.quasisyntax ≡ keyword_of abbreviation.Quasisyntax) × (k.unsyntax ≡ keyword_of abbreviation.Unsyntax) × (k.unsyntax_splicing ≡ keyword_of abbreviation.UnsyntaxSplicing) };
+    ghost invariant = { λ k. (k.quote ≡ keyword_of abbreviation.Quote) × (k.quasiquote ≡ keyword_of abbreviation.Quasiquote)
+        × (k.unquote ≡ keyword_of abbreviation.Unquote) × (k.unquote_splicing ≡ keyword_of abbreviation.UnquoteSplicing)
+        × (k.syntax ≡ keyword_of abbreviation.Syntax) × (k.quasisyntax ≡ keyword_of abbreviation.Quasisyntax)
+        × (k.unsyntax ≡ keyword_of abbreviation.Unsyntax) × (k.unsyntax_splicing ≡ keyword_of abbreviation.UnsyntaxSplicing) };
 }
 
 impl Keywords {

@@ -106,16 +106,23 @@ module _ (file : List ℕ) where
 
   -- what is wrong with this token behind these lexemes
   pub data IsFaultAt (nesting : ℕ) (ls : List Lexeme) : Token → Extent → Fault → Type 0 where
-    close_of_nothing : {ds : List PlainDatum} (b : Bracket) (y : Extent) → AreItems file nesting ls ds → IsFaultAt nesting ls (t.Close b) y (fault_at file fault.StrayClose y)
-    close_of_another : {p : OpenParts} {x : Extent} (b : Bracket) (y : Extent) → EndsInside nesting ls p x → is_stray b p ≡ true → IsFaultAt nesting ls (t.Close b) y (fault_at file fault.StrayClose y)
+    close_of_nothing : {ds : List PlainDatum} (b : Bracket) (y : Extent) → AreItems file nesting ls ds
+        → IsFaultAt nesting ls (t.Close b) y (fault_at file fault.StrayClose y)
+    close_of_another : {p : OpenParts} {x : Extent} (b : Bracket) (y : Extent) → EndsInside nesting ls p x → is_stray b p ≡ true
+        → IsFaultAt nesting ls (t.Close b) y (fault_at file fault.StrayClose y)
     dot_at_top : {ds : List PlainDatum} (y : Extent) → AreItems file nesting ls ds → IsFaultAt nesting ls t.Dot y (fault_at file fault.BadDot y)
-    dot_in_another : {p : OpenParts} {x : Extent} (y : Extent) → EndsInside nesting ls p x → has_no_dot p ≡ true → IsFaultAt nesting ls t.Dot y (fault_at file fault.BadDot y)
-    nothing_behind_dot : {b : Bracket} {ds : List PlainDatum} {dot x : Extent} (k : Token) (y : Extent) → EndsInside nesting ls (parts.List b ds (tail.Dotted dot)) x
+    dot_in_another : {p : OpenParts} {x : Extent} (y : Extent) → EndsInside nesting ls p x → has_no_dot p ≡ true
+        → IsFaultAt nesting ls t.Dot y (fault_at file fault.BadDot y)
+    nothing_behind_dot : {b : Bracket} {ds : List PlainDatum} {dot x : Extent} (k : Token) (y : Extent)
+        → EndsInside nesting ls (parts.List b ds (tail.Dotted dot)) x
         → IsTrue (is_close k || is_dot k) → IsFaultAt nesting ls k y (fault_at file fault.BadDot dot)
-    much_behind_dot : {b : Bracket} {ds : List PlainDatum} {e : PlainDatum} {dot x : Extent} (k : Token) (y : Extent) → EndsInside nesting ls (parts.List b ds (tail.Given dot e)) x
+    much_behind_dot : {b : Bracket} {ds : List PlainDatum} {e : PlainDatum} {dot x : Extent} (k : Token) (y : Extent)
+        → EndsInside nesting ls (parts.List b ds (tail.Given dot e)) x
         → IsTrue (begins_datum k || is_dot k) → IsFaultAt nesting ls k y (fault_at file fault.BadDot dot)
-    no_byte : {ns : List ℕ} {x : Extent} (k : Token) (y : Extent) → EndsInside nesting ls (parts.Bytes ns) x → IsTrue (begins_datum k) → IsFaultAt nesting ls k y (fault_at file fault.BadNumber y)
-    too_nested : (k : Token) (y : Extent) → IsTrue (counts k) → CanGoOn (suc nesting) (ls ++ lexeme k y ∷ []) → IsFaultAt nesting ls k y (fault_at file fault.TooNested y)
+    no_byte : {ns : List ℕ} {x : Extent} (k : Token) (y : Extent) → EndsInside nesting ls (parts.Bytes ns) x → IsTrue (begins_datum k)
+        → IsFaultAt nesting ls k y (fault_at file fault.BadNumber y)
+    too_nested : (k : Token) (y : Extent) → IsTrue (counts k) → CanGoOn (suc nesting) (ls ++ lexeme k y ∷ [])
+        → IsFaultAt nesting ls k y (fault_at file fault.TooNested y)
 
 -- the first fault of a source
 pub data IsFaultOf (file bytes : List ℕ) (nesting : ℕ) : Fault → Type 0 where
@@ -125,11 +132,13 @@ pub data IsFaultOf (file bytes : List ℕ) (nesting : ℕ) : Fault → Type 0 wh
   no_token : {ls : List Lexeme} (f : Fault) (start at : ℕ) → start_of file bytes ≡ Ok start → Follow (next_lexeme file bytes) start ls at
       → CanGoOn file nesting ls → next_lexeme file bytes at ≡ Err f → IsFaultOf file bytes nesting f
   -- a token stands where none such can
-  out_of_place : {f : Fault} (ls : List Lexeme) (k : Token) (y : Extent) (start at : ℕ) → start_of file bytes ≡ Ok start → Follow (next_lexeme file bytes) start (ls ++ lexeme k y ∷ []) at
+  out_of_place : {f : Fault} (ls : List Lexeme) (k : Token) (y : Extent) (start at : ℕ) → start_of file bytes ≡ Ok start
+      → Follow (next_lexeme file bytes) start (ls ++ lexeme k y ∷ []) at
       → CanGoOn file nesting ls → (CanGoOn file nesting (ls ++ lexeme k y ∷ []) → ⊥) → IsFaultAt file nesting ls k y f → IsFaultOf file bytes nesting f
   -- the source ends too early
   unclosed : {ls : List Lexeme} {p : OpenParts} {x : Extent} (start at : ℕ) → start_of file bytes ≡ Ok start → Follow (next_lexeme file bytes) start ls at
-      → CanGoOn file nesting ls → next_lexeme file bytes at ≡ Ok None → EndsInside file nesting ls p x → IsFaultOf file bytes nesting (fault_at file fault.Unclosed x)
+      → CanGoOn file nesting ls → next_lexeme file bytes at ≡ Ok None → EndsInside file nesting ls p x
+      → IsFaultOf file bytes nesting (fault_at file fault.Unclosed x)
 
 -- of the fault, where it is one
 abbrev pub IfFault : Stop → (Fault → Type 0) → Type 0

@@ -30,7 +30,8 @@ module _ (file : List ℕ) where
           → IsDatum (suc n) (lexeme (t.Open b) x ∷ ls ++ lexeme t.Dot dot ∷ ms ++ us ++ lexeme (t.Close b) y ∷ [])
           (joined (span_at file (through x y)) (d ∷ ds) e) (through x y)
       elements : {n : ℕ} {ls : List Lexeme} {ds : List PlainDatum} (x y : Extent) → AreItems n ls ds
-          → IsDatum (suc n) (lexeme t.OpenVector x ∷ ls ++ lexeme (t.Close bracket.Round) y ∷ []) (vector (span_at file (through x y)) (chain ds nil)) (through x y)
+          → IsDatum (suc n) (lexeme t.OpenVector x ∷ ls ++ lexeme (t.Close bracket.Round) y ∷ [])
+          (vector (span_at file (through x y)) (chain ds nil)) (through x y)
       bytes : {n : ℕ} {ls : List Lexeme} {ns : List ℕ} (x y : Extent) → AreBytes n ls ns
           → IsDatum n (lexeme t.OpenBytes x ∷ ls ++ lexeme (t.Close bracket.Round) y ∷ []) (atom (span_at file (through x y)) (a.Bytes ns)) (through x y)
       abbreviation : {n : ℕ} {ls : List Lexeme} {d : PlainDatum} {y : Extent} (k : Abbreviation) (x : Extent) → IsNext n ls d y
@@ -45,13 +46,15 @@ module _ (file : List ℕ) where
     -- data in order, and between them data that are comments
     pub data AreItems : ℕ → List Lexeme → List PlainDatum → Type 0 where
       no_items : {n : ℕ} → AreItems n [] []
-      item : {n : ℕ} {ls ms : List Lexeme} {d : PlainDatum} {x : Extent} {ds : List PlainDatum} → IsDatum n ls d x → AreItems n ms ds → AreItems n (ls ++ ms) (d ∷ ds)
+      item : {n : ℕ} {ls ms : List Lexeme} {d : PlainDatum} {x : Extent} {ds : List PlainDatum} → IsDatum n ls d x → AreItems n ms ds
+          → AreItems n (ls ++ ms) (d ∷ ds)
       skipped : {n : ℕ} {ls ms : List Lexeme} {e : PlainDatum} {z : Extent} {ds : List PlainDatum} (skip : Extent) → IsNext n ls e z → AreItems (suc n) ms ds
           → AreItems (suc n) (lexeme t.SkipDatum skip ∷ ls ++ ms) ds
 
     -- bytes in order, and between them data that are comments
     pub data AreBytes : ℕ → List Lexeme → List ℕ → Type 0 where
       no_bytes : {n : ℕ} → AreBytes n [] []
-      byte : {n : ℕ} {ls : List Lexeme} {ns : List ℕ} (m : ℕ) (x : Extent) → m < 256 → AreBytes n ls ns → AreBytes n (lexeme (t.Atom (a.Int (pos m))) x ∷ ls) (m ∷ ns)
+      byte : {n : ℕ} {ls : List Lexeme} {ns : List ℕ} (m : ℕ) (x : Extent) → m < 256 → AreBytes n ls ns
+          → AreBytes n (lexeme (t.Atom (a.Int (pos m))) x ∷ ls) (m ∷ ns)
       skipped_there : {n : ℕ} {ls ms : List Lexeme} {e : PlainDatum} {z : Extent} {ns : List ℕ} (skip : Extent) → IsNext n ls e z → AreBytes (suc n) ms ns
           → AreBytes (suc n) (lexeme t.SkipDatum skip ∷ ls ++ ms) ns

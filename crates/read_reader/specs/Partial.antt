@@ -34,7 +34,8 @@ module _ (file : List ℕ) where
   -- these lexemes behind the opening are these parts of its form
   pub data InsideForm : ℕ → List Lexeme → OpenParts → Type 0 where
     in_list : {n : ℕ} {ls : List Lexeme} {ds : List PlainDatum} (b : Bracket) → AreItems file n ls ds → InsideForm n ls (parts.List b ds tail.Absent)
-    behind_dot : {n : ℕ} {ls ms : List Lexeme} {d : PlainDatum} {ds : List PlainDatum} (b : Bracket) (dot : Extent) → AreItems file n ls (d ∷ ds) → AreItems file n ms []
+    behind_dot : {n : ℕ} {ls ms : List Lexeme} {d : PlainDatum} {ds : List PlainDatum} (b : Bracket) (dot : Extent)
+        → AreItems file n ls (d ∷ ds) → AreItems file n ms []
         → InsideForm n (ls ++ (lexeme t.Dot dot ∷ ms)) (parts.List b (d ∷ ds) (tail.Dotted dot))
     behind_tail : {n : ℕ} {ls ms us : List Lexeme} {d e : PlainDatum} {ds : List PlainDatum} {z : Extent} (b : Bracket) (dot : Extent)
         → AreItems file n ls (d ∷ ds) → IsNext file n ms e z → AreItems file n us []

@@ -18,4 +18,5 @@ abbrev pub bare : App
 bare = record (new_app (codes "scheme-expand")) { top = record (new_app (codes "scheme-expand")).top { no_binary_name = true; disable_help_flag = true } }
 
 abbrev pub command : App
-command = with_rule (with_rule (with_rule (with_rule (with_rule (with_rule bare (option (codes "root"))) (option (codes "cache"))) (option (codes "write"))) (option (codes "make"))) (flag (codes "report"))) (positional (codes "program"))
+command = with_rule (with_rule (with_rule (with_rule (with_rule (with_rule bare (option (codes "root"))) (option (codes "cache")))
+    (option (codes "write"))) (option (codes "make"))) (flag (codes "report"))) (positional (codes "program"))

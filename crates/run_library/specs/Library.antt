@@ -85,7 +85,8 @@ link_library prelude records path form body =
 -- what the expansion of the body spends
 unfoldable pub body_spent : Result Codes Fault → List CompiledLibrary → List ℕ → LibraryForm → LibrarySource → ℕ
 body_spent prelude records path form body =
-    spent_behind (expander_of prelude form.name path records body.names) (λ e. library_spent e records form.version form.name_span (map export_tree form.exports) body.forms)
+    spent_behind (expander_of prelude form.name path records body.names)
+    (λ e. library_spent e records form.version form.name_span (map export_tree form.exports) body.forms)
 
 -- what that of a library or a program spends, after these records
 unfoldable pub form_spent : Result Codes Fault → List CompiledLibrary → List ℕ → LibraryForm → List PlainDatum → ℕ

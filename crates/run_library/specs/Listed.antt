@@ -10,4 +10,5 @@ use Rattle.run_library.specs.Imports.{exported}
 
 -- of each library that is listed the names are those that it exports, each once
 abbrev pub AreListed : List CompiledLibrary → List (LibName × ImportSource) → Type 0
-AreListed records rows = (library : LibName) (names : Labelled) → names_in library rows ≡ Some names → (span : Span) → joined span [] (exported records library) ≡ Ok names
+AreListed records rows = (library : LibName) (names : Labelled) → names_in library rows ≡ Some names → (span : Span)
+    → joined span [] (exported records library) ≡ Ok names

@@ -34,7 +34,8 @@ planned_text records program = core_text records (plan_of records program) progr
 
 -- the core text of a program behind the libraries that were loaded before it, or the first fault
 unfoldable pub text_behind : Result Codes Fault → List (List ℕ × Found) → Found → Result (List ℕ) Fault
-text_behind prelude rows found = all_records prelude rows >>= (λ records. expand_found prelude records found (program_body found.opened.«data») >>= (λ program. planned_text records program))
+text_behind prelude rows found = all_records prelude rows
+    >>= (λ records. expand_found prelude records found (program_body found.opened.«data») >>= (λ program. planned_text records program))
 
 -- the fault where loading stopped, unless a library that was loaded before has one
 unfoldable pub fault_behind : Result Codes Fault → List (List ℕ × Found) → Fault → Result (List ℕ) Fault
@@ -75,7 +76,8 @@ found_spent prelude records found body = form_spent prelude (needed_records reco
 -- what those of libraries spend, each behind these records and those of the libraries before it
 unfoldable pub each_spent : Result Codes Fault → List CompiledLibrary → List Found → ℕ
 each_spent prelude records [] = 0
-each_spent prelude records (f ∷ fs) = found_spent prelude records f (library_body f.opened.«data») + spent_behind (expand_next prelude records ([], f)) (λ rs. each_spent prelude rs fs)
+each_spent prelude records (f ∷ fs) = found_spent prelude records f (library_body f.opened.«data») + spent_behind
+    (expand_next prelude records ([], f)) (λ rs. each_spent prelude rs fs)
 
 -- the derived library's, and those of the libraries behind it
 abbrev pub all_spent : Result Codes Fault → List Found → ℕ
@@ -84,4 +86,5 @@ all_spent prelude fs = derived_spent prelude + spent_behind (derived_record prel
 -- the program's too, behind the libraries that were loaded before it
 unfoldable pub program_spent : Result Codes Fault → List (List ℕ × Found) → Found → ℕ
 program_spent prelude rows found =
-    all_spent prelude (map (λ (row : List ℕ × Found). row.1) rows) + spent_behind (all_records prelude rows) (λ records. found_spent prelude records found (program_body found.opened.«data»))
+    all_spent prelude (map (λ (row : List ℕ × Found). row.1) rows) + spent_behind (all_records prelude rows)
+    (λ records. found_spent prelude records found (program_body found.opened.«data»))

@@ -88,8 +88,10 @@ pub fn expand_body<N: Ledger, L: Ledger>(
     unexpanded: Unexpanded,
     tally: &mut Tally<N, L>,
 ) -> Result<Linked, Stop>
-    ensures linked { Gives (λ l. l) result (expand_body (kept implementation.now.prelude) (needed_records needed.now.records.now needed.now.marks.now) unexpanded.path unexpanded.form unexpanded.body) }
-    ensures fuel { OnOk result (tally.new.fuel ≡ tally.old.fuel + body_spent (kept implementation.now.prelude) (needed_records needed.now.records.now needed.now.marks.now) unexpanded.path unexpanded.form unexpanded.body) }
+    ensures linked { Gives (λ l. l) result (expand_body (kept implementation.now.prelude)
+        (needed_records needed.now.records.now needed.now.marks.now) unexpanded.path unexpanded.form unexpanded.body) }
+    ensures fuel { OnOk result (tally.new.fuel ≡ tally.old.fuel + body_spent (kept implementation.now.prelude)
+        (needed_records needed.now.records.now needed.now.marks.now) unexpanded.path unexpanded.form unexpanded.body) }
 {
     let Some(unspent) = tally.fuel.begin() else {
         return Err(Stop::Memory);
@@ -116,7 +118,8 @@ fn expander_of<L: Ledger>(
     unexpanded: &Unexpanded,
     unspent: Unspent<L>,
 ) -> Result<Expander<L>, Stop>
-    ensures given { Gives (λ e. e) result (expander_of (kept prelude.now) unexpanded.now.form.name unexpanded.now.path (needed_records needed.now.records.now needed.now.marks.now) unexpanded.now.body.names) }
+    ensures given { Gives (λ e. e) result (expander_of (kept prelude.now) unexpanded.now.form.name unexpanded.now.path
+        (needed_records needed.now.records.now needed.now.marks.now) unexpanded.now.body.names) }
     ensures ok { IfOk result (λ e. e.failed ≡ false) }
 {
     let name = share_library(alloc, &unexpanded.form.name)?;
@@ -142,8 +145,10 @@ fn linked_behind<N: Ledger, L: Ledger>(
     tally: &mut Tally<N, L>,
 ) -> Result<Linked, Stop>
     requires { begun.failed ≡ false }
-    ensures linked { Gives (λ l. l) result (library_linked begun (needed_records needed.now.records.now needed.now.marks.now) body.entry.version body.entry.place.now body.entry.exports.now body.entry.forms) }
-    ensures fuel { OnOk result (tally.new.fuel ≡ tally.old.fuel + library_spent begun (needed_records needed.now.records.now needed.now.marks.now) body.entry.version body.entry.place.now body.entry.exports.now body.entry.forms) }
+    ensures linked { Gives (λ l. l) result (library_linked begun
+        (needed_records needed.now.records.now needed.now.marks.now) body.entry.version body.entry.place.now body.entry.exports.now body.entry.forms) }
+    ensures fuel { OnOk result (tally.new.fuel ≡ tally.old.fuel + library_spent begun
+        (needed_records needed.now.records.now needed.now.marks.now) body.entry.version body.entry.place.now body.entry.exports.now body.entry.forms) }
 {
     let earlier = Earlier {
         records: needed.records.ready().as_slice(),
@@ -161,7 +166,8 @@ fn expander_behind<L: Ledger>(
     names: &[(Symbol, Label)],
     supplies: Supplies<L>,
 ) -> Result<Expander<L>, Stop>
-    ensures { Gives (λ e. e) result (Ok (ready origin.name origin.path (needed_records needed.now.records.now needed.now.marks.now) names.now (table.seen supplies.codes.entries))) }
+    ensures { Gives (λ e. e) result (Ok (ready origin.name origin.path
+        (needed_records needed.now.records.now needed.now.marks.now) names.now (table.seen supplies.codes.entries))) }
 {
     let Origin { name, path } = origin;
     let ready = needed.records.ready();

@@ -60,7 +60,8 @@ fn expand_next<N: Ledger, L: Ledger>(
     tally: &mut Tally<N, L>,
 ) -> Result<(), Stop>
     ensures records { Gives (λ _. records.new) result (expand_next (kept implementation.now.prelude) records.old ([], found)) }
-    ensures fuel { OnOk result (tally.new.fuel ≡ tally.old.fuel + found_spent (kept implementation.now.prelude) records.old found (library_body found.opened.«data»)) }
+    ensures fuel { OnOk result (tally.new.fuel ≡ tally.old.fuel + found_spent (kept implementation.now.prelude) records.old found
+        (library_body found.opened.«data»)) }
 {
     let record = record_of_one(alloc, implementation, records, found, tally)?;
     records.push(alloc, record)?;
@@ -92,7 +93,8 @@ fn record_of_one<N: Ledger, L: Ledger>(
     tally: &mut Tally<N, L>,
 ) -> Result<CompiledLibrary, Stop>
     ensures record { Gives (λ r. r) result (expand_found (kept implementation.now.prelude) records.now found (library_body found.opened.«data»)) }
-    ensures fuel { OnOk result (tally.new.fuel ≡ tally.old.fuel + found_spent (kept implementation.now.prelude) records.now found (library_body found.opened.«data»)) }
+    ensures fuel { OnOk result (tally.new.fuel ≡ tally.old.fuel + found_spent (kept implementation.now.prelude) records.now found
+        (library_body found.opened.«data»)) }
 {
     let linked = expand_one(alloc, implementation, records, found, tally)?;
     Ok(without_links(linked))
@@ -107,7 +109,8 @@ fn expand_one<N: Ledger, L: Ledger>(
     tally: &mut Tally<N, L>,
 ) -> Result<Linked, Stop>
     ensures linked { Gives (λ l. l) result (link_found (kept implementation.now.prelude) records.now found (library_body found.opened.«data»)) }
-    ensures fuel { OnOk result (tally.new.fuel ≡ tally.old.fuel + found_spent (kept implementation.now.prelude) records.now found (library_body found.opened.«data»)) }
+    ensures fuel { OnOk result (tally.new.fuel ≡ tally.old.fuel + found_spent (kept implementation.now.prelude) records.now found
+        (library_body found.opened.«data»)) }
 {
     let marks = with_derived(alloc, found.needs.as_slice())?;
     let needed = Needed {
@@ -130,7 +133,8 @@ fn expand_program<N: Ledger, L: Ledger>(
     tally: &mut Tally<N, L>,
 ) -> Result<Linked, Stop>
     ensures linked { Gives (λ l. l) result (link_found (kept implementation.now.prelude) records.now found (program_body found.opened.«data»)) }
-    ensures fuel { OnOk result (tally.new.fuel ≡ tally.old.fuel + found_spent (kept implementation.now.prelude) records.now found (program_body found.opened.«data»)) }
+    ensures fuel { OnOk result (tally.new.fuel ≡ tally.old.fuel + found_spent (kept implementation.now.prelude) records.now found
+        (program_body found.opened.«data»)) }
 {
     let marks = with_derived(alloc, found.needs.as_slice())?;
     let needed = Needed {
@@ -153,7 +157,8 @@ fn record_of_program<N: Ledger, L: Ledger>(
     tally: &mut Tally<N, L>,
 ) -> Result<CompiledLibrary, Stop>
     ensures record { Gives (λ r. r) result (expand_found (kept implementation.now.prelude) records.now found (program_body found.opened.«data»)) }
-    ensures fuel { OnOk result (tally.new.fuel ≡ tally.old.fuel + found_spent (kept implementation.now.prelude) records.now found (program_body found.opened.«data»)) }
+    ensures fuel { OnOk result (tally.new.fuel ≡ tally.old.fuel + found_spent (kept implementation.now.prelude) records.now found
+        (program_body found.opened.«data»)) }
 {
     let linked = expand_program(alloc, implementation, records, found, tally)?;
     Ok(without_links(linked))
@@ -286,7 +291,8 @@ fn link_next<N: Ledger, L: Ledger>(
     tally: &mut Tally<N, L>,
 ) -> Result<(), Stop>
     ensures linked { Gives (λ _. all.new) result (link_next (kept implementation.now.prelude) all.old ([], found)) }
-    ensures fuel { OnOk result (tally.new.fuel ≡ tally.old.fuel + found_spent (kept implementation.now.prelude) all.old.records found (library_body found.opened.«data»)) }
+    ensures fuel { OnOk result (tally.new.fuel ≡ tally.old.fuel + found_spent (kept implementation.now.prelude) all.old.records found
+        (library_body found.opened.«data»)) }
 {
     let linked = expand_one(alloc, implementation, &all.records, found, tally)?;
     gather(alloc, all, linked)?;

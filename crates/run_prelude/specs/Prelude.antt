@@ -76,7 +76,11 @@ tree_in n = data_of (path_of n) (text_of (prelude_text n)) file_nesting >>= firs
 
 -- a procedure without arguments, whose body is the text
 abbrev pub procedure_of : ℕ → PlainCore → PlainCode
-procedure_of n c = record { number = record { 0 = record { library = library.Core; number = n } }; cases = case (record { required = []; rest = None }) c no_case; plain = true }
+procedure_of n c = record {
+  number = record { 0 = record { library = library.Core; number = n } };
+  cases = case (record { required = []; rest = None }) c no_case;
+  plain = true;
+}
 
 abbrev pub expanded : ℕ → Result Tree Fault → Does PlainCode
 expanded n (Err f) s = Err f

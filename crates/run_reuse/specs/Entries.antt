@@ -79,7 +79,8 @@ earlier records f = needed_records records (true ∷ f.needs)
 
 -- a record can stand for that of the library
 abbrev pub suits : List CompiledLibrary → Found → CompiledLibrary → Bool
-suits records f r = same_library r.name f.opened.form.name && (pointwise nat_eq r.version f.opened.form.version && (same_text r.path f.opened.path && follows r (earlier records f)))
+suits records f r = same_library r.name f.opened.form.name &&
+    (pointwise nat_eq r.version f.opened.form.version && (same_text r.path f.opened.path && follows r (earlier records f)))
 
 abbrev pub if_suits : List CompiledLibrary → Found → Option CompiledLibrary → Option CompiledLibrary
 if_suits records f None = None

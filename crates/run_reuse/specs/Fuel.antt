@@ -61,12 +61,14 @@ module _ (prelude : Result Codes Fault) where
 
 module _ (k : CacheInputs) (prelude : Result Codes Fault) where
   -- what is spent where libraries took their turns and a text was written; nothing is said where there is a fault
-  abbrev pub writes_spent : {c : Came} {fs : List Found} {before after : Paths} {faults_before faults : ℕ} {made : Result Text Fault} → Writes k prelude c fs before faults_before after faults made → ℕ
+  abbrev pub writes_spent : {c : Came} {fs : List Found} {before after : Paths} {faults_before faults : ℕ} {made : Result Text Fault}
+      → Writes k prelude c fs before faults_before after faults made → ℕ
   writes_spent {c = c} {fs = fs} (took derived p given turns) = progress_spent prelude fs p + came_spent prelude c p
   writes_spent (stopped derived fault given stops) = 0
   writes_spent (unready fault given same) = 0
 
   -- the turns come to a text, and this is spent
-  pub record WritesSpending (c : Came) (fs : List Found) (before : Paths) (faults_before : ℕ) (after : Paths) (faults : ℕ) (made : Result Text Fault) (fuel_before fuel_after : ℕ) : Type 0 where
+  pub record WritesSpending (c : Came) (fs : List Found) (before : Paths) (faults_before : ℕ) (after : Paths) (faults : ℕ)
+      (made : Result Text Fault) (fuel_before fuel_after : ℕ) : Type 0 where
     pub writes : Writes k prelude c fs before faults_before after faults made
     pub rose : fuel_after ≡ fuel_before + writes_spent writes

@@ -11,7 +11,8 @@ pub record ReuseProgress : Type 0 where
 
 abbrev pub progress_code : Coded ReuseProgress
 progress_code =
-    code_by (List CompiledLibrary × List Bool) (coded× (coded_list of_record.the_row.coded) (coded_list coded_bool)) (λ p. (p.records, p.reused)) (λ q. record { records = q.0; reused = q.1 }) (λ _. refl)
+    code_by (List CompiledLibrary × List Bool) (coded× (coded_list of_record.the_row.coded) (coded_list coded_bool))
+    (λ p. (p.records, p.reused)) (λ q. record { records = q.0; reused = q.1 }) (λ _. refl)
 
 abbrev pub begun : CompiledLibrary → ReuseProgress
 begun derived = record { records = derived ∷ []; reused = [] }

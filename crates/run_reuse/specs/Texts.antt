@@ -42,16 +42,19 @@ module _ (prelude : Result Codes Fault) where
 module _ (k : CacheInputs) (prelude : Result Codes Fault) where
   -- what the turns of the libraries come to, and what they leave of the store
   pub data Writes (c : Came) (fs : List Found) (before : Paths) (faults_before : ℕ) (after : Paths) (faults : ℕ) : Result Text Fault → Type 0 where
-    took : (derived : CompiledLibrary) (p : ReuseProgress) → derived_record prelude ≡ Ok derived → ReuseTurns k prelude (state (begun derived) before faults_before) fs (state p after faults)
+    took : (derived : CompiledLibrary) (p : ReuseProgress) → derived_record prelude ≡ Ok derived
+        → ReuseTurns k prelude (state (begun derived) before faults_before) fs (state p after faults)
         → Writes c fs before faults_before after faults (with_flags p.reused (text_behind prelude c p))
-    stopped : (derived : CompiledLibrary) (fault : Fault) → derived_record prelude ≡ Ok derived → TurnsStop k prelude fault after faults (state (begun derived) before faults_before) fs
+    stopped : (derived : CompiledLibrary) (fault : Fault) → derived_record prelude ≡ Ok derived
+        → TurnsStop k prelude fault after faults (state (begun derived) before faults_before) fs
         → Writes c fs before faults_before after faults (Err fault)
     unready : (fault : Fault) → derived_record prelude ≡ Err fault → after ≡ before → Writes c fs before faults_before after faults (Err fault)
 
   -- what is left of the store, wherever the turns end
   pub data Leaves (fs : List Found) (before : Paths) (faults_before : ℕ) (after : Paths) (faults : ℕ) : Type 0 where
     untouched : after ≡ before → Leaves fs before faults_before after faults
-    turned : (derived : CompiledLibrary) → derived_record prelude ≡ Ok derived → BreaksOff k prelude after faults (state (begun derived) before faults_before) fs → Leaves fs before faults_before after faults
+    turned : (derived : CompiledLibrary) → derived_record prelude ≡ Ok derived
+        → BreaksOff k prelude after faults (state (begun derived) before faults_before) fs → Leaves fs before faults_before after faults
 
   -- what a call answers
   abbrev pub Answers : Result WrittenProgram Stop → Came → List Found → Paths → ℕ → Paths → ℕ → Type 0

@@ -33,10 +33,12 @@ Quiet before after = Rose before after → ⊥
 
 -- an entry is put unless it has no spelling or is too long; where the put failed, only its place is touched
 pub data IsPut (faults_before faults_after : ℕ) (place : List ℕ) (before : Paths) : Option (List ℕ) → Paths → Type 0 where
-  put : {piece : List ℕ} {after : Paths} → length piece ≤ entry_limit → Sets place piece before after → IsPut faults_before faults_after place before (Some piece) after
+  put : {piece : List ℕ} {after : Paths} → length piece ≤ entry_limit → Sets place piece before after
+      → IsPut faults_before faults_after place before (Some piece) after
   too_long : {piece : List ℕ} → entry_limit < length piece → IsPut faults_before faults_after place before (Some piece) before
   unspelled : IsPut faults_before faults_after place before None before
-  failed : {piece : List ℕ} {after : Paths} → Rose faults_before faults_after → KeepsOthers place before after → IsPut faults_before faults_after place before (Some piece) after
+  failed : {piece : List ℕ} {after : Paths} → Rose faults_before faults_after → KeepsOthers place before after
+      → IsPut faults_before faults_after place before (Some piece) after
 
 -- for want of memory all is as it was
 abbrev pub PutsEntry : Result Unit Memory → ℕ → ℕ → List ℕ → Paths → Option (List ℕ) → Paths → Type 0
@@ -71,7 +73,8 @@ module _ (k : CacheInputs) (prelude : Result Codes Fault) where
   -- where memory ran out in the turn of a library, nothing was put, or its entry was
   pub data Breaks (s : TurnState) (f : Found) (store : Paths) (faults : ℕ) : Type 0 where
     nothing_put : store ≡ s.store → s.faults ≤ faults → Breaks s f store faults
-    entry_put : (r : CompiledLibrary) (asked : ℕ) → s.faults ≤ asked → asked ≤ faults → expanded_record s f ≡ Ok r → IsPut asked faults (place_of k f) s.store (spelled (made k f r)) store → Breaks s f store faults
+    entry_put : (r : CompiledLibrary) (asked : ℕ) → s.faults ≤ asked → asked ≤ faults → expanded_record s f ≡ Ok r
+        → IsPut asked faults (place_of k f) s.store (spelled (made k f r)) store → Breaks s f store faults
 
   -- ---- all libraries
 
@@ -119,8 +122,10 @@ module _ (k : CacheInputs) (prelude : Result Codes Fault) where
   -- what comes of an expansion whose entry is put in a place
   abbrev pub Keeps : List CompiledLibrary → Found → List ℕ → Result Recorded Stop → Paths → Paths → ℕ → ℕ → Type 0
   Keeps records f place (Ok r) before after faults_before faults =
-      (expand_found prelude records f (library_body f.opened.«data») ≡ Ok r.library) × (IsPut faults_before faults place before (spelled (made k f r.library)) after) × (r.reused ≡ false)
-  Keeps records f place (Err (stop.Fault fault)) before after faults_before faults = (expand_found prelude records f (library_body f.opened.«data») ≡ Err fault) × (after ≡ before)
+      (expand_found prelude records f (library_body f.opened.«data») ≡ Ok r.library)
+      × (IsPut faults_before faults place before (spelled (made k f r.library)) after) × (r.reused ≡ false)
+  Keeps records f place (Err (stop.Fault fault)) before after faults_before faults
+      = (expand_found prelude records f (library_body f.opened.«data») ≡ Err fault) × (after ≡ before)
   Keeps records f place (Err stop.Memory) before after faults_before faults = after ≡ before
 
 -- what was asked for, unless the call failed

@@ -92,7 +92,11 @@ impl<'a> Cache<'a> {
 
     /// The entry of a library, but for its record.
     pub(crate) fn unmade(&self, alloc: Global, found: &Found) -> Result<Unmade, Memory>
-        ensures { IfOk result (λ u. u ≡ record { path = found.now.opened.path; roots = self.now.roots; sources = picked self.now.sources (chosen self.now.groups found.now) }) }
+        ensures { IfOk result (λ u. u ≡ record {
+          path = found.now.opened.path;
+          roots = self.now.roots;
+          sources = picked self.now.sources (chosen self.now.groups found.now);
+        }) }
     {
         let path = found.opened.path.share()?;
         let roots = share_all(alloc, self.roots)?;

@@ -183,7 +183,8 @@ fn expand_and_keep<S: Store, N: Ledger, L: Ledger>(
     ensures kept { WhereTold (S.told store.old) (S.told store.new) (λ before after.
         Keeps turning.now.cache.now (kept turning.now.implementation.now.prelude) turned.now.records due.found (string_bytes due.place) result
         before after (S.faults store.old) (S.faults store.new)) }
-    ensures fuel { IfOk result (λ r. tally.new.fuel ≡ tally.old.fuel + turn_spent (kept turning.now.implementation.now.prelude) turned.now.records due.found r.reused) }
+    ensures fuel { IfOk result (λ r. tally.new.fuel ≡ tally.old.fuel + turn_spent
+        (kept turning.now.implementation.now.prelude) turned.now.records due.found r.reused) }
 {
     let Due { found, place } = due;
     let unmade = turning.cache.unmade(turning.alloc, &found)?;
@@ -205,7 +206,8 @@ fn ask_or_expand<S: Store, N: Ledger, L: Ledger>(
     ensures turn { WhereTold (S.told store.old) (S.told store.new) (λ before after.
         Records turning.now.cache.now (kept turning.now.implementation.now.prelude) result (state turned.now before (S.faults store.old))
         found after (S.faults store.new)) }
-    ensures fuel { IfOk result (λ r. tally.new.fuel ≡ tally.old.fuel + turn_spent (kept turning.now.implementation.now.prelude) turned.now.records found r.reused) }
+    ensures fuel { IfOk result (λ r. tally.new.fuel ≡ tally.old.fuel + turn_spent
+        (kept turning.now.implementation.now.prelude) turned.now.records found r.reused) }
 {
     let due = turning.cache.due(turning.alloc, found)?;
     let stored = ask(turning, turned, &due, store)?;
@@ -257,7 +259,8 @@ fn take_each<S: Store, N: Ledger, L: Ledger>(
     ensures turns { WhereTold (S.told store.old) (S.told store.new) (λ before after.
         TakeTurns turning.now.cache.now (kept turning.now.implementation.now.prelude) result (state turned before (S.faults store.old))
         (map (λ row. row.1) libraries) after (S.faults store.new)) }
-    ensures fuel { IfOk result (λ t. TurnsSpend (kept turning.now.implementation.now.prelude) turned (map (λ row. row.1) libraries) t tally.old.fuel tally.new.fuel) }
+    ensures fuel { IfOk result (λ t. TurnsSpend (kept turning.now.implementation.now.prelude) turned
+        (map (λ row. row.1) libraries) t tally.old.fuel tally.new.fuel) }
 {
     let mut turned = turned;
     for found in libraries.into_values() {
@@ -277,7 +280,8 @@ pub(crate) fn take_turns<S: Store, N: Ledger, L: Ledger>(
     ensures turns { WhereTold (S.told store.old) (S.told store.new) (λ before after.
         TakeFrom turning.now.cache.now (kept turning.now.implementation.now.prelude) (derived_record (kept turning.now.implementation.now.prelude))
         result (map (λ row. row.1) libraries) before after (S.faults store.old) (S.faults store.new)) }
-    ensures fuel { IfOk result (λ t. tally.new.fuel ≡ tally.old.fuel + progress_spent (kept turning.now.implementation.now.prelude) (map (λ row. row.1) libraries) t) }
+    ensures fuel { IfOk result (λ t. tally.new.fuel ≡ tally.old.fuel + progress_spent (kept turning.now.implementation.now.prelude)
+        (map (λ row. row.1) libraries) t) }
 {
     let derived = derived_record(turning.alloc, turning.implementation, tally)?;
     let turned = Turned::new(turning.alloc, derived)?;

@@ -60,7 +60,8 @@ abbrev pub kept_of : Job → List ℕ → Loading → List Group → CacheInputs
 kept_of job dir s groups = record { dir = dir; roots = job.roots; sources = s.sources; groups = groups }
 
 -- what a job comes to whose program and libraries were loaded
-pub record ComesOf (job : Job) (dir : List ℕ) (c : Came) (s : Loading) (before : Paths) (faults_before : ℕ) (after : Paths) (faults : ℕ) (outcome : RunOutcome) : Type 0 where
+pub record ComesOf (job : Job) (dir : List ℕ) (c : Came) (s : Loading) (before : Paths) (faults_before : ℕ) (after : Paths) (faults : ℕ)
+    (outcome : RunOutcome) : Type 0 where
   pub groups : List Group
   pub are : AreGroups (groups_from 0 0 s.sources) s.begun s.done groups
   pub made : Result Text Fault
@@ -74,7 +75,8 @@ Comes files job dir before faults_before after faults outcome =
 -- what is left of the store
 pub data LeavesOf (job : Job) (dir : List ℕ) (s : Loading) (before : Paths) (faults_before : ℕ) (after : Paths) (faults : ℕ) : Type 0 where
   as_it_was : after ≡ before → LeavesOf job dir s before faults_before after faults
-  by_turns : (groups : List Group) → AreGroups (groups_from 0 0 s.sources) s.begun s.done groups → Leaves (kept_of job dir s groups) prelude_table (found_in s.done) before faults_before after faults
+  by_turns : (groups : List Group) → AreGroups (groups_from 0 0 s.sources) s.begun s.done groups
+      → Leaves (kept_of job dir s groups) prelude_table (found_in s.done) before faults_before after faults
       → LeavesOf job dir s before faults_before after faults
 
 abbrev pub LeavesStore : Paths → Job → List ℕ → Paths → ℕ → Paths → ℕ → Type 0
@@ -82,17 +84,20 @@ LeavesStore files job dir before faults_before after faults = LeavesOf job dir (
 
 -- ---- the premise on seals: where a put failed, nothing unsound lies at its place
 
-abbrev pub ComesHonestly : {job : Job} {dir : List ℕ} {c : Came} {s : Loading} {before after : Paths} {faults_before faults : ℕ} {outcome : RunOutcome} → ComesOf job dir c s before faults_before after faults outcome → Type 0
+abbrev pub ComesHonestly : {job : Job} {dir : List ℕ} {c : Came} {s : Loading} {before after : Paths} {faults_before faults : ℕ}
+    {outcome : RunOutcome} → ComesOf job dir c s before faults_before after faults outcome → Type 0
 ComesHonestly {job = job} {dir = dir} {s = s} comes = WritesHonestly (kept_of job dir s comes.groups) prelude_table comes.writes
 
-abbrev pub LeavesOfHonestly : {job : Job} {dir : List ℕ} {s : Loading} {before after : Paths} {faults_before faults : ℕ} → LeavesOf job dir s before faults_before after faults → Type 0
+abbrev pub LeavesOfHonestly : {job : Job} {dir : List ℕ} {s : Loading} {before after : Paths} {faults_before faults : ℕ}
+    → LeavesOf job dir s before faults_before after faults → Type 0
 LeavesOfHonestly (as_it_was same) = Unit {0}
 LeavesOfHonestly {job = job} {dir = dir} {s = s} (by_turns groups are leaves) = LeavesHonestly (kept_of job dir s groups) prelude_table leaves
 
 -- ---- what calls answer
 
 abbrev pub PreparesText : Result Prepared Unfinished → Bool → List Told → List Source → Result WrittenProgram Stop → Type 0
-PreparesText (Ok made) report libraries sources (Ok w) = (string_bytes made.text ≡ string_bytes w.text) × (string_bytes made.report ≡ report_by report libraries w.reused)
+PreparesText (Ok made) report libraries sources (Ok w) = (string_bytes made.text ≡ string_bytes w.text)
+    × (string_bytes made.report ≡ report_by report libraries w.reused)
 PreparesText (Ok made) report libraries sources (Err x) = ⊥
 PreparesText (Err (unfinished.Line line)) report libraries sources (Err (stop.Fault f)) = string_bytes line ≡ fault_line f (source_of sources f.span.file)
 PreparesText (Err (unfinished.Line line)) report libraries sources (Err stop.Memory) = ⊥
@@ -101,8 +106,10 @@ PreparesText (Err unfinished.Read) report libraries sources w = Unit {0}
 PreparesText (Err unfinished.Memory) report libraries sources w = Unit {0}
 
 abbrev pub PreparesFrom : Result Prepared Unfinished → Job → List ℕ → Came → Loading → Paths → ℕ → Paths → ℕ → Type 0
-PreparesFrom (Ok made) job dir c s before faults_before after faults = ComesOf job dir c s before faults_before after faults (done (string_bytes made.text) (string_bytes made.report))
-PreparesFrom (Err (unfinished.Line line)) job dir c s before faults_before after faults = ComesOf job dir c s before faults_before after faults (fault (string_bytes line))
+PreparesFrom (Ok made) job dir c s before faults_before after faults
+    = ComesOf job dir c s before faults_before after faults (done (string_bytes made.text) (string_bytes made.report))
+PreparesFrom (Err (unfinished.Line line)) job dir c s before faults_before after faults
+    = ComesOf job dir c s before faults_before after faults (fault (string_bytes line))
 PreparesFrom (Err unfinished.Read) job dir c s before faults_before after faults = after ≡ before
 PreparesFrom (Err unfinished.Memory) job dir c s before faults_before after faults = LeavesOf job dir s before faults_before after faults
 

@@ -36,17 +36,20 @@ job_spent files job = prelude_spent + loads_spent prelude_table (load files job.
 -- ---- with a cache
 
 -- the same, but for the libraries whose records are reused
-abbrev pub comes_spent : {job : Job} {dir : List ℕ} {c : Came} {s : Loading} {before after : Paths} {faults_before faults : ℕ} {outcome : RunOutcome} → ComesOf job dir c s before faults_before after faults outcome → ℕ
+abbrev pub comes_spent : {job : Job} {dir : List ℕ} {c : Came} {s : Loading} {before after : Paths} {faults_before faults : ℕ}
+    {outcome : RunOutcome} → ComesOf job dir c s before faults_before after faults outcome → ℕ
 comes_spent {job = job} {dir = dir} {s = s} comes = writes_spent (kept_of job dir s comes.groups) prelude_table comes.writes
 
 -- a job comes to a text, and this is spent behind the texts of procedures
-pub record ComesSpending (job : Job) (dir : List ℕ) (c : Came) (s : Loading) (before : Paths) (faults_before : ℕ) (after : Paths) (faults : ℕ) (text report : List ℕ) (fuel_before fuel_after : ℕ) : Type 0 where
+pub record ComesSpending (job : Job) (dir : List ℕ) (c : Came) (s : Loading) (before : Paths) (faults_before : ℕ) (after : Paths)
+    (faults : ℕ) (text report : List ℕ) (fuel_before fuel_after : ℕ) : Type 0 where
   pub comes : ComesOf job dir c s before faults_before after faults (done text report)
   pub rose : fuel_after ≡ fuel_before + comes_spent comes
 
 abbrev pub SpendsFrom : Paths → Job → List ℕ → Paths → ℕ → Paths → ℕ → List ℕ → List ℕ → ℕ → ℕ → Type 0
 SpendsFrom files job dir before faults_before after faults text report fuel_before fuel_after =
-    ComesSpending job dir (came_of (load files job.roots job.program)) (loading_of (load files job.roots job.program)) before faults_before after faults text report fuel_before fuel_after
+    ComesSpending job dir (came_of (load files job.roots job.program))
+    (loading_of (load files job.roots job.program)) before faults_before after faults text report fuel_before fuel_after
 
 -- with the texts of procedures
 abbrev pub SpendsCached : Paths → Job → List ℕ → Paths → ℕ → Paths → ℕ → List ℕ → List ℕ → ℕ → ℕ → Type 0
@@ -59,7 +62,8 @@ SpendsCached files job dir before faults_before after faults text report fuel_be
 abbrev pub SpendsJob : Option Paths → Storage → Job → Option (List ℕ) → List ℕ → List ℕ → ℕ → ℕ → Type 0
 SpendsJob told store job None text report fuel_before fuel_after = IfSome told (λ files. fuel_after ≡ fuel_before + job_spent files job)
 SpendsJob told store job (Some dir) text report fuel_before fuel_after =
-    IfSome told (λ files. WhereTold store.before store.after (λ before after. SpendsCached files job dir before store.faults_before after store.faults_after text report fuel_before fuel_after))
+    IfSome told (λ files. WhereTold store.before store.after
+    (λ before after. SpendsCached files job dir before store.faults_before after store.faults_after text report fuel_before fuel_after))
 
 abbrev pub SpendsAsked : Option Paths → Storage → Words → List ℕ → List ℕ → ℕ → ℕ → Type 0
 SpendsAsked told store (Expand job) text report fuel_before fuel_after = SpendsJob told store job job.cache text report fuel_before fuel_after

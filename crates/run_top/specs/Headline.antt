@@ -53,7 +53,8 @@ pub record Storage : Type 0 where
   pub faults_after : ℕ
 
 -- What a run with a cache comes to. Over an honest store that is what one without gives.
-pub record SaysCached (files : Paths) (job : Job) (dir : List ℕ) (before : Paths) (faults_before : ℕ) (after : Paths) (faults_after : ℕ) (outcome : RunOutcome) : Type 0 where
+pub record SaysCached (files : Paths) (job : Job) (dir : List ℕ) (before : Paths) (faults_before : ℕ) (after : Paths) (faults_after : ℕ)
+    (outcome : RunOutcome) : Type 0 where
   pub comes : Comes files job dir before faults_before after faults_after outcome
   pub same : IsHonest prelude_table before → ComesHonestly comes → SameText outcome (of_job files job)
 
@@ -64,7 +65,8 @@ IsCoreIfCached job = (dir : List ℕ) → job.cache ≡ Some dir → job.kind �
 -- the definition gives this to a job, where the files are told, and with a cache also the store
 abbrev pub SaysJob : Option Paths → Storage → Job → Option (List ℕ) → RunOutcome → Type 0
 SaysJob told store job None outcome = IfSome told (λ files. of_job files job ≡ outcome)
-SaysJob told store job (Some dir) outcome = IfSome told (λ files. WhereTold store.before store.after (λ before after. SaysCached files job dir before store.faults_before after store.faults_after outcome))
+SaysJob told store job (Some dir) outcome = IfSome told (λ files. WhereTold store.before store.after
+    (λ before after. SaysCached files job dir before store.faults_before after store.faults_after outcome))
 
 abbrev pub SaysAsked : Option Paths → Storage → Words → RunOutcome → Type 0
 SaysAsked told store (Expand job) outcome = SaysJob told store job job.cache outcome
@@ -92,10 +94,13 @@ pub data Complains (out err : Sunk) (line : List ℕ) (s : Status) : Status → 
 
 -- What a run wrote, and why it ended as it did. With `--make` the text is the summary line, and the definition always gives it.
 pub data Headline (told : Option Paths) (store : Storage) (words : List (List ℕ)) (faults_before faults_after : ℕ) (out err : Sunk) (s : Status) : Type 0 where
-  wrote_text : (text report : List ℕ) → Says told store words (done text report) → Finishes out err text report s → Headline told store words faults_before faults_after out err s
-  wrote_fault : (line : List ℕ) → Says told store words (fault line) → Complains out err line status.Fault s → Headline told store words faults_before faults_after out err s
+  wrote_text : (text report : List ℕ) → Says told store words (done text report) → Finishes out err text report s
+      → Headline told store words faults_before faults_after out err s
+  wrote_fault : (line : List ℕ) → Says told store words (fault line) → Complains out err line status.Fault s
+      → Headline told store words faults_before faults_after out err s
   wrong_words : words_asked words ≡ Usage → Complains out err usage_line status.Usage s → Headline told store words faults_before faults_after out err s
-  read_fault : s ≡ status.ReadFault → Rose faults_before faults_after → Untouched out → Untouched err → Headline told store words faults_before faults_after out err s
+  read_fault : s ≡ status.ReadFault → Rose faults_before faults_after → Untouched out → Untouched err
+      → Headline told store words faults_before faults_after out err s
   no_memory : s ≡ status.Memory → Untouched out → Untouched err → Headline told store words faults_before faults_after out err s
 
 abbrev pub status_of : RunOutcome → Status
@@ -131,7 +136,8 @@ pub record LeavesHonest (files : Paths) (job : Job) (dir : List ℕ) (before : P
 -- without a cache the store is as it was
 abbrev pub KeepsJob : {S : Type 0} → Option Paths → Storage → Job → Option (List ℕ) → S → S → Type 0
 KeepsJob told store job None before after = after ≡ before
-KeepsJob told store job (Some dir) before after = IfSome told (λ files. WhereTold store.before store.after (λ held left. LeavesHonest files job dir held store.faults_before left store.faults_after))
+KeepsJob told store job (Some dir) before after = IfSome told
+    (λ files. WhereTold store.before store.after (λ held left. LeavesHonest files job dir held store.faults_before left store.faults_after))
 
 abbrev pub KeepsAsked : {S : Type 0} → Option Paths → Storage → Words → S → S → Type 0
 KeepsAsked told store (Expand job) before after = KeepsJob told store job job.cache before after

@@ -270,7 +270,8 @@ fn of_job<F: Files, N: Ledger, L: Ledger>(
     requires { kept implementation.now.prelude ≡ prelude_table }
     ensures gives { IfSome (F.told files.old) (λ fs. Prepares result (of_job fs job.now)) }
     ensures read { result ≡ Err Unfinished.Read → Rose (F.faults files.old) (F.faults files.new) }
-    ensures fuel { IfSome (F.told files.old) (λ fs. OnOk result (tally.new.fuel ≡ tally.old.fuel + loads_spent prelude_table (load fs job.now.roots job.now.program))) }
+    ensures fuel { IfSome (F.told files.old) (λ fs. OnOk result
+        (tally.new.fuel ≡ tally.old.fuel + loads_spent prelude_table (load fs job.now.roots job.now.program))) }
 {
     let mut loading = Loading::new(alloc);
     let came = load(

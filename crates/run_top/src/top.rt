@@ -39,7 +39,14 @@ pub struct Outside<F, S, O, E> {
 
 // Puts a report on `err`.
 fn tell<E: Sink>(err: &mut E, report: &[u8]) -> Status
-    ensures { Reports (record { before = E.told err.old; after = E.told err.new; faults_before = E.faults err.old; faults_after = E.faults err.new; puts_before = E.puts err.old; puts_after = E.puts err.new }) report.now result }
+    ensures { Reports (record {
+      before = E.told err.old;
+      after = E.told err.new;
+      faults_before = E.faults err.old;
+      faults_after = E.faults err.new;
+      puts_before = E.puts err.old;
+      puts_after = E.puts err.new;
+    }) report.now result }
 {
     match err.put(report) {
         Ok(()) => Status::Done,
@@ -49,7 +56,14 @@ fn tell<E: Sink>(err: &mut E, report: &[u8]) -> Status
 
 // Puts a text on `out`, and behind it a report on `err`.
 fn finish<O: Sink, E: Sink>(out: &mut O, err: &mut E, text: &[u8], report: &[u8]) -> Status
-    ensures { Finishes (record { before = O.told out.old; after = O.told out.new; faults_before = O.faults out.old; faults_after = O.faults out.new; puts_before = O.puts out.old; puts_after = O.puts out.new })
+    ensures { Finishes (record {
+      before = O.told out.old;
+      after = O.told out.new;
+      faults_before = O.faults out.old;
+      faults_after = O.faults out.new;
+      puts_before = O.puts out.old;
+      puts_after = O.puts out.new;
+    })
         (record { before = E.told err.old; after = E.told err.new; faults_before = E.faults err.old; faults_after = E.faults err.new; puts_before = E.puts err.old; puts_after = E.puts err.new }) text.now report.now result }
 {
     match out.put(text) {
@@ -60,7 +74,14 @@ fn finish<O: Sink, E: Sink>(out: &mut O, err: &mut E, text: &[u8], report: &[u8]
 
 // Puts a line on `err`, for a status.
 fn complain<O: Sink, E: Sink>(out: &mut O, err: &mut E, line: &[u8], status: Status) -> Status
-    ensures { Complains (record { before = O.told out.old; after = O.told out.new; faults_before = O.faults out.old; faults_after = O.faults out.new; puts_before = O.puts out.old; puts_after = O.puts out.new })
+    ensures { Complains (record {
+      before = O.told out.old;
+      after = O.told out.new;
+      faults_before = O.faults out.old;
+      faults_after = O.faults out.new;
+      puts_before = O.puts out.old;
+      puts_after = O.puts out.new;
+    })
         (record { before = E.told err.old; after = E.told err.new; faults_before = E.faults err.old; faults_after = E.faults err.new; puts_before = E.puts err.old; puts_after = E.puts err.new }) line.now status result }
 {
     match err.put(line) {
@@ -75,7 +96,14 @@ fn write<O: Sink, E: Sink>(
     err: &mut E,
     prepared: &Result<Prepared, Unfinished>,
 ) -> Status
-    ensures { Writes prepared.now (record { before = O.told out.old; after = O.told out.new; faults_before = O.faults out.old; faults_after = O.faults out.new; puts_before = O.puts out.old; puts_after = O.puts out.new })
+    ensures { Writes prepared.now (record {
+      before = O.told out.old;
+      after = O.told out.new;
+      faults_before = O.faults out.old;
+      faults_after = O.faults out.new;
+      puts_before = O.puts out.old;
+      puts_after = O.puts out.new;
+    })
         (record { before = E.told err.old; after = E.told err.new; faults_before = E.faults err.old; faults_after = E.faults err.new; puts_before = E.puts err.old; puts_after = E.puts err.new }) result }
 {
     match prepared {
@@ -174,7 +202,9 @@ pub fn run<F: Files, S: Store, O: Sink, E: Sink, N: Ledger, L: Ledger>(
         (texts words.now) (F.faults outside.old.inputs.files) (F.faults outside.new.inputs.files)
         (record { before = O.told outside.old.out; after = O.told outside.new.out; faults_before = O.faults outside.old.out; faults_after = O.faults outside.new.out; puts_before = O.puts outside.old.out; puts_after = O.puts outside.new.out })
         (record { before = E.told outside.old.err; after = E.told outside.new.err; faults_before = E.faults outside.old.err; faults_after = E.faults outside.new.err; puts_before = E.puts outside.old.err; puts_after = E.puts outside.new.err }) result }
-    ensures complete { Complete (F.told outside.old.inputs.files) (texts words.now) (Rose (F.faults outside.old.inputs.files) (F.faults outside.new.inputs.files)) (Rose (O.faults outside.old.out) (O.faults outside.new.out)) (Rose (E.faults outside.old.err) (E.faults outside.new.err)) result }
+    ensures complete { Complete (F.told outside.old.inputs.files) (texts words.now)
+        (Rose (F.faults outside.old.inputs.files) (F.faults outside.new.inputs.files))
+        (Rose (O.faults outside.old.out) (O.faults outside.new.out)) (Rose (E.faults outside.old.err) (E.faults outside.new.err)) result }
     ensures files { LeavesFiles (texts words.now) outside.old.inputs.files outside.new.inputs.files }
     ensures store { KeepsStore (F.told outside.old.inputs.files)
         (record { before = S.told outside.old.inputs.store; after = S.told outside.new.inputs.store; faults_before = S.faults outside.old.inputs.store; faults_after = S.faults outside.new.inputs.store })

@@ -17,8 +17,8 @@ use Rattle.run_xref.specs.contracts.rows.AtOrd.TheImpl as at_order
 use Rattle.run_xref.specs.contracts.rows.AtOrd.TheImpl.Laws as at_laws
 use Rattle.run_xref.specs.contracts.rows.AtPartialEq.TheImpl as at_eq
 use Rattle.run_xref.specs.contracts.rows.AimPartialEq.TheImpl as aim_eq
-use Rattle.run_xref.specs.contracts.rows.RowPartialEq.TheImpl as row_eq
-use Rattle.run_xref.specs.contracts.rows.RowOrd.TheImpl.Laws as row_laws
+use Rattle.run_xref.specs.contracts.rows.LinkRowPartialEq.TheImpl as row_eq
+use Rattle.run_xref.specs.contracts.rows.LinkRowOrd.TheImpl.Laws as row_laws
 
 -- ---- what compares as equal is one row
 

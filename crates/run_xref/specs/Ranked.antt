@@ -4,7 +4,7 @@ use Rattle.std.specs.List.{list_any}
 use Rattle.std.specs.declared.cmp.Ordering.{Ordering}
 use Rattle.std.specs.declared.cmp.Ordering.TheVariants.{Less, Equal, Greater}
 use Rattle.std.specs.Ordering.{eq_by_cmp}
-use Rattle.run_xref.specs.contracts.rows.RowOrd.TheImpl as row_order
+use Rattle.run_xref.specs.contracts.rows.LinkRowOrd.TheImpl as row_order
 use Rattle.run_xref.specs.declared.rows.LinkRow.{LinkRow}
 
 -- by file, `from` and `to` of the identifier, then by the target

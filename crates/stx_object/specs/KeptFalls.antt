@@ -7,7 +7,7 @@ use Rattle.stx_tree.specs.Changes.{changed}
 use Rattle.stx_tree.specs.declared.change.Change.{Change}
 use Rattle.stx_object.specs.declared.kept.TreeShape.{TreeShape}
 use Rattle.stx_object.specs.declared.kept.TreeShape.TheVariants as shape
-use Rattle.stx_object.specs.declared.kept.Kept.TheDeep.{deep-Shape}
+use Rattle.stx_object.specs.declared.kept.Kept.TheDeep.{deep-TreeShape}
 use Rattle.stx_object.specs.Kept.{weight}
 use Rattle.stx_object.specs.KeptView.{shape_tree, seen}
 
@@ -26,11 +26,11 @@ weight-spanned s (vector _ d) = refl
 pub weight-seen : (ws : List Change) (s : Option Span) (f : TreeShape) → weight (seen ws s f) ≡ weight (shape_tree f)
 weight-seen ws s f = weight-changed ws (spanned s (shape_tree f)) ∙ weight-spanned s (shape_tree f)
 
-shape_falls : (f : TreeShape) → deep-Shape f ≤ weight (shape_tree f)
+shape_falls : (f : TreeShape) → deep-TreeShape f ≤ weight (shape_tree f)
 shape_falls (shape.Atom a) = omega arith
 shape_falls (shape.Leaf x c) = omega arith
 shape_falls (shape.Pair e a d) = omega arith
 shape_falls (shape.Vector e d) = omega arith
 
-pub seen_falls : (ws : List Change) (s : Option Span) (f : TreeShape) → deep-Shape f ≤ weight (seen ws s f)
+pub seen_falls : (ws : List Change) (s : Option Span) (f : TreeShape) → deep-TreeShape f ≤ weight (seen ws s f)
 seen_falls ws s f = omega (arith, shape_falls f, weight-seen ws s f)

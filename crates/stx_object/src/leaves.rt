@@ -149,8 +149,10 @@ fn from_list(
 ) -> Result<Kept, BareStop>
     requires some { 0 < length items.now }
     requires tail { IsTrue (is_tail tail.now) }
-    ensures tree { IfOk result (λ k. k ≡ spanned span (chain (map (grown_tree growth.now.spans growth.now.sample.now) items.now) (grown_tree growth.now.spans growth.now.sample.now tail.now))) }
-    ensures refused { IfErr result (λ e. Refuses e (Fits (chain (map (grown_tree growth.now.spans growth.now.sample.now) items.now) (grown_tree growth.now.spans growth.now.sample.now tail.now)))) }
+    ensures tree { IfOk result (λ k. k ≡ spanned span (chain (map (grown_tree growth.now.spans growth.now.sample.now) items.now)
+        (grown_tree growth.now.spans growth.now.sample.now tail.now))) }
+    ensures refused { IfErr result (λ e. Refuses e (Fits
+        (chain (map (grown_tree growth.now.spans growth.now.sample.now) items.now) (grown_tree growth.now.spans growth.now.sample.now tail.now)))) }
 {
     let end = from_end(growth, tail)?;
     let rest = data_before(growth, &items[1..], end)?;

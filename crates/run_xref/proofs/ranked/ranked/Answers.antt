@@ -3,7 +3,7 @@ use Rattle.std.proofs.lemmas.List.Filters.{dedup_is}
 use Rattle.std.proofs.lemmas.List.Kept.{IsStrictlySortedBy-dedup}
 use Rattle.std.proofs.lemmas.List.Sorted.{list_any-IsPermutation}
 use Rattle.run_xref.specs.Ranked.{same_row, among, ranked}
-use Rattle.run_xref.specs.contracts.rows.RowOrd.TheImpl.Laws as row_laws
+use Rattle.run_xref.specs.contracts.rows.LinkRowOrd.TheImpl.Laws as row_laws
 use Rattle.run_xref.proofs.Ranking.{ranked_rises, among_ranked, among_dedup, rising_is}
 use Rattle.run_xref.proofs.ranked.ranked.Goals as goal
 
