@@ -24,5 +24,6 @@
 pub mod libraries;
 pub mod names;
 pub mod numbers;
+pub mod room;
 pub mod spelled;
 pub mod texts;

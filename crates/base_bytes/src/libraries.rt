@@ -7,6 +7,7 @@ use crate::names::library_name_at;
 use crate::spelled::Spelled;
 use base_data::library::LibName;
 use base_data::memory::Memory;
+use base_data::symbol::Symbol;
 use std::alloc::Global;
 use std::marker::Model;
 use std::rc::Rc;
@@ -31,12 +32,14 @@ impl Model for KeptName {
     ghost invariant = { λ k. Puts library k.named.value [] k.spelling.items };
 }
 
-/// The names of libraries that were read a short while ago. A row of an entry names two libraries, and most rows
-/// name the same two: what is read again is shared.
+/// The names of libraries that were read a short while ago, and the last file. A row of an entry names two libraries, most
+/// rows the same two, and most spans of an entry are in one file: what is read again is shared.
 #[derive(Drop)]
 pub struct RecentLibraries {
     alloc: Global,
     kept: Vec<KeptName>,
+    /// The file of the span that was read last.
+    file: Option<Symbol>,
 }
 
 /// How many are kept.
@@ -73,7 +76,11 @@ impl RecentLibraries {
     /// None so far. It takes no memory.
     pub fn new(alloc: Global) -> RecentLibraries {
         let kept = Vec::new(alloc);
-        RecentLibraries { alloc, kept }
+        RecentLibraries {
+            alloc,
+            kept,
+            file: None,
+        }
     }
 
     /// Where memory is taken from.
@@ -97,6 +104,29 @@ impl RecentLibraries {
         let library = Rc::new(self.alloc, library)?;
         self.keep(&library)?;
         Ok(Some((library, rest)))
+    }
+
+    // The file of the span that was read last, where it has this name.
+    fn same_file(&self, name: &str) -> Option<&Symbol>
+        ensures { IfSome result (λ file. file.now ≡ name.now) }
+    {
+        match &self.file {
+            Some(file) if file.as_str().as_bytes() == name.as_bytes() => Some(file),
+            _ => None,
+        }
+    }
+
+    /// The symbol of a file's name, which the spans share that are read one after another.
+    pub(crate) fn file(&mut self, name: &str) -> Result<Symbol, Memory>
+        ensures { IfOk result (λ s. s ≡ name.now) }
+    {
+        if let Some(file) = self.same_file(name) {
+            return file.share();
+        }
+        let file = Symbol::new(self.alloc, name)?;
+        let kept = file.share()?;
+        self.file = Some(kept);
+        Ok(file)
     }
 
     fn keep(&mut self, library: &Rc<LibName>) -> Result<(), Memory> {

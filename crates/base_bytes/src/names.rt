@@ -281,7 +281,7 @@ impl Spelled for Span {
         let Some((to, rest)) = u32_at(rest) else {
             return Ok(None);
         };
-        let file = Symbol::new(libraries.alloc(), file)?;
+        let file = libraries.file(file)?;
         Ok(Some((Span { file, from, to }, rest)))
     }
 }

@@ -6,6 +6,7 @@ ghost use Rattle.base_bytes.specs.Puts.{Puts};
 
 use crate::libraries::RecentLibraries;
 use crate::numbers::{put_u64, u64_at};
+use crate::room::list_for;
 use base_data::items::Items;
 use base_data::memory::Memory;
 
@@ -129,7 +130,7 @@ fn some_at<'a, T: Spelled>(
 ) -> Result<Option<(Vec<T>, &'a [u8])>, Memory>
     ensures { IfOk result (λ o. option_map (λ x. (x.0.items, x.1.now)) o ≡ some_get T.codec.get count bytes.now) }
 {
-    let mut list = Vec::new(libraries.alloc());
+    let mut list = list_for(libraries.alloc(), count, bytes.len() / 16)?;
     let mut rest = bytes;
     for _ in 0..count {
         let Some((value, after)) = T::at(libraries, rest)? else {

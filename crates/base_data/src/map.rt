@@ -1,10 +1,12 @@
-//! Tables by names and symbols, whose hasher takes a number whole.
+//! Tables by names and symbols, and sets of them, whose hasher takes a number whole.
 
 ghost use Rattle.indexmap.specs.IndexMap.{index_map_len, IsEmpty, IsUnique};
-ghost use Rattle.std.specs.Prelude.{◌≡◌};
+ghost use Rattle.indexmap.specs.IndexSet as sets;
+ghost use Rattle.std.specs.Prelude.{◌≡◌, IfOk};
 ghost use Rattle.base_data.specs.Hasher.{mixed, number, write, finish};
 
-use indexmap::IndexMap;
+use crate::memory::Memory;
+use indexmap::{IndexMap, IndexSet};
 use std::alloc::Global;
 use std::hash::{BuildHasherDefault, Hash, Hasher};
 
@@ -102,4 +104,27 @@ pub fn new_map<K: Eq + Hash, V>(alloc: Global) -> NameMap<K, V>
     ensures unique { IsUnique K.eq result }
 {
     IndexMap::with_hasher(alloc, BuildHasherDefault::new())
+}
+
+/// A set of names or symbols, in the order of their coming.
+pub type NameSet<K> = IndexSet<K, BuildHasherDefault<NameHasher>>;
+
+/// An empty set. It takes no memory.
+#[inline(always)]
+pub fn new_set<K: Eq + Hash>(alloc: Global) -> NameSet<K>
+    ensures empty { sets.IsEmpty result }
+    ensures len { sets.index_set_len result ≡ 0 }
+    ensures unique { sets.IsUnique K.eq result }
+{
+    IndexSet::with_hasher(alloc, BuildHasherDefault::new())
+}
+
+/// An empty set with room for so many.
+pub fn set_for<K: Eq + Hash>(alloc: Global, count: usize) -> Result<NameSet<K>, Memory>
+    ensures empty { IfOk result sets.IsEmpty }
+    ensures len { IfOk result (λ s. sets.index_set_len s ≡ 0) }
+    ensures unique { IfOk result (sets.IsUnique K.eq) }
+{
+    let set = IndexSet::with_capacity_and_hasher(alloc, count, BuildHasherDefault::new())?;
+    Ok(set)
 }

@@ -191,7 +191,7 @@ fn entry_at<'a>(
     let Some((sources, rest)) = sources_at(libraries, rest)? else {
         return Ok(None);
     };
-    let Some((stored, rest)) = record_at(libraries, rest)? else {
+    let Some((stored, rest)) = record_at(libraries, &[], rest)? else {
         return Ok(None);
     };
     let entry = Entry {

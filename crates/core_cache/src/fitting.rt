@@ -17,9 +17,8 @@ use base_data::items::Items;
 use base_data::memory::Memory;
 use base_data::symbol::Symbol;
 use core_language::record::CompiledLibrary;
-use core_record_bytes::record::decode;
+use core_record_bytes::record::{Decoding, decode_beside};
 use load_files::found::Source;
-use std::alloc::Global;
 
 /// A source where it stands among the bytes of an entry.
 #[derive(Drop)]
@@ -169,7 +168,7 @@ fn behind_front<'a>(
 /// places, in their order. Each byte of the sources is compared once, and none is copied. The seal is looked at last, so
 /// that an entry of other sources costs no digest.
 pub fn sealed_record(
-    alloc: Global,
+    decoding: &Decoding,
     bytes: &[u8],
     roots: &[Symbol],
     sources: &[Source],
@@ -182,7 +181,7 @@ pub fn sealed_record(
         return Ok(None);
     };
     if is_sealed(bytes) {
-        decode(alloc, rest)
+        decode_beside(decoding, rest)
     } else {
         Ok(None)
     }

@@ -21,6 +21,7 @@ use crate::leaves::{
 };
 use crate::lists::{
     CaseParts, ClauseParts, FenderAndOutput, InitParts, add_case, add_clause, add_init, add_part,
+    list_of,
 };
 use crate::nodes::{
     Boxed, put_assignment, put_call, put_if, put_lambda, put_letrec, put_matching, put_sequence,
@@ -411,7 +412,7 @@ fn some_parts<'a>(
     ensures { IfOk result (λ o. option_map (λ x. (x.value.items, left.new.now)) o
         ≡ some_get (code.core room).get count left.old.now) }
 {
-    let mut list = HeldReading::new(Vec::new(libraries.alloc()));
+    let mut list = list_of(libraries.alloc(), count)?;
     for _ in 0..count {
         let Some(core) = boxed_in(libraries, room, left)? else {
             return Ok(None);
@@ -462,7 +463,7 @@ fn some_inits<'a>(
     ensures { IfOk result (λ o. option_map (λ x. (map init_part x.value.items, left.new.now)) o
         ≡ some_get (label then code.core room).get count left.old.now) }
 {
-    let mut list = HeldReading::new(Vec::new(libraries.alloc()));
+    let mut list = list_of(libraries.alloc(), count)?;
     for _ in 0..count {
         let Some(init) = init_in(libraries, room, left)? else {
             return Ok(None);
@@ -529,7 +530,7 @@ fn some_cases<'a>(
     ensures { IfOk result (λ o. option_map (λ x. (map case_part x.value.items, left.new.now)) o
         ≡ some_get (code.formals then code.core room).get count left.old.now) }
 {
-    let mut list = HeldReading::new(Vec::new(libraries.alloc()));
+    let mut list = list_of(libraries.alloc(), count)?;
     for _ in 0..count {
         let Some(case) = case_in(libraries, room, left)? else {
             return Ok(None);
@@ -597,7 +598,7 @@ fn some_clauses<'a>(
     ensures { IfOk result (λ o. option_map (λ x. (map clause_part x.value.items, left.new.now)) o
         ≡ some_get (code.pattern 2000 then optional (code.core room) then code.core room).get count left.old.now) }
 {
-    let mut list = HeldReading::new(Vec::new(libraries.alloc()));
+    let mut list = list_of(libraries.alloc(), count)?;
     for _ in 0..count {
         let Some(clause) = clause_in(libraries, room, left)? else {
             return Ok(None);

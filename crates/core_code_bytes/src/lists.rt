@@ -1,15 +1,17 @@
-//! Adds what was read to lists, by calls that are never inlined.
+//! Makes lists and adds what was read to them, by calls that are never inlined.
 
-ghost use Rattle.std.specs.Prelude.{◌≡◌, ◌∷◌, ◌++◌, [], OnOk};
+ghost use Rattle.std.specs.Prelude.{◌≡◌, ◌∷◌, ◌++◌, [], IfOk, OnOk};
 ghost use Rattle.core_code_bytes.specs.Seen.{held_there};
 
 use crate::nodes::Boxed;
+use base_bytes::room::{MOST_AHEAD, list_for};
 use base_data::memory::Memory;
 use base_data::name::Label;
 use core_language::code::{Clause, Core, Init, Lambda};
 use core_language::formals::Formals;
 use core_language::pattern::Pattern;
 use core_pattern_bytes::held::HeldReading;
+use std::alloc::Global;
 use std::boxed::Box;
 
 /// The variable of a `letrec`, and the expression of its value.
@@ -38,6 +40,15 @@ pub(crate) struct ClauseParts {
 pub(crate) struct FenderAndOutput {
     pub fender: Option<Boxed>,
     pub output: Boxed,
+}
+
+/// An empty list with room for as many values as are counted, or for a few.
+#[inline(never)]
+pub(crate) fn list_of<T>(alloc: Global, count: u64) -> Result<HeldReading<Vec<T>>, Memory>
+    ensures { IfOk result (λ list. list.value.items ≡ []) }
+{
+    let list = list_for(alloc, count, MOST_AHEAD)?;
+    Ok(HeldReading::new(list))
 }
 
 #[inline(never)]

@@ -10,6 +10,7 @@ ghost use Rattle.core_pattern_bytes.specs.Seen.{item_part};
 
 use base_bytes::libraries::RecentLibraries;
 use base_bytes::numbers::{put_u32, put_u64, u32_at, u64_at};
+use base_bytes::room::{MOST_AHEAD, list_for};
 use base_bytes::spelled::Spelled;
 use base_data::memory::Memory;
 use base_data::name::Label;
@@ -277,7 +278,7 @@ fn some_items<'a>(
 ) -> Result<Option<(Vec<TemplateItem>, &'a [u8])>, Memory>
     ensures { IfOk result (λ o. option_map (λ x. (map item_part x.0.items, x.1.now)) o ≡ some_get (spell.template room then u32).get count bytes.now) }
 {
-    let mut list = Vec::new(libraries.alloc());
+    let mut list = list_for(libraries.alloc(), count, MOST_AHEAD)?;
     let mut rest = bytes;
     for _ in 0..count {
         let Some((item, after)) = item_at(libraries, room, rest)? else {

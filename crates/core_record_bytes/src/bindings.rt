@@ -9,6 +9,7 @@ ghost use Rattle.core_codec.specs.Records as spell;
 use base_bytes::libraries::RecentLibraries;
 use base_bytes::names::{op_at, put_op};
 use base_bytes::numbers::{bool_at, put_bool, put_u32, put_u64, u32_at, u64_at};
+use base_bytes::room::list_for;
 use base_bytes::spelled::Spelled;
 use base_data::memory::Memory;
 use base_data::name::Label;
@@ -347,7 +348,8 @@ fn some_bindings<'a>(
 ) -> Result<Option<(HeldReading<Vec<(Label, Binding)>>, &'a [u8])>, Memory>
     ensures { IfOk result (λ o. option_map (λ x. (x.0.value.items, x.1.now)) o ≡ some_get (label then spell.binding).get count bytes.now) }
 {
-    let mut list = HeldReading::new(Vec::new(libraries.alloc()));
+    let list = list_for(libraries.alloc(), count, bytes.len() / 16)?;
+    let mut list = HeldReading::new(list);
     let mut rest = bytes;
     for _ in 0..count {
         let Some((row, after)) = row_at(libraries, rest)? else {

@@ -9,6 +9,7 @@ ghost use Rattle.core_codec.specs.Records as spell;
 use crate::bindings::MAX_CORE;
 use base_bytes::libraries::RecentLibraries;
 use base_bytes::numbers::{put_u64, u64_at};
+use base_bytes::room::list_for;
 use base_bytes::spelled::Spelled;
 use base_data::memory::Memory;
 use base_data::name::Label;
@@ -114,7 +115,8 @@ fn some_lines<'a>(
 ) -> Result<Option<(HeldReading<Vec<Line>>, &'a [u8])>, Memory>
     ensures { IfOk result (λ o. option_map (λ x. (x.0.value.items, x.1.now)) o ≡ some_get spell.line.get count bytes.now) }
 {
-    let mut list = HeldReading::new(Vec::new(libraries.alloc()));
+    let list = list_for(libraries.alloc(), count, bytes.len() / 16)?;
+    let mut list = HeldReading::new(list);
     let mut rest = bytes;
     for _ in 0..count {
         let Some((line, after)) = line_at(libraries, rest)? else {

@@ -69,6 +69,7 @@ struct RecordBody {
 
 fn body_at<'a>(
     libraries: &mut RecentLibraries,
+    beside: &[FrameRow],
     bytes: &'a [u8],
 ) -> Result<Option<(RecordBody, &'a [u8])>, Memory>
     ensures { IfOk result (λ o. option_map (λ x. ((x.0.bindings.value.items, (x.0.frames.items, (x.0.run.value.items, x.0.refs))), x.1.now)) o
@@ -78,7 +79,7 @@ fn body_at<'a>(
     let Some((bindings, rest)) = bindings_at(libraries, bytes)? else {
         return Ok(None);
     };
-    let Some((frames, rest)) = rows_at(libraries, rest)? else {
+    let Some((frames, rest)) = rows_at(libraries, beside, rest)? else {
         return Ok(None);
     };
     let Some((run, rest)) = lines_at(libraries, rest)? else {
@@ -96,10 +97,12 @@ fn body_at<'a>(
     Ok(Some((body, rest)))
 }
 
-/// The record that the bytes begin with, and the bytes behind it.
+/// The record that the bytes begin with, and the bytes behind it. Where rows beside its own have the same symbols in the
+/// same order, those are shared.
 #[tactic(auto, unfolding(core_codec::specs::Records::lib_record))]
 pub fn record_at<'a>(
     libraries: &mut RecentLibraries,
+    beside: &[FrameRow],
     bytes: &'a [u8],
 ) -> Result<Option<(HeldReading<CompiledLibrary>, &'a [u8])>, Memory>
     ensures { IfOk result (λ o. option_map (λ x. (x.0.value, x.1.now)) o ≡ spell.lib_record.get bytes.now) }
@@ -116,7 +119,7 @@ pub fn record_at<'a>(
     let Some((exports, rest)) = Spelled::at(libraries, rest)? else {
         return Ok(None);
     };
-    let Some((body, rest)) = body_at(libraries, rest)? else {
+    let Some((body, rest)) = body_at(libraries, beside, rest)? else {
         return Ok(None);
     };
     let record = CompiledLibrary {
@@ -145,12 +148,21 @@ pub fn encode(alloc: Global, record: &CompiledLibrary) -> Result<Option<Vec<u8>>
     }
 }
 
+/// What a record is decoded with.
+#[derive(Drop)]
+pub struct Decoding<'a> {
+    pub alloc: Global,
+    /// Rows of another record. Libraries that import the same names have rows of the same symbols in the same order, and
+    /// share them.
+    pub beside: &'a [FrameRow],
+}
+
 /// The record that all of the bytes spell, or nothing where they spell none.
-pub fn decode(alloc: Global, bytes: &[u8]) -> Result<Option<CompiledLibrary>, Memory>
+pub fn decode_beside(decoding: &Decoding, bytes: &[u8]) -> Result<Option<CompiledLibrary>, Memory>
     ensures { IfOk result (λ o. o ≡ spell.decode bytes.now) }
 {
-    let mut libraries = RecentLibraries::new(alloc);
-    match record_at(&mut libraries, bytes)? {
+    let mut libraries = RecentLibraries::new(decoding.alloc);
+    match record_at(&mut libraries, decoding.beside, bytes)? {
         Some((record, rest)) => {
             if rest.is_empty() {
                 Ok(Some(record.take()))
@@ -160,4 +172,12 @@ pub fn decode(alloc: Global, bytes: &[u8]) -> Result<Option<CompiledLibrary>, Me
         }
         None => Ok(None),
     }
+}
+
+/// The record that all of the bytes spell, or nothing where they spell none.
+pub fn decode(alloc: Global, bytes: &[u8]) -> Result<Option<CompiledLibrary>, Memory>
+    ensures { IfOk result (λ o. o ≡ spell.decode bytes.now) }
+{
+    let decoding = Decoding { alloc, beside: &[] };
+    decode_beside(&decoding, bytes)
 }

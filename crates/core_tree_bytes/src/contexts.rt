@@ -8,6 +8,7 @@ ghost use Rattle.core_codec.specs.Contexts as spell;
 
 use base_bytes::libraries::RecentLibraries;
 use base_bytes::numbers::{put_u64, u64_at};
+use base_bytes::room::{MOST_AHEAD, list_for};
 use base_bytes::spelled::{Spelled, all_at, put_all};
 use base_data::memory::Memory;
 use base_data::name::{FrameNo, Mark};
@@ -98,7 +99,7 @@ fn some_stamps<'a>(
 ) -> Result<Option<(Vec<Stamp>, &'a [u8])>, Memory>
     ensures { IfOk result (λ o. option_map (λ x. (x.0.items, x.1.now)) o ≡ some_get spell.stamp.get count bytes.now) }
 {
-    let mut list = Vec::new(libraries.alloc());
+    let mut list = list_for(libraries.alloc(), count, MOST_AHEAD)?;
     let mut rest = bytes;
     for _ in 0..count {
         let Some((stamp, after)) = stamp_at(libraries, rest)? else {

@@ -11,6 +11,7 @@ ghost use Rattle.core_tree_bytes.specs.Seen.{datum_cases};
 
 use base_bytes::libraries::RecentLibraries;
 use base_bytes::numbers::{put_u64, u64_at};
+use base_bytes::room::{MOST_AHEAD, list_for};
 use base_bytes::spelled::Spelled;
 use base_data::atom::Atom;
 use base_data::datum::{Datum, Node};
@@ -237,7 +238,7 @@ fn some_data<'a>(
 ) -> Result<Option<(Vec<Datum>, &'a [u8])>, Memory>
     ensures { IfOk result (λ o. option_map (λ x. (x.0.items, x.1.now)) o ≡ some_get (spell.datum room).get count bytes.now) }
 {
-    let mut list = Vec::new(libraries.alloc());
+    let mut list = list_for(libraries.alloc(), count, MOST_AHEAD)?;
     let mut rest = bytes;
     for _ in 0..count {
         let Some((datum, after)) = datum_at(libraries, room, rest)? else {

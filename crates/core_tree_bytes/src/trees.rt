@@ -14,6 +14,7 @@ use crate::contexts::ContextLists;
 use crate::parts::{ElementsAndTail, TreeParts, is_tail};
 use base_bytes::libraries::RecentLibraries;
 use base_bytes::numbers::{put_u64, u64_at};
+use base_bytes::room::{MOST_AHEAD, list_for};
 use base_bytes::spelled::Spelled;
 use base_data::atom::Atom;
 use base_data::memory::Memory;
@@ -285,7 +286,7 @@ fn some_trees<'a>(
 ) -> Result<Option<(Vec<Syn>, &'a [u8])>, Memory>
     ensures { IfOk result (λ o. option_map (λ x. (x.0.items, x.1.now)) o ≡ some_get (spell.tree room).get count bytes.now) }
 {
-    let mut list = Vec::new(libraries.alloc());
+    let mut list = list_for(libraries.alloc(), count, MOST_AHEAD)?;
     let mut rest = bytes;
     for _ in 0..count {
         let Some((tree, after)) = tree_at(libraries, room, rest)? else {

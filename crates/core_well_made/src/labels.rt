@@ -3,16 +3,16 @@
 ghost use Rattle.std.specs.Prelude.{◌≡◌, [], length, take, OnOk};
 ghost use Rattle.core_language.specs.Labels.{has_label, with_label, with_labels};
 
+use base_data::map::{NameSet, new_set};
 use base_data::memory::Memory;
 use base_data::name::Label;
-use indexmap::IndexSet;
 use std::alloc::Global;
 use std::marker::Model;
 
 /// Labels, each once, in the order of coming.
 #[derive(Drop)]
 pub struct LabelSet {
-    set: IndexSet<Label>,
+    set: NameSet<Label>,
 }
 
 impl Model for LabelSet {
@@ -30,7 +30,7 @@ impl LabelSet {
         ensures { result ≡ [] }
     {
         LabelSet {
-            set: IndexSet::new(alloc),
+            set: new_set(alloc),
         }
     }
 

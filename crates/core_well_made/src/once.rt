@@ -4,8 +4,8 @@ ghost use Rattle.std.specs.Prelude.{◌≡◌, [], IfOk};
 ghost use Rattle.law_core.specs.Words.{once};
 ghost use Rattle.core_well_made.specs.Sets.{once_behind};
 
+use base_data::map::set_for;
 use base_data::memory::Memory;
-use indexmap::IndexSet;
 use std::alloc::Global;
 use std::hash::Hash;
 
@@ -14,7 +14,7 @@ use std::hash::Hash;
 fn come_once<T: Eq + Hash + Drop>(alloc: Global, items: Vec<T>) -> Result<bool, Memory>
     ensures { IfOk result (λ b. b ≡ once_behind T.eq [] items.items) }
 {
-    let mut set = IndexSet::new(alloc);
+    let mut set = set_for(alloc, items.len())?;
     for item in items {
         match set.insert(item) {
             Ok(true) => {}

@@ -11,12 +11,12 @@ ghost use Rattle.core_well_made.specs.Reach.{reach, items_reach, number_if};
 ghost use Rattle.core_well_made.specs.Sets.{has_depth_of, output_suits, with_depth, with_depths};
 
 use base_data::items::Items;
+use base_data::map::{NameSet, new_set};
 use base_data::memory::Memory;
 use base_data::name::Label;
 use core_language::code::{Clause, Code, Core, CoreNode, Init, Lambda};
 use core_language::pattern::{Elements, Pattern, PatternNode, Repeated};
 use core_language::template::{Template, TemplateItem, TemplateNode};
-use indexmap::IndexSet;
 use std::alloc::Global;
 use std::marker::Model;
 
@@ -24,7 +24,7 @@ use std::marker::Model;
 #[derive(Drop)]
 pub struct DepthSet {
     alloc: Global,
-    set: IndexSet<(Label, u64)>,
+    set: NameSet<(Label, u64)>,
 }
 
 impl Model for DepthSet {
@@ -42,7 +42,7 @@ impl DepthSet {
     {
         DepthSet {
             alloc,
-            set: IndexSet::new(alloc),
+            set: new_set(alloc),
         }
     }
 

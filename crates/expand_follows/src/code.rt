@@ -11,6 +11,7 @@ ghost use Rattle.expand_follows.specs.Pieces.{all_there, index_in_table, expand_
 use crate::closed::{Top, is_closed};
 use crate::names::{expand_transformer_in, line_core};
 use base_data::items::Items;
+use base_data::map::NameMap;
 use base_data::memory::Memory;
 use base_data::name::Label;
 use core_language::binding::Binding;
@@ -21,7 +22,6 @@ use core_well_made::once::once;
 use core_well_made::parts::{NotedParts, gather};
 use core_well_made::scan::add;
 use core_well_made::well_made::is_well_made;
-use indexmap::IndexMap;
 use std::alloc::Global;
 
 // Whether core code is well made, and closed under the labels of the top.
@@ -92,7 +92,7 @@ fn run_variables(alloc: Global, lines: &[Line]) -> Result<Items<Label>, Memory>
     Ok(variables)
 }
 
-fn index_in(own: &IndexMap<Label, Option<u64>>, label: &Label) -> Option<u64>
+fn index_in(own: &NameMap<Label, Option<u64>>, label: &Label) -> Option<u64>
     ensures { result ≡ index_in_table own.now.entries label.now }
 {
     match own.get(label) {
@@ -106,7 +106,7 @@ fn index_in(own: &IndexMap<Label, Option<u64>>, label: &Label) -> Option<u64>
 fn indices_of(
     alloc: Global,
     variables: &[Label],
-    own: &IndexMap<Label, Option<u64>>,
+    own: &NameMap<Label, Option<u64>>,
 ) -> Result<Option<Vec<u64>>, Memory>
     ensures { IfOk result (λ o. option_map (λ v. v.items) o ≡ all_there (map (index_in_table own.now.entries) variables.now)) }
 {
@@ -125,7 +125,7 @@ fn indices_of(
 fn is_indexed(
     alloc: Global,
     lines: &[Line],
-    own: &IndexMap<Label, Option<u64>>,
+    own: &NameMap<Label, Option<u64>>,
 ) -> Result<bool, Memory>
     ensures { IfOk result (λ b. b ≡ once_there (map (index_in_table own.now.entries) (flat_map line_variables lines.now))) }
 {
@@ -142,7 +142,7 @@ fn is_indexed(
 #[tactic(auto, using(crate::proofs::CodeLemmas::each_suits_with, crate::proofs::CodeLemmas::each_suits_alone, crate::proofs::Indices::table_indices))]
 pub(crate) fn has_good_code(
     one: &CompiledLibrary,
-    own: &IndexMap<Label, Option<u64>>,
+    own: &NameMap<Label, Option<u64>>,
     top: &Top,
 ) -> Result<bool, Memory>
     requires own { own.now.entries ≡ with_indices [] one.now.bindings }

@@ -13,12 +13,12 @@ ghost use Rattle.expand_standing.specs.Ready.{needed_records};
 ghost use Rattle.expand_follows.specs.Earlier.{ArePlaces, adds, adds_labels, is_needed, mark_at};
 
 use base_data::library::LibName;
+use base_data::map::{NameMap, new_map};
 use base_data::memory::Memory;
 use base_data::name::Label;
 use core_language::binding::Binding;
 use core_language::record::{CompiledLibrary, Line};
 use core_language::share::share_library;
-use indexmap::IndexMap;
 use std::alloc::Global;
 use std::marker::Model;
 
@@ -26,13 +26,13 @@ use std::marker::Model;
 /// of the one that defines it. So asking for one costs the same, however many records there are.
 #[derive(Drop)]
 pub struct Places {
-    names: IndexMap<LibName, usize>,
-    bound: IndexMap<Label, usize>,
-    defined: IndexMap<Label, usize>,
+    names: NameMap<LibName, usize>,
+    bound: NameMap<Label, usize>,
+    defined: NameMap<Label, usize>,
 }
 
 // Notes the place of a label, which has none yet.
-fn put_label(labels: &mut IndexMap<Label, usize>, label: &Label, place: usize) -> Result<(), Memory>
+fn put_label(labels: &mut NameMap<Label, usize>, label: &Label, place: usize) -> Result<(), Memory>
     ensures { OnOk result (adds_labels labels.old.entries (label.now ∷ []) place ≡ Some labels.new.entries) }
 {
     if labels.get(label).is_some() {
@@ -44,7 +44,7 @@ fn put_label(labels: &mut IndexMap<Label, usize>, label: &Label, place: usize) -
 }
 
 fn put_bound(
-    labels: &mut IndexMap<Label, usize>,
+    labels: &mut NameMap<Label, usize>,
     bindings: &[(Label, Binding)],
     place: usize,
 ) -> Result<(), Memory>
@@ -56,7 +56,7 @@ fn put_bound(
     Ok(())
 }
 
-fn put_line(labels: &mut IndexMap<Label, usize>, line: &Line, place: usize) -> Result<(), Memory>
+fn put_line(labels: &mut NameMap<Label, usize>, line: &Line, place: usize) -> Result<(), Memory>
     ensures { OnOk result (adds_labels labels.old.entries (line_labels line.now) place ≡ Some labels.new.entries) }
 {
     match line {
@@ -65,11 +65,7 @@ fn put_line(labels: &mut IndexMap<Label, usize>, line: &Line, place: usize) -> R
     }
 }
 
-fn put_defined(
-    labels: &mut IndexMap<Label, usize>,
-    run: &[Line],
-    place: usize,
-) -> Result<(), Memory>
+fn put_defined(labels: &mut NameMap<Label, usize>, run: &[Line], place: usize) -> Result<(), Memory>
     ensures { OnOk result (adds_labels labels.old.entries (flat_map line_labels run.now) place ≡ Some labels.new.entries) }
 {
     for line in run {
@@ -80,7 +76,7 @@ fn put_defined(
 
 fn put_name(
     alloc: Global,
-    names: &mut IndexMap<LibName, usize>,
+    names: &mut NameMap<LibName, usize>,
     name: &LibName,
     place: usize,
 ) -> Result<(), Memory>
@@ -101,9 +97,9 @@ impl Places {
         ensures { ArePlaces result [] }
     {
         Places {
-            names: IndexMap::new(alloc),
-            bound: IndexMap::new(alloc),
-            defined: IndexMap::new(alloc),
+            names: new_map(alloc),
+            bound: new_map(alloc),
+            defined: new_map(alloc),
         }
     }
 

@@ -9,13 +9,13 @@ ghost use Rattle.expand_follows.specs.Pieces.{index_of_binding, known_by, with_i
 
 use crate::earlier::NeededEarlier;
 use base_data::library::LibName;
+use base_data::map::{NameMap, new_map};
 use base_data::memory::Memory;
 use base_data::name::Label;
 use base_data::op::NAME_COUNT;
 use base_data::symbol::Symbol;
 use core_language::binding::Binding;
 use core_language::record::CompiledLibrary;
-use indexmap::IndexMap;
 use load_builtin::exports::DERIVED;
 use std::alloc::Global;
 use stx_tree::frame_row::FrameRow;
@@ -55,10 +55,10 @@ fn is_given(label: &Label) -> bool
 pub(crate) fn own_indices(
     alloc: Global,
     bindings: &[(Label, Binding)],
-) -> Result<IndexMap<Label, Option<u64>>, Memory>
+) -> Result<NameMap<Label, Option<u64>>, Memory>
     ensures { IfOk result (λ m. m.entries ≡ with_indices [] bindings.now) }
 {
-    let mut indices: IndexMap<Label, Option<u64>> = IndexMap::new(alloc);
+    let mut indices: NameMap<Label, Option<u64>> = new_map(alloc);
     for row in bindings {
         put_index(&mut indices, &row.0, &row.1)?;
     }
@@ -79,7 +79,7 @@ fn index_of_binding(binding: &Binding) -> Option<u64>
 
 // The first binding of a label counts.
 fn put_index(
-    indices: &mut IndexMap<Label, Option<u64>>,
+    indices: &mut NameMap<Label, Option<u64>>,
     label: &Label,
     binding: &Binding,
 ) -> Result<(), Memory>
@@ -95,7 +95,7 @@ fn put_index(
 }
 
 // What the implementation gives is asked first, since most rows are of it, and it takes no table.
-fn is_known(own: &IndexMap<Label, Option<u64>>, earlier: &NeededEarlier, label: &Label) -> bool
+fn is_known(own: &NameMap<Label, Option<u64>>, earlier: &NeededEarlier, label: &Label) -> bool
     ensures { result ≡ known_by own.now.entries (flat_map bound_labels earlier.now) label.now }
 {
     is_given(label) || (own.get(label).is_some() || earlier.has_bound(label))
@@ -103,7 +103,7 @@ fn is_known(own: &IndexMap<Label, Option<u64>>, earlier: &NeededEarlier, label: 
 
 fn exports_are_known(
     exports: &[(Symbol, Label)],
-    own: &IndexMap<Label, Option<u64>>,
+    own: &NameMap<Label, Option<u64>>,
     earlier: &NeededEarlier,
 ) -> bool
     ensures { result ≡ each (known_by own.now.entries (flat_map bound_labels earlier.now)) (map (λ e. e.1) exports.now) }
@@ -118,7 +118,7 @@ fn exports_are_known(
 
 fn rows_are_known(
     rows: &[FrameRow],
-    own: &IndexMap<Label, Option<u64>>,
+    own: &NameMap<Label, Option<u64>>,
     earlier: &NeededEarlier,
 ) -> bool
     ensures { result ≡ each (known_by own.now.entries (flat_map bound_labels earlier.now)) (map (λ f. f.label) rows.now) }
@@ -136,7 +136,7 @@ fn rows_are_known(
 #[tactic(auto, using(crate::proofs::KnownLemmas::each_known))]
 pub(crate) fn knows_its_labels(
     one: &CompiledLibrary,
-    own: &IndexMap<Label, Option<u64>>,
+    own: &NameMap<Label, Option<u64>>,
     earlier: &NeededEarlier,
 ) -> bool
     requires { own.now.entries ≡ with_indices [] one.now.bindings }

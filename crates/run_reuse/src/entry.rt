@@ -15,6 +15,7 @@ use core_cache::fitting::sealed_record;
 use core_cache::place::place;
 use core_cache::seal::seal;
 use core_language::record::CompiledLibrary;
+use core_record_bytes::record::Decoding;
 use load_files::found::{Found, Source};
 use std::alloc::Global;
 use std::marker::Model;
@@ -112,21 +113,21 @@ impl<'a> Cache<'a> {
     /// The record of the entry that the bytes are, sealed, where it is an entry of a library's roots and sources.
     pub(crate) fn record_in(
         &self,
-        alloc: Global,
+        decoding: &Decoding,
         found: &Found,
         bytes: &[u8],
     ) -> Result<Option<CompiledLibrary>, Memory>
         ensures { IfOk result (λ o. o ≡ if_fits self.now found.now (entry_in bytes.now)) }
     {
-        let chosen = chosen(alloc, self.groups, found)?;
-        record_sealed(alloc, bytes, self.roots, self.sources, chosen.as_slice())
+        let chosen = chosen(decoding.alloc, self.groups, found)?;
+        record_sealed(decoding, bytes, self.roots, self.sources, chosen.as_slice())
     }
 }
 
 // The record of the entry that the bytes are, sealed, where it is an entry of these roots, and of the sources at these
 // places.
 fn record_sealed(
-    alloc: Global,
+    decoding: &Decoding,
     bytes: &[u8],
     roots: &[Symbol],
     sources: &[Source],
@@ -134,7 +135,7 @@ fn record_sealed(
 ) -> Result<Option<CompiledLibrary>, Memory>
     ensures { IfOk result (λ o. o ≡ stored_in roots.now sources.now chosen.now (entry_in bytes.now)) }
 {
-    sealed_record(alloc, bytes, roots, sources, chosen)
+    sealed_record(decoding, bytes, roots, sources, chosen)
 }
 
 /// A library whose turn it is, and where its entry is kept.

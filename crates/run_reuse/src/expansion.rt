@@ -38,12 +38,10 @@ pub enum File {
 pub(crate) fn with_derived(alloc: Global, needs: &[bool]) -> Result<Items<bool>, Memory>
     ensures { IfOk result (λ ms. ms ≡ true ∷ needs.now) }
 {
-    let mut all = Items::new(alloc);
+    let mut all = Vec::new(alloc);
     all.push(true)?;
-    for mark in needs {
-        all.push(*mark)?;
-    }
-    Ok(all)
+    all.extend_from_slice(needs)?;
+    Ok(Items::from_vec(all))
 }
 
 // The data of its body.

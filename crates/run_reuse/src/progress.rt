@@ -12,6 +12,7 @@ use expand_follows::earlier::{NeededEarlier, Places};
 use run_library::records::Records;
 use std::alloc::Global;
 use std::marker::Model;
+use stx_tree::frame_row::FrameRow;
 
 /// The records so far, that of the derived library first, what they bind and define, and which of the others were reused.
 #[derive(Drop)]
@@ -55,6 +56,14 @@ impl Turned {
         ensures { result.now ≡ self.now.records }
     {
         &self.records.value
+    }
+
+    /// The rows of the last record, with which those of the next are likely to share symbols.
+    pub(crate) fn last_rows(&self) -> &[FrameRow] {
+        match self.records.value.ready().as_slice().last() {
+            Some(last) => last.frames.as_slice(),
+            None => &[],
+        }
     }
 
     /// The records that are marked.

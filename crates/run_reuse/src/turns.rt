@@ -23,6 +23,7 @@ use base_outside::{OutsideError, Store, StoreAnswer};
 use core_cache::entry::Entry;
 use core_language::record::CompiledLibrary;
 use core_pattern_bytes::held::HeldReading;
+use core_record_bytes::record::Decoding;
 use expand_follows::follows::follows;
 use expand_forms::tally::Tally;
 use load_files::found::Found;
@@ -90,7 +91,11 @@ fn stored_in(
 ) -> Result<Option<CompiledLibrary>, Memory>
     ensures { IfOk result (λ o. o ≡ if_suits turned.now.records found.now (if_fits turning.now.cache.now found.now (entry_in held.now))) }
 {
-    let Some(stored) = turning.cache.record_in(turning.alloc, found, held)? else {
+    let decoding = Decoding {
+        alloc: turning.alloc,
+        beside: turned.last_rows(),
+    };
+    let Some(stored) = turning.cache.record_in(&decoding, found, held)? else {
         return Ok(None);
     };
     let stored = HeldReading::new(stored);

@@ -231,6 +231,7 @@ impl FrameMap {
             let mut items = items.into_vec();
             rows.append(&mut items)?;
         }
+        rows.shrink_to_fit();
         Ok(rows)
     }
 }

@@ -11,5 +11,5 @@ returns-in_default c =
 pub returns-then-is_sealed : goal.returns-then-is_sealed
 returns-then-is_sealed c =
     let there : Some c.in-Some.rest.now ≡ front c.args.roots.now c.args.sources.now c.args.chosen.now c.behind_seal-body.result.now = rw c.in-Some.is at c.behind_front.ensures in
-    taken c.args.roots.now c.args.sources.now c.args.chosen.now c.args.bytes.now c.in-Some.rest.now c.decode.result
-    (there ∙ ap (front c.args.roots.now c.args.sources.now c.args.chosen.now) c.behind_seal-body.ensures) (sym c.if-is_sealed.true ∙ c.is_sealed.ensures) c.decode.ensures
+    taken c.args.roots.now c.args.sources.now c.args.chosen.now c.args.bytes.now c.in-Some.rest.now c.decode_beside.result
+    (there ∙ ap (front c.args.roots.now c.args.sources.now c.args.chosen.now) c.behind_seal-body.ensures) (sym c.if-is_sealed.true ∙ c.is_sealed.ensures) c.decode_beside.ensures
