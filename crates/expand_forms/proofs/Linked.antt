@@ -44,8 +44,6 @@ module _ (P : State → Type 0) (t : Tree) (s : State) (h : (ls : List Link) →
   linked-keeps (plans.Matching subject literals clauses place) = h s.links
   linked-keeps (plans.Keywords rec specs forms) = h s.links
   linked-keeps (plans.Quasi family template) = h s.links
-  linked-keeps (plans.Use k) = h s.links
-  linked-keeps (plans.SetUse l id) = h s.links
 
 -- the record of a library, beside its links
 pub record_given : (t : Result (CompiledLibrary × State) Fault) (x : Linked) → linked_in t ≡ Ok x → record_in t ≡ Ok x.library

@@ -1,40 +1,40 @@
 -- One step of the definition.
 use Rattle.std.proofs.Common.{◌≡◌, ℕ, ◌-◌, ◌<◌, zero, suc, refl, ap, sym, arith, List, [], Err}
 use Rattle.base_data.specs.declared.fault.FaultKind.TheVariants as kind
-use Rattle.base_data.specs.declared.span.Span.{Span}
 use Rattle.stx_tree.specs.Tree.{Tree}
 use Rattle.core_shapes.specs.At.{fault_at}
-use Rattle.core_shapes.specs.declared.shape.FormalIds.{FormalIds}
 use Rattle.core_language.specs.declared.record.CompiledLibrary.{CompiledLibrary}
 use Rattle.expand_standing.specs.State.{State}
 use Rattle.expand_forms.specs.Body.{item}
 use Rattle.expand_forms.specs.Expression.{inside, form_at, lambda_case}
+use Rattle.expand_forms.specs.Forms.{ProcedureForm}
+use Rattle.expand_forms.specs.Site.{Site}
 use Rattle.expand_heads.specs.declared.taken.BodyAt.{BodyAt}
 use Rattle.expand_heads.specs.declared.taken.Taken.{Taken}
 
-pub form_step : (rs : List CompiledLibrary) (room : ℕ) (place : Span) (level depth : ℕ) (t : Tree) (s : State) → 0 < room → (inside rs room).form place level depth t s ≡ form_at (inside rs (room - 1)) place level depth t s
+pub form_step : (rs : List CompiledLibrary) (room : ℕ) (site : Site) (t : Tree) (s : State) → 0 < room → (inside rs room).form site t s ≡ form_at (inside rs (room - 1)) site t s
 unfolding inside
-form_step rs zero place level depth t s h = absurd (omega arith)
-form_step rs (suc room) place level depth t s h =
+form_step rs zero site t s h = absurd (omega arith)
+form_step rs (suc room) site t s h =
     let e : suc room - 1 ≡ room = omega arith in
-    ap (λ r. form_at (inside rs r) place level depth t s) (sym e)
+    ap (λ r. form_at (inside rs r) site t s) (sym e)
 
-pub form_too_deep : (rs : List CompiledLibrary) (place : Span) (level depth : ℕ) (t : Tree) (s : State) → (inside rs 0).form place level depth t s ≡ Err (fault_at kind.TooDeep t place [])
+pub form_too_deep : (rs : List CompiledLibrary) (site : Site) (t : Tree) (s : State) → (inside rs 0).form site t s ≡ Err (fault_at kind.TooDeep t site.place [])
 unfolding inside
-form_too_deep rs place level depth t s = refl
+form_too_deep rs site t s = refl
 
-pub procedure_step : (rs : List CompiledLibrary) (room : ℕ) (place : Span) (level depth : ℕ) (t : Tree) (ids : FormalIds) (forms : List Tree) (s : State) → 0 < room
-    → (inside rs room).procedure place level depth t ids forms s ≡ lambda_case (inside rs (room - 1)) place level depth t ids forms s
+pub procedure_step : (rs : List CompiledLibrary) (room : ℕ) (site : Site) (p : ProcedureForm) (s : State) → 0 < room
+    → (inside rs room).procedure site p s ≡ lambda_case (inside rs (room - 1)) site p s
 unfolding inside
-procedure_step rs zero place level depth t ids forms s h = absurd (omega arith)
-procedure_step rs (suc room) place level depth t ids forms s h =
+procedure_step rs zero site p s h = absurd (omega arith)
+procedure_step rs (suc room) site p s h =
     let e : suc room - 1 ≡ room = omega arith in
-    ap (λ r. lambda_case (inside rs r) place level depth t ids forms s) (sym e)
+    ap (λ r. lambda_case (inside rs r) site p s) (sym e)
 
-pub procedure_too_deep : (rs : List CompiledLibrary) (place : Span) (level depth : ℕ) (t : Tree) (ids : FormalIds) (forms : List Tree) (s : State)
-    → (inside rs 0).procedure place level depth t ids forms s ≡ Err (fault_at kind.TooDeep t place [])
+pub procedure_too_deep : (rs : List CompiledLibrary) (site : Site) (p : ProcedureForm) (s : State)
+    → (inside rs 0).procedure site p s ≡ Err (fault_at kind.TooDeep p.form site.place [])
 unfolding inside
-procedure_too_deep rs place level depth t ids forms s = refl
+procedure_too_deep rs site p s = refl
 
 pub item_step : (rs : List CompiledLibrary) (room : ℕ) (at : BodyAt) (depth : ℕ) (done : Taken) (t : Tree) (s : State) → 0 < room → (inside rs room).item at depth done t s ≡ item (inside rs (room - 1)) at depth done t s
 unfolding inside

@@ -25,9 +25,11 @@ use Rattle.expand_heads.specs.declared.taken.Waiting.{Waiting}
 use Rattle.expand_heads.specs.declared.taken.Waits.{Waits}
 use Rattle.expand_heads.specs.declared.taken.Waits.TheVariants as waits
 use Rattle.expand_heads.specs.Depth.{deeper, most_round}
+use Rattle.expand_forms.specs.Forms.{definition_parts, let_syntax_parts, procedure_parts}
 use Rattle.expand_forms.specs.Inside.{Inside}
 use Rattle.expand_forms.specs.Keywords.{define_syntax, with_keywords}
 use Rattle.expand_forms.specs.ExpandUses.{expand_item_uses}
+use Rattle.expand_forms.specs.Site.{Site, one_deeper, site_in, site_of}
 use Rattle.expand_forms.specs.declared.expand_uses.PlannedItem.{PlannedItem}
 
 -- The first pass.
@@ -40,11 +42,9 @@ splice go at depth = gather (go.item at depth)
 unfoldable pub perform_item : Inside → BodyAt → ℕ → Taken → Tree → Item → Does Taken
 perform_item go at depth done t items.Nothing s = give done s
 perform_item go at depth done t (items.Forms forms) s = splice go at (deeper depth) done forms s
-perform_item go at depth done t (items.Keyword b) s = after (define_syntax go at (deeper depth) done t b s) (λ _. give done)
+perform_item go at depth done t (items.Keyword b) s = after (define_syntax go at (deeper depth) done (definition_parts t b) s) (λ _. give done)
 perform_item go at depth done t (items.Keywords recursive bs forms) s =
-    after (with_keywords go at.place at.level (deeper depth) recursive bs forms s) (splice go at (deeper depth) done)
-perform_item go at depth done t (items.Use k) s = fault_form kind.BadForm t at.place s
-perform_item go at depth done t (items.SetUse l) s = fault_form kind.BadForm t at.place s
+    after (with_keywords go (one_deeper (site_in at depth)) (let_syntax_parts recursive bs forms) s) (splice go at (deeper depth) done)
 
 abbrev pub perform_settled : Inside → ℕ → Taken × PlannedItem → Does Taken
 perform_settled go depth p = perform_item go p.1.at depth p.0 p.1.form p.1.item
@@ -60,19 +60,19 @@ item go at depth done t s = if nat_lt most_round depth then fault_form kind.TooD
 abbrev pub no_value : PlainCore
 no_value = one_armed (quoted (datum.atom None (atoms.Bool false))) (quoted (datum.atom None (atoms.Bool false)))
 
-abbrev pub value_of : Inside → Span → ℕ → ℕ → Option Tree → Does PlainCore
-value_of go place level depth None = give no_value
-value_of go place level depth (Some t) = go.form place level depth t
+abbrev pub value_of : Inside → Site → Option Tree → Does PlainCore
+value_of go site None = give no_value
+value_of go site (Some t) = go.form site t
 
-unfoldable pub finish_as : Inside → ℕ → Span → ℕ → Waits → Does Line
-finish_as go level place depth (waits.Variable l value) s = after (value_of go place level (deeper depth) value s) (λ c. give (line.Define l c))
-finish_as go level place depth (waits.Procedure l t ids forms) s =
-    after (fresh s) (λ n s'. after (go.procedure place level (deeper depth) t ids forms s')
+unfoldable pub finish_as : Inside → Site → Waits → Does Line
+finish_as go site (waits.Variable l value) s = after (value_of go (one_deeper site) value s) (λ c. give (line.Define l c))
+finish_as go site (waits.Procedure l t ids forms) s =
+    after (fresh s) (λ n s'. after (go.procedure (one_deeper site) (procedure_parts t ids forms) s')
     (λ c. give (line.Define l (procedure (record { 0 = n }) (cases (c ∷ [])) true))))
-finish_as go level place depth (waits.Expression t) s = after (go.form place level depth t s) (λ c. give (line.Expr c))
+finish_as go site (waits.Expression t) s = after (go.form site t s) (λ c. give (line.Expr c))
 
 abbrev pub finish_one : Inside → ℕ → Waiting → Does Line
-finish_one go level w = finish_as go level w.place w.depth w.what
+finish_one go level w = finish_as go (site_of level w) w.what
 
 abbrev pub finish_all : Inside → ℕ → List Waiting → Does (List Line)
 finish_all go level = each (finish_one go level) []
@@ -107,10 +107,10 @@ finish go place level t done s = if done.has_expression then after (finish_all g
 abbrev pub lambda_at : FrameNo → Span → ℕ → BodyAt
 lambda_at frame place level = record { frame = frame; place = place; level = level; kind = body_kind.Lambda }
 
-abbrev pub body_in : Inside → Span → ℕ → ℕ → Tree → List Tree → FrameNo → Does PlainCore
-body_in go place level depth t forms frame s =
-    after (splice go (lambda_at frame place level) depth begun (map (stamp frame) forms) s) (finish go place level t)
+abbrev pub body_in : Inside → Site → Tree → List Tree → FrameNo → Does PlainCore
+body_in go site t forms frame s =
+    after (splice go (lambda_at frame site.place site.level) site.depth begun (map (stamp frame) forms) s) (finish go site.place site.level t)
 
 -- the body of a procedure or `letrec`, which is t: its frame comes first, on all its forms
-unfoldable pub body : Inside → Span → ℕ → ℕ → Tree → List Tree → Does PlainCore
-body go place level depth t forms = within (λ s. after (fresh_frame s) (body_in go place level depth t forms))
+unfoldable pub body : Inside → Site → Tree → List Tree → Does PlainCore
+body go site t forms = within (λ s. after (fresh_frame s) (body_in go site t forms))

@@ -20,8 +20,12 @@ use Rattle.expand_standing.specs.RecordUses.{use_record}
 use Rattle.expand_standing.specs.Uses.{use_keyword, asks_variable}
 use Rattle.expand_heads.specs.Items.{alone, wait, item_plan}
 use Rattle.expand_heads.specs.Plan.{plan_of}
+use Rattle.expand_heads.specs.declared.item.HeadItem.{HeadItem}
+use Rattle.expand_heads.specs.declared.item.HeadItem.TheVariants as head_items
 use Rattle.expand_heads.specs.declared.item.Item.{Item}
 use Rattle.expand_heads.specs.declared.item.Item.TheVariants as items
+use Rattle.expand_heads.specs.declared.plan.HeadPlan.{HeadPlan}
+use Rattle.expand_heads.specs.declared.plan.HeadPlan.TheVariants as head_plans
 use Rattle.expand_heads.specs.declared.plan.KeywordUse.{KeywordUse}
 use Rattle.expand_heads.specs.declared.plan.KeywordUse.TheVariants as keyword_use
 use Rattle.expand_heads.specs.declared.plan.Plan.{Plan}
@@ -54,10 +58,10 @@ abbrev pub set_step : Span → Tree → Label → Tree → Bool → Does PlanOrU
 set_step place t l id true = give (steps.Use (keyword_use.Macro l))
 set_step place t l id false = fault_word kind.KeywordMisuse id t place
 
-abbrev pub step_of : List CompiledLibrary → Span → Tree → Plan → Does PlanOrUse
-step_of rs place t (plans.Use k) s = give (steps.Use k) s
-step_of rs place t (plans.SetUse l id) s = after (asks_variable rs (place_of t place) l s) (set_step place t l id)
-step_of rs place t p s = give (steps.Plan p) s
+abbrev pub step_of : List CompiledLibrary → Span → Tree → HeadPlan → Does PlanOrUse
+step_of rs place t (head_plans.Plan p) s = give (steps.Plan p) s
+step_of rs place t (head_plans.Use k) s = give (steps.Use k) s
+step_of rs place t (head_plans.SetUse l id) s = after (asks_variable rs (place_of t place) l s) (set_step place t l id)
 
 unfoldable pub step : List CompiledLibrary → Span → ℕ → Tree → Does PlanOrUse
 step rs place level t s = after (plan_of place level t s) (step_of rs place t)
@@ -111,10 +115,10 @@ abbrev pub set_item_step : BodyAt → ℕ → Taken → Tree → Label → Bool 
 set_item_step at depth done t l true s = Ok ((done, item_steps.Use (keyword_use.Macro l)), s)
 set_item_step at depth done t l false s = after (wait at depth done t s) (item_done items.Nothing)
 
-abbrev pub item_step_of : List CompiledLibrary → BodyAt → ℕ → Tree → Taken → Item → Does (Taken × ItemOrUse)
-item_step_of rs at depth t done (items.Use k) s = give (done, item_steps.Use k) s
-item_step_of rs at depth t done (items.SetUse l) s = after (asks_variable rs (place_of t at.place) l s) (set_item_step at depth done t l)
-item_step_of rs at depth t done i s = item_done i done s
+abbrev pub item_step_of : List CompiledLibrary → BodyAt → ℕ → Tree → Taken → HeadItem → Does (Taken × ItemOrUse)
+item_step_of rs at depth t done (head_items.Item i) s = item_done i done s
+item_step_of rs at depth t done (head_items.Use k) s = give (done, item_steps.Use k) s
+item_step_of rs at depth t done (head_items.SetUse l) s = after (asks_variable rs (place_of t at.place) l s) (set_item_step at depth done t l)
 
 unfoldable pub item_step : List CompiledLibrary → BodyAt → ℕ → Taken → Tree → Does (Taken × ItemOrUse)
 item_step rs at depth done t s = after (item_plan at depth done t s) (λ p. item_step_of rs at depth t p.0 p.1)

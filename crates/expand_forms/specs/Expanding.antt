@@ -16,6 +16,7 @@ use Rattle.expand_standing.specs.State.{State, state_code, Does}
 use Rattle.expand_standing.specs.Start.{started, first_frame}
 use Rattle.expand_forms.specs.Body.{body}
 use Rattle.expand_forms.specs.Expression.{inside, full_room}
+use Rattle.expand_forms.specs.Site.{Site}
 use Rattle.expand_forms.specs.Top.{record_in, linked_in, spent_in, top}
 use Rattle.expand_forms.specs.declared.top.Linked.{Linked}
 use Rattle.expand_forms.specs.declared.top.TopAt.{TopAt}
@@ -35,17 +36,17 @@ expanding_code =
 abbrev pub ready : LibName → List ℕ → List CompiledLibrary → List (List ℕ × Label) → Codes → Expanding
 ready library path records imports codes = record { state = started library records imports codes; frame = first_frame library; path = path; failed = false }
 
--- an expression that no form stands round, behind these records
-abbrev pub expression : List CompiledLibrary → Span → ℕ → Tree → Does PlainCore
-expression rs place level t = (inside rs full_room).form place level 0 t
+-- an expression, behind these records
+abbrev pub expression : List CompiledLibrary → Site → Tree → Does PlainCore
+expression rs site t = (inside rs full_room).form site t
 
 -- a form that has no span
 abbrev pub nowhere : Tree
 nowhere = atom None Nil
 
--- the body of a procedure that no form stands round, at a place
-abbrev pub lambda_body : List CompiledLibrary → Span → ℕ → List Tree → Does PlainCore
-lambda_body rs place level forms = body (inside rs full_room) place level 0 nowhere forms
+-- the body of a procedure, at a site
+abbrev pub lambda_body : List CompiledLibrary → Site → List Tree → Does PlainCore
+lambda_body rs site forms = body (inside rs full_room) site nowhere forms
 
 abbrev pub body_of : Expanding → List ℕ → Span → TopAt
 body_of e version place = record { path = e.path; version = version; frame = e.frame; place = place }

@@ -1,8 +1,7 @@
 -- Definitions of keywords (R6RS 11.2.2 and 11.18).
-use Rattle.std.specs.Prelude.{ℕ, ◌+◌, Bool, List, [], ◌∷◌, map, if◌then◌else◌}
+use Rattle.std.specs.Prelude.{ℕ, Bool, List, [], ◌∷◌, map, if◌then◌else◌}
 use Rattle.base_data.specs.Act.{after, give, gather}
 use Rattle.base_data.specs.declared.name.FrameNo.{FrameNo}
-use Rattle.base_data.specs.declared.span.Span.{Span}
 use Rattle.stx_tree.specs.Tree.{Tree}
 use Rattle.stx_tree.specs.Changes.{stamp}
 use Rattle.core_shapes.specs.At.{place_of}
@@ -14,32 +13,33 @@ use Rattle.expand_standing.specs.declared.binders.BoundSpec.{BoundSpec}
 use Rattle.expand_heads.specs.Items.{define_keyword}
 use Rattle.expand_heads.specs.declared.taken.BodyAt.{BodyAt}
 use Rattle.expand_heads.specs.declared.taken.Taken.{Taken}
+use Rattle.expand_forms.specs.Forms.{KeywordDefinition, LetSyntaxForm}
 use Rattle.expand_forms.specs.Inside.{Inside}
+use Rattle.expand_forms.specs.Site.{Site, one_up, site_in}
 
 -- the expression of a keyword is expanded one level up, with nothing in scope, and then evaluated
-unfoldable pub expand_transformer : Inside → Span → ℕ → ℕ → BoundSpec → Does (Unit {0})
-expand_transformer go place level depth b s = after (apart (go.form place (level + 1) depth b.init) s)
-    (evaluate_transformer go.earlier (place_of b.init place) b.label)
+unfoldable pub expand_transformer : Inside → Site → BoundSpec → Does (Unit {0})
+expand_transformer go site b s = after (apart (go.form (one_up site) b.init) s) (evaluate_transformer go.earlier (place_of b.init site.place) b.label)
 
 -- the expressions of `letrec-syntax` see its keywords
 abbrev pub seen_in : Bool → FrameNo → BoundSpec → BoundSpec
 seen_in recursive frame b = if recursive then record b { init = stamp frame b.init } else b
 
-abbrev pub expand_transformer_in : Inside → Span → ℕ → ℕ → Bool → FrameNo → Unit {0} → BoundSpec → Does (Unit {0})
-expand_transformer_in go place level depth recursive frame done b = expand_transformer go place level depth (seen_in recursive frame b)
+abbrev pub expand_transformer_in : Inside → Site → Bool → FrameNo → Unit {0} → BoundSpec → Does (Unit {0})
+expand_transformer_in go site recursive frame done b = expand_transformer go site (seen_in recursive frame b)
 
-abbrev pub expand_transformers : Inside → Span → ℕ → ℕ → Bool → FrameNo → List BoundSpec → Does (Unit {0})
-expand_transformers go place level depth recursive frame bs = gather (expand_transformer_in go place level depth recursive frame) tt bs
+abbrev pub expand_transformers : Inside → Site → Bool → FrameNo → List BoundSpec → Does (Unit {0})
+expand_transformers go site recursive frame bs = gather (expand_transformer_in go site recursive frame) tt bs
 
 -- the keywords of `let-syntax`, or of `letrec-syntax` where it is recursive, in a frame: all are bound before the first is evaluated
-unfoldable pub keywords : Inside → Span → ℕ → ℕ → Bool → List BindingSpec → FrameNo → Does (Unit {0})
-keywords go place level depth recursive bs frame s = after (bind_keywords frame place level bs s) (expand_transformers go place level depth recursive frame)
+unfoldable pub keywords : Inside → Site → Bool → List BindingSpec → FrameNo → Does (Unit {0})
+keywords go site recursive bs frame s = after (bind_keywords frame site.place site.level bs s) (expand_transformers go site recursive frame)
 
 -- such keywords, with the forms in which they stand
-abbrev pub with_keywords : Inside → Span → ℕ → ℕ → Bool → List BindingSpec → List Tree → Does (List Tree)
-with_keywords go place level depth recursive bs forms s =
-    after (fresh_frame s) (λ frame s'. after (keywords go place level depth recursive bs frame s') (λ _. give (map (stamp frame) forms)))
+abbrev pub with_keywords : Inside → Site → LetSyntaxForm → Does (List Tree)
+with_keywords go site f s =
+    after (fresh_frame s) (λ frame s'. after (keywords go site f.recursive f.specs frame s') (λ _. give (map (stamp frame) f.forms)))
 
 -- a keyword that a form of a body defines
-unfoldable pub define_syntax : Inside → BodyAt → ℕ → Taken → Tree → BindingSpec → Does (Unit {0})
-define_syntax go at depth done t b s = after (define_keyword at done t b s) (expand_transformer go at.place at.level depth)
+unfoldable pub define_syntax : Inside → BodyAt → ℕ → Taken → KeywordDefinition → Does (Unit {0})
+define_syntax go at depth done d s = after (define_keyword at done d.form d.spec s) (expand_transformer go (site_in at depth))

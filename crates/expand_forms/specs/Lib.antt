@@ -1,3 +1,5 @@
+pub mod Site
+pub mod Forms
 pub mod Inside
 pub mod Quasi
 pub mod ExpandUses

@@ -1,18 +1,13 @@
-//! Where forms stand, and what they are expanded with.
+//! What forms are expanded with.
 
-use base_data::span::Span;
+use crate::site::Site;
 use expand_heads::taken::BodyAt;
 use stx_object::syn::Syn;
 
 /// Where a form stands, and what it is expanded with.
 #[derive(Drop)]
 pub struct FormAt<'a, M> {
-    /// Where a form without a span stands.
-    pub place: &'a Span,
-    /// Its level (R6RS 7.2): 0 at run time, and one more in the expression of a keyword.
-    pub level: u32,
-    /// How many core forms and applications stand round it. With more than `MOST_ROUND` it is refused.
-    pub depth: u16,
+    pub site: &'a Site<'a>,
     /// How many forms inside one another are still taken. `expression` and `procedure` count the form that they
     /// get as one of them, and refuse it at 0. Depth refuses a form first, if expansion begins with `ROOM`.
     pub room: u16,
@@ -44,13 +39,4 @@ pub struct ItemForm<'a, M> {
     pub depth: u16,
     /// What has the transformers of keywords evaluated and called.
     pub means: &'a M,
-}
-
-/// Where forms stand that no form stands round.
-#[derive(Drop)]
-pub struct OuterAt<'a> {
-    /// Where a form without a span stands.
-    pub place: &'a Span,
-    /// Their level (R6RS 7.2), as in `FormAt`.
-    pub level: u32,
 }

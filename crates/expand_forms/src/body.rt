@@ -15,6 +15,7 @@ use crate::cores::procedure_of_case;
 use crate::expand_uses::{PlannedItem, expand_item_uses};
 use crate::expression::{ProcedureForm, expression, procedure, sequence_of, stamp_all};
 use crate::keywords::{KeywordDefinition, LetSyntaxForm, define_syntax, with_keywords};
+use crate::site::{Site, site_in, site_of};
 use crate::transformers::Transformers;
 use base_data::atom::Atom;
 use base_data::datum::{Datum, Node};
@@ -22,7 +23,6 @@ use base_data::fault::{FaultKind, Stop};
 use base_data::items::Items;
 use base_data::memory::Memory;
 use base_data::name::{CodeNo, FrameNo};
-use base_data::span::Span;
 use core_language::code::{Core, CoreNode, Init};
 use core_language::record::Line;
 use expand_heads::depth::{MOST_ROUND, deeper};
@@ -115,14 +115,14 @@ pub(crate) fn begun(alloc: Global) -> Taken
 }
 
 /// Where the forms of the body of a procedure stand.
-fn lambda_at(frame: FrameNo, place: &Span, level: u32) -> Result<BodyAt, Memory>
-    ensures { IfOk result (λ at. at ≡ lambda_at frame place.now level) }
+fn lambda_at(frame: FrameNo, site: &Site) -> Result<BodyAt, Memory>
+    ensures { IfOk result (λ at. at ≡ lambda_at frame site.now.place site.now.level) }
 {
-    let place = place.share()?;
+    let place = site.place.share()?;
     Ok(BodyAt {
         frame,
         place,
-        level,
+        level: site.level,
         kind: BodyKind::Lambda,
     })
 }
@@ -226,23 +226,15 @@ fn perform_item<M: Transformers, N: Ledger, L: Ledger>(
                 specs: specs.as_slice(),
                 forms: forms.as_slice(),
             };
+            let site = site_in(&settled.at, inner.depth);
             let keywords_at = FormAt {
-                place: &settled.at.place,
-                level: settled.at.level,
-                depth: inner.depth,
+                site: &site,
                 room: at.room,
                 means: at.means,
             };
             let forms = with_keywords(state, &parts, &keywords_at, counts)?;
             splice(state, &inner, taken, forms.as_slice(), counts)
         }
-        // No form whose uses were expanded is a use.
-        Item::Use(_) => Err(state.fault_form(FaultKind::BadForm, &settled.form, &settled.at.place)),
-        Item::SetUse(_) => Err(state.fault_form(
-            FaultKind::BadForm,
-            &settled.form,
-            &settled.at.place,
-        )),
     }
 }
 
@@ -253,8 +245,7 @@ fn value_of<M: Transformers, N: Ledger, L: Ledger>(
     at: &FormAt<M>,
     counts: &mut Counts<N, L>,
 ) -> Result<Core, Stop>
-    ensures { GivesAfter (λ c. c) result state.new (value_of
-        (inside (M.records at.now.means.now) at.now.room) at.now.place.now at.now.level at.now.depth value.now state.old) }
+    ensures { GivesAfter (λ c. c) result state.new (value_of (inside (M.records at.now.means.now) at.now.room) at.now.site.now value.now state.old) }
 {
     match value {
         None => Ok(no_value(state.alloc())?),
@@ -271,16 +262,15 @@ pub(crate) fn finish_one<M: Transformers, N: Ledger, L: Ledger>(
     at: &FormAt<M>,
     counts: &mut Counts<N, L>,
 ) -> Result<Line, Stop>
-    ensures { GivesAfter (λ c. c) result state.new (finish_one (inside (M.records at.now.means.now) at.now.room) at.now.level waiting.now state.old) }
+    ensures { GivesAfter (λ c. c) result state.new (finish_one (inside (M.records at.now.means.now) at.now.room) at.now.site.now.level waiting.now state.old) }
 {
-    let there = FormAt {
-        place: &waiting.place,
-        depth: waiting.depth,
-        ..*at
-    };
+    let outer = at.site;
+    let site = site_of(outer.level, waiting);
+    let there = FormAt { site: &site, ..*at };
+    let within = site.one_deeper();
     let inner = FormAt {
-        depth: deeper(waiting.depth),
-        ..there
+        site: &within,
+        ..*at
     };
     match &waiting.what {
         Waits::Variable(label, value) => {
@@ -315,7 +305,8 @@ fn finish_all<M: Transformers, N: Ledger, L: Ledger>(
     at: &FormAt<M>,
     counts: &mut Counts<N, L>,
 ) -> Result<Vec<Line>, Stop>
-    ensures { GivesAfter (λ v. v.items) result state.new (finish_all (inside (M.records at.now.means.now) at.now.room) at.now.level waiting.now state.old) }
+    ensures { GivesAfter (λ v. v.items) result state.new
+        (finish_all (inside (M.records at.now.means.now) at.now.room) at.now.site.now.level waiting.now state.old) }
 {
     let mut lines = Vec::new(state.alloc());
     for one in waiting {
@@ -336,10 +327,11 @@ fn finish<M: Transformers, N: Ledger, L: Ledger>(
     counts: &mut Counts<N, L>,
 ) -> Result<Core, Stop>
     ensures { GivesAfter (λ c. c) result state.new (finish
-        (inside (M.records at.now.means.now) at.now.room) at.now.place.now at.now.level form.now taken.now state.old) }
+        (inside (M.records at.now.means.now) at.now.room) at.now.site.now.place at.now.site.now.level form.now taken.now state.old) }
 {
+    let site = at.site;
     if !taken.has_expression {
-        return Err(state.fault_form(FaultKind::NoExpression, form, at.place));
+        return Err(state.fault_form(FaultKind::NoExpression, form, site.place));
     }
     let lines = finish_all(state, taken.waiting.as_slice(), at, counts)?;
     Ok(body_core(state.alloc(), lines)?)
@@ -355,7 +347,7 @@ pub fn body<M: Transformers, N: Ledger, L: Ledger>(
     counts: &mut Counts<N, L>,
 ) -> Result<Core, Stop>
     ensures { GivesAfter (λ c. c) result state.new (body
-        (inside (M.records at.now.means.now) at.now.room) at.now.place.now at.now.level at.now.depth whole.now.form.now whole.now.forms.now state.old) }
+        (inside (M.records at.now.means.now) at.now.room) at.now.site.now whole.now.form.now whole.now.forms.now state.old) }
 {
     let outer = state.in_scope();
     let frame = state.fresh_frame()?;
@@ -374,13 +366,13 @@ fn body_in<M: Transformers, N: Ledger, L: Ledger>(
     counts: &mut Counts<N, L>,
 ) -> Result<Core, Stop>
     ensures { GivesAfter (λ c. c) result state.new (body_in
-        (inside (M.records at.now.means.now) at.now.room) at.now.place.now at.now.level at.now.depth whole.now.form.now whole.now.forms.now
-        frame state.old) }
+        (inside (M.records at.now.means.now) at.now.room) at.now.site.now whole.now.form.now whole.now.forms.now frame state.old) }
 {
-    let body = lambda_at(frame, at.place, at.level)?;
+    let site = at.site;
+    let body = lambda_at(frame, at.site)?;
     let items = ItemAt {
         body: &body,
-        depth: at.depth,
+        depth: site.depth,
         room: at.room,
         means: at.means,
     };

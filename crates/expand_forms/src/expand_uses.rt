@@ -6,15 +6,16 @@ ghost use Rattle.expand_forms.specs.ExpandUses.{used_form, next_form, set_step, 
 
 use crate::at::{FormAt, ItemAt, ItemForm};
 use crate::links::link;
+use crate::site::Site;
 use crate::transformers::Transformers;
 use base_data::fault::{FaultKind, Stop};
 use base_data::memory::Memory;
 use base_data::name::{FrameNo, Label};
 use base_data::span::Span;
 use core_shapes::at::place_of;
-use expand_heads::item::Item;
+use expand_heads::item::{HeadItem, Item};
 use expand_heads::items::{item_plan, wait};
-use expand_heads::plan::{KeywordUse, Plan, plan_of};
+use expand_heads::plan::{HeadPlan, KeywordUse, Plan, plan_of};
 use expand_heads::taken::{BodyAt, Taken};
 use expand_standing::expansion::Expansion;
 use expand_standing::means::Counts;
@@ -141,21 +142,22 @@ fn set_step<L: Ledger>(
 fn step_of<M: Transformers, N: Ledger, L: Ledger>(
     state: &mut Expansion<L>,
     form: &Syn,
-    plan: Plan,
+    plan: HeadPlan,
     at: &FormAt<M>,
     counts: &mut Counts<N, L>,
 ) -> Result<PlanOrUse, Stop>
-    ensures { GivesAfter (λ x. x) result state.new (step_of (M.records at.now.means.now) at.now.place.now form.now plan state.old) }
+    ensures { GivesAfter (λ x. x) result state.new (step_of (M.records at.now.means.now) at.now.site.now.place form.now plan state.old) }
 {
+    let site = at.site;
     match plan {
-        Plan::Use(keyword) => Ok(PlanOrUse::Use(keyword)),
-        Plan::SetUse(label, id) => {
-            let place = place_of(form, at.place)?;
+        HeadPlan::Plan(plan) => Ok(PlanOrUse::Plan(plan)),
+        HeadPlan::Use(keyword) => Ok(PlanOrUse::Use(keyword)),
+        HeadPlan::SetUse(label, id) => {
+            let place = place_of(form, site.place)?;
             let is_use = at.means.asks_variable(state, &place, &label, counts)?;
             let target = AssignedKeyword { label, id };
-            set_step(state, form, target, is_use, at.place)
+            set_step(state, form, target, is_use, site.place)
         }
-        plan => Ok(PlanOrUse::Plan(plan)),
     }
 }
 
@@ -166,9 +168,10 @@ fn next_step<M: Transformers, N: Ledger, L: Ledger>(
     at: &FormAt<M>,
     counts: &mut Counts<N, L>,
 ) -> Result<PlanOrUse, Stop>
-    ensures { GivesAfter (λ x. x) result state.new (step (M.records at.now.means.now) at.now.place.now at.now.level form.now state.old) }
+    ensures { GivesAfter (λ x. x) result state.new (step (M.records at.now.means.now) at.now.site.now.place at.now.site.now.level form.now state.old) }
 {
-    let plan = plan_of(state, form, at.place, at.level)?;
+    let site = at.site;
+    let plan = plan_of(state, form, site.place, site.level)?;
     step_of(state, form, plan, at, counts)
 }
 
@@ -198,16 +201,19 @@ pub(crate) fn expand_uses<M: Transformers, N: Ledger, L: Ledger>(
     at: &FormAt<M>,
     counts: &mut Counts<N, L>,
 ) -> Result<PlannedForm, Stop>
-    ensures { GivesAfter (λ d. d) result state.new (expand_uses (M.records at.now.means.now) at.now.place.now at.now.level form.now state.old) }
+    ensures { GivesAfter (λ d. d) result state.new (expand_uses (M.records at.now.means.now) at.now.site.now.place at.now.site.now.level form.now state.old) }
 {
+    let outer = at.site;
     let mut left = state.uses_left();
     let mut form = form.share()?;
-    let mut place = at.place.share()?;
+    let mut place = outer.place.share()?;
     loop {
-        let here = FormAt {
+        let site = Site {
             place: &place,
-            ..*at
+            level: outer.level,
+            depth: outer.depth,
         };
+        let here = FormAt { site: &site, ..*at };
         let keyword = match next_step(state, &form, &here, counts)? {
             PlanOrUse::Plan(plan) => return planned_form(state, place, form, plan),
             PlanOrUse::Use(keyword) => keyword,
@@ -281,20 +287,20 @@ fn item_step_of<M: Transformers, N: Ledger, L: Ledger>(
     state: &mut Expansion<L>,
     one: &ItemForm<M>,
     taken: &mut Taken,
-    item: Item,
+    item: HeadItem,
     counts: &mut Counts<N, L>,
 ) -> Result<ItemOrUse, Stop>
     ensures { GivesAfter (λ x. (taken.new, x)) result state.new
         (item_step_of (M.records one.now.means.now) one.now.body.now one.now.depth one.now.form.now taken.old item state.old) }
 {
     match item {
-        Item::Use(keyword) => Ok(ItemOrUse::Use(keyword)),
-        Item::SetUse(label) => {
+        HeadItem::Item(item) => Ok(ItemOrUse::Item(item)),
+        HeadItem::Use(keyword) => Ok(ItemOrUse::Use(keyword)),
+        HeadItem::SetUse(label) => {
             let place = place_of(one.form, &one.body.place)?;
             let is_use = one.means.asks_variable(state, &place, &label, counts)?;
             set_item_step(state, one, taken, label, is_use)
         }
-        item => Ok(ItemOrUse::Item(item)),
     }
 }
 

@@ -8,10 +8,11 @@ ghost use Rattle.eval_stage.specs.Libraries.{earlier_in};
 ghost use Rattle.expand_standing.specs.Ready.{needed_records};
 ghost use Rattle.expand_forms.specs.Expanding.{ready, expression, lambda_body, library_record, library_linked, library_spent};
 
-use crate::at::{FormAt, OuterAt};
+use crate::at::FormAt;
 use crate::body::{BodyForm, body};
 use crate::expression::expression;
 use crate::inside::ROOM;
+use crate::site::Site;
 use crate::tally::Tally;
 use crate::top::{Linked, TopAt, TopBody, top};
 use base_data::atom::Atom;
@@ -107,22 +108,19 @@ impl<L: Ledger> Expander<L> {
     pub fn expression<N: Ledger>(
         &mut self,
         form: &Syn,
-        at: &OuterAt,
+        site: &Site,
         means: &Means,
         counts: &mut Counts<N, L>,
     ) -> Result<Core, Stop>
         requires { self.old.failed ≡ false }
-        ensures given { GivesAfter (λ c. c) result self.new.state
-            (expression (earlier_in means.now.earlier) at.now.place.now at.now.level form.now self.old.state) }
+        ensures given { GivesAfter (λ c. c) result self.new.state (expression (earlier_in means.now.earlier) site.now form.now self.old.state) }
         ensures ok { OnOk result (self.new.failed ≡ false) }
         ensures err { OnErr result (self.new.failed ≡ true) }
         ensures frame { self.new.frame ≡ self.old.frame }
         ensures path { self.new.path ≡ self.old.path }
     {
         let at = FormAt {
-            place: at.place,
-            level: at.level,
-            depth: 0,
+            site,
             room: ROOM,
             means,
         };
@@ -139,19 +137,18 @@ impl<L: Ledger> Expander<L> {
     pub fn body<N: Ledger>(
         &mut self,
         forms: &[Syn],
-        at: &OuterAt,
+        site: &Site,
         means: &Means,
         counts: &mut Counts<N, L>,
     ) -> Result<Core, Stop>
         requires { self.old.failed ≡ false }
-        ensures given { GivesAfter (λ c. c) result self.new.state
-            (lambda_body (earlier_in means.now.earlier) at.now.place.now at.now.level forms.now self.old.state) }
+        ensures given { GivesAfter (λ c. c) result self.new.state (lambda_body (earlier_in means.now.earlier) site.now forms.now self.old.state) }
         ensures ok { OnOk result (self.new.failed ≡ false) }
         ensures err { OnErr result (self.new.failed ≡ true) }
         ensures frame { self.new.frame ≡ self.old.frame }
         ensures path { self.new.path ≡ self.old.path }
     {
-        match lambda_body(&mut *self.state, forms, at, means, counts) {
+        match lambda_body(&mut *self.state, forms, site, means, counts) {
             Ok(core) => Ok(core),
             Err(stop) => {
                 self.failed = true;
@@ -296,17 +293,15 @@ fn library_linked<N: Ledger, L: Ledger>(
 fn lambda_body<N: Ledger, L: Ledger>(
     state: &mut Expansion<L>,
     forms: &[Syn],
-    at: &OuterAt,
+    site: &Site,
     means: &Means,
     counts: &mut Counts<N, L>,
 ) -> Result<Core, Stop>
-    ensures { GivesAfter (λ c. c) result state.new (lambda_body (earlier_in means.now.earlier) at.now.place.now at.now.level forms.now state.old) }
+    ensures { GivesAfter (λ c. c) result state.new (lambda_body (earlier_in means.now.earlier) site.now forms.now state.old) }
 {
     let nowhere = Syn::atom(state.alloc(), Atom::Nil)?;
     let at = FormAt {
-        place: at.place,
-        level: at.level,
-        depth: 0,
+        site,
         room: ROOM,
         means,
     };

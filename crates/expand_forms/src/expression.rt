@@ -24,12 +24,13 @@ use base_data::name::{CodeNo, FrameNo, Label};
 use base_data::steps::Steps;
 use core_language::code::{Core, CoreNode, Init, Lambda};
 use core_shapes::shape::{BindingSpec, FormalIds, LambdaCase};
-use expand_heads::depth::{MOST_ROUND, deeper};
+use expand_heads::depth::MOST_ROUND;
 use expand_heads::plan::Plan;
 use expand_standing::binders::{BinderContext, BoundSpec};
 use expand_standing::expansion::Expansion;
 use expand_standing::means::Counts;
 use std::alloc::Global;
+use std::marker::Model;
 use std::sync::ledger::Ledger;
 use stx_object::syn::Syn;
 
@@ -39,6 +40,16 @@ struct IfForm<'a> {
     test: &'a Syn,
     consequent: &'a Syn,
     alternate: &'a Option<Syn>,
+}
+
+impl<'a> Model for IfForm<'a> {
+    ghost use Rattle.expand_forms.specs.Forms.{IfForm, if_code};
+
+    ghost Value = { IfForm };
+
+    ghost coded = { if_code };
+
+    ghost view = { λ f. record { test = f.test.now; consequent = f.consequent.now; alternate = f.alternate.now } };
 }
 
 /// The test and the consequent of an `if`, expanded.
@@ -59,6 +70,16 @@ pub struct ProcedureForm<'a> {
     pub forms: &'a [Syn],
 }
 
+impl<'a> Model for ProcedureForm<'a> {
+    ghost use Rattle.expand_forms.specs.Forms.{ProcedureForm, procedure_code};
+
+    ghost Value = { ProcedureForm };
+
+    ghost coded = { procedure_code };
+
+    ghost view = { λ f. record { form = f.form.now; ids = f.ids.now; forms = f.forms.now } };
+}
+
 /// A `letrec`, or a `letrec*` where `star` is true, and its parts.
 #[derive(Drop)]
 struct LetrecForm<'a> {
@@ -69,6 +90,16 @@ struct LetrecForm<'a> {
     specs: &'a [BindingSpec],
     /// The forms of its body.
     forms: &'a [Syn],
+}
+
+impl<'a> Model for LetrecForm<'a> {
+    ghost use Rattle.expand_forms.specs.Forms.{LetrecForm, letrec_code};
+
+    ghost Value = { LetrecForm };
+
+    ghost coded = { letrec_code };
+
+    ghost view = { λ f. record { form = f.form.now; star = f.star; specs = f.specs.now; forms = f.forms.now } };
 }
 
 /// A sequence of one is that one.
@@ -124,11 +155,11 @@ pub fn expression<M: Transformers, N: Ledger, L: Ledger>(
     at: &FormAt<M>,
     counts: &mut Counts<N, L>,
 ) -> Result<Core, Stop>
-    ensures { GivesAfter (λ c. c) result state.new ((inside (M.records at.now.means.now) at.now.room).form at.now.place.now at.now.level
-        at.now.depth form.now state.old) }
+    ensures { GivesAfter (λ c. c) result state.new ((inside (M.records at.now.means.now) at.now.room).form at.now.site.now form.now state.old) }
 {
+    let site = at.site;
     if at.room == 0 {
-        return Err(state.fault_form(FaultKind::TooDeep, form, at.place));
+        return Err(state.fault_form(FaultKind::TooDeep, form, site.place));
     }
     let inner = FormAt {
         room: at.room - 1,
@@ -145,8 +176,7 @@ pub(crate) fn boxed<M: Transformers, N: Ledger, L: Ledger>(
     at: &FormAt<M>,
     counts: &mut Counts<N, L>,
 ) -> Result<Box<Core>, Stop>
-    ensures { GivesAfter (λ c. c.value) result state.new
-        ((inside (M.records at.now.means.now) at.now.room).form at.now.place.now at.now.level at.now.depth form.now state.old) }
+    ensures { GivesAfter (λ c. c.value) result state.new ((inside (M.records at.now.means.now) at.now.room).form at.now.site.now form.now state.old) }
 {
     let core = expression(state, form, at, counts)?;
     Ok(Box::new(state.alloc(), core)?)
@@ -161,8 +191,8 @@ pub(crate) fn expression_in<M: Transformers, N: Ledger, L: Ledger>(
     at: &FormAt<M>,
     counts: &mut Counts<N, L>,
 ) -> Result<Core, Stop>
-    ensures { GivesAfter (λ c. c) result state.new ((inside (M.records at.now.means.now) at.now.room).form at.now.place.now at.now.level
-        at.now.depth (stamp frame.now form.now) state.old) }
+    ensures { GivesAfter (λ c. c) result state.new ((inside (M.records at.now.means.now) at.now.room).form at.now.site.now
+        (stamp frame.now form.now) state.old) }
 {
     let form = form.stamp(state.alloc(), frame.share()?, counts.nodes)?;
     expression(state, &form, at, counts)
@@ -177,17 +207,15 @@ fn form_at<M: Transformers, N: Ledger, L: Ledger>(
     at: &FormAt<M>,
     counts: &mut Counts<N, L>,
 ) -> Result<Core, Stop>
-    ensures { GivesAfter (λ c. c) result state.new (form_at
-        (inside (M.records at.now.means.now) at.now.room) at.now.place.now at.now.level at.now.depth form.now state.old) }
+    ensures { GivesAfter (λ c. c) result state.new (form_at (inside (M.records at.now.means.now) at.now.room) at.now.site.now form.now state.old) }
 {
-    if at.depth > MOST_ROUND {
-        return Err(state.fault_form(FaultKind::TooDeep, form, at.place));
+    let outer = at.site;
+    if outer.depth > MOST_ROUND {
+        return Err(state.fault_form(FaultKind::TooDeep, form, outer.place));
     }
     let PlannedForm { place, form, plan } = expand_uses(state, form, at, counts)?;
-    let there = FormAt {
-        place: &place,
-        ..*at
-    };
+    let site = outer.at_place(&place);
+    let there = FormAt { site: &site, ..*at };
     perform(state, &form, plan, &there, counts)
 }
 
@@ -201,8 +229,7 @@ fn perform<M: Transformers, N: Ledger, L: Ledger>(
     at: &FormAt<M>,
     counts: &mut Counts<N, L>,
 ) -> Result<Core, Stop>
-    ensures { GivesAfter (λ c. c) result state.new (perform
-        (inside (M.records at.now.means.now) at.now.room) at.now.place.now at.now.level at.now.depth form.now plan state.old) }
+    ensures { GivesAfter (λ c. c) result state.new (perform (inside (M.records at.now.means.now) at.now.room) at.now.site.now form.now plan state.old) }
 {
     match plan {
         Plan::Done(core) => Ok(core),
@@ -224,13 +251,11 @@ fn perform_plan<M: Transformers, N: Ledger, L: Ledger>(
     at: &FormAt<M>,
     counts: &mut Counts<N, L>,
 ) -> Result<Core, Stop>
-    ensures { GivesAfter (λ c. c) result state.new (perform
-        (inside (M.records at.now.means.now) at.now.room) at.now.place.now at.now.level at.now.depth form.now plan.now state.old) }
+    ensures { GivesAfter (λ c. c) result state.new (perform (inside (M.records at.now.means.now) at.now.room) at.now.site.now form.now plan.now state.old) }
 {
-    let inner = FormAt {
-        depth: deeper(at.depth),
-        ..*at
-    };
+    let outer = at.site;
+    let site = outer.one_deeper();
+    let inner = FormAt { site: &site, ..*at };
     match plan {
         // This never comes: the caller has taken the code of a plan that is done.
         Plan::Done(_) => Err(Stop::Memory),
@@ -290,9 +315,6 @@ fn perform_plan<M: Transformers, N: Ledger, L: Ledger>(
             };
             quasi_form(state, &parts, &inner, counts)
         }
-        // No plan of a form whose uses were expanded is a use.
-        Plan::Use(_) => Err(state.fault_form(FaultKind::BadForm, form, at.place)),
-        Plan::SetUse(_, _) => Err(state.fault_form(FaultKind::BadForm, form, at.place)),
     }
 }
 
@@ -307,7 +329,7 @@ fn application<M: Transformers, N: Ledger, L: Ledger>(
     counts: &mut Counts<N, L>,
 ) -> Result<Core, Stop>
     ensures { GivesAfter (λ c. c) result state.new (application
-        (inside (M.records at.now.means.now) at.now.room) at.now.place.now at.now.level at.now.depth operator.now operands.now state.old) }
+        (inside (M.records at.now.means.now) at.now.room) at.now.site.now operator.now operands.now state.old) }
 {
     let operator = boxed(state, operator, at, counts)?;
     let operands = in_order(state, operands, at, counts)?;
@@ -322,9 +344,7 @@ fn conditional<M: Transformers, N: Ledger, L: Ledger>(
     at: &FormAt<M>,
     counts: &mut Counts<N, L>,
 ) -> Result<Core, Stop>
-    ensures { GivesAfter (λ c. c) result state.new (conditional
-        (inside (M.records at.now.means.now) at.now.room) at.now.place.now at.now.level at.now.depth parts.now.test.now
-        parts.now.consequent.now parts.now.alternate.now state.old) }
+    ensures { GivesAfter (λ c. c) result state.new (conditional (inside (M.records at.now.means.now) at.now.room) at.now.site.now parts.now state.old) }
 {
     let test = boxed(state, parts.test, at, counts)?;
     let consequent = boxed(state, parts.consequent, at, counts)?;
@@ -341,8 +361,7 @@ fn alternate<M: Transformers, N: Ledger, L: Ledger>(
     counts: &mut Counts<N, L>,
 ) -> Result<Core, Stop>
     ensures { GivesAfter (λ c. c) result state.new (alternate
-        (inside (M.records at.now.means.now) at.now.room) at.now.place.now at.now.level at.now.depth tested.test.value
-        tested.consequent.value other.now state.old) }
+        (inside (M.records at.now.means.now) at.now.room) at.now.site.now tested.test.value tested.consequent.value other.now state.old) }
 {
     let OneArmed { test, consequent } = tested;
     match other {
@@ -363,8 +382,7 @@ fn set<M: Transformers, N: Ledger, L: Ledger>(
     at: &FormAt<M>,
     counts: &mut Counts<N, L>,
 ) -> Result<Core, Stop>
-    ensures { GivesAfter (λ c. c) result state.new (set (inside (M.records at.now.means.now) at.now.room) at.now.place.now at.now.level
-        at.now.depth label.now value.now state.old) }
+    ensures { GivesAfter (λ c. c) result state.new (set (inside (M.records at.now.means.now) at.now.room) at.now.site.now label.now value.now state.old) }
 {
     let value = boxed(state, value, at, counts)?;
     Ok(assignment_of(label, value)?)
@@ -378,8 +396,7 @@ pub(crate) fn in_sequence<M: Transformers, N: Ledger, L: Ledger>(
     at: &FormAt<M>,
     counts: &mut Counts<N, L>,
 ) -> Result<Core, Stop>
-    ensures { GivesAfter (λ c. c) result state.new (in_sequence
-        (inside (M.records at.now.means.now) at.now.room) at.now.place.now at.now.level at.now.depth forms.now state.old) }
+    ensures { GivesAfter (λ c. c) result state.new (in_sequence (inside (M.records at.now.means.now) at.now.room) at.now.site.now forms.now state.old) }
 {
     let parts = in_order(state, forms, at, counts)?;
     Ok(sequence_of(parts))
@@ -392,8 +409,7 @@ fn in_order<M: Transformers, N: Ledger, L: Ledger>(
     at: &FormAt<M>,
     counts: &mut Counts<N, L>,
 ) -> Result<Vec<Core>, Stop>
-    ensures { GivesAfter (λ c. c.items) result state.new
-        (in_order (inside (M.records at.now.means.now) at.now.room) at.now.place.now at.now.level at.now.depth forms.now state.old) }
+    ensures { GivesAfter (λ c. c.items) result state.new (in_order (inside (M.records at.now.means.now) at.now.room) at.now.site.now forms.now state.old) }
 {
     let mut done = with_room(state.alloc(), forms.len());
     for form in forms {
@@ -411,9 +427,7 @@ fn lambda<M: Transformers, N: Ledger, L: Ledger>(
     at: &FormAt<M>,
     counts: &mut Counts<N, L>,
 ) -> Result<Core, Stop>
-    ensures { GivesAfter (λ c. c) result state.new (lambda
-        (inside (M.records at.now.means.now) at.now.room) at.now.place.now at.now.level at.now.depth parts.now.form.now parts.now.ids.now
-        parts.now.forms.now state.old) }
+    ensures { GivesAfter (λ c. c) result state.new (lambda (inside (M.records at.now.means.now) at.now.room) at.now.site.now parts.now state.old) }
 {
     let number = CodeNo(state.fresh()?);
     let case = lambda_case(state, parts, at, counts)?;
@@ -430,7 +444,7 @@ fn case_lambda<M: Transformers, N: Ledger, L: Ledger>(
     counts: &mut Counts<N, L>,
 ) -> Result<Core, Stop>
     ensures { GivesAfter (λ c. c) result state.new (case_lambda
-        (inside (M.records at.now.means.now) at.now.room) at.now.place.now at.now.level at.now.depth form.now cases.now state.old) }
+        (inside (M.records at.now.means.now) at.now.room) at.now.site.now form.now cases.now state.old) }
 {
     let number = CodeNo(state.fresh()?);
     let cases = all_cases(state, form, cases, at, counts)?;
@@ -446,7 +460,7 @@ fn all_cases<M: Transformers, N: Ledger, L: Ledger>(
     counts: &mut Counts<N, L>,
 ) -> Result<Vec<Lambda>, Stop>
     ensures { GivesAfter (λ c. c.items) result state.new
-        (all_cases (inside (M.records at.now.means.now) at.now.room) at.now.place.now at.now.level at.now.depth form.now cases.now state.old) }
+        (all_cases (inside (M.records at.now.means.now) at.now.room) at.now.site.now form.now cases.now state.old) }
 {
     let mut done = with_room(state.alloc(), cases.len());
     for case in cases {
@@ -470,9 +484,7 @@ fn lambda_case<M: Transformers, N: Ledger, L: Ledger>(
     at: &FormAt<M>,
     counts: &mut Counts<N, L>,
 ) -> Result<Lambda, Stop>
-    ensures { GivesAfter (λ c. c) result state.new (lambda_case
-        (inside (M.records at.now.means.now) at.now.room) at.now.place.now at.now.level at.now.depth parts.now.form.now parts.now.ids.now
-        parts.now.forms.now state.old) }
+    ensures { GivesAfter (λ c. c) result state.new (lambda_case (inside (M.records at.now.means.now) at.now.room) at.now.site.now parts.now state.old) }
 {
     let outer = state.in_scope();
     let frame = state.fresh_frame()?;
@@ -490,14 +502,13 @@ fn case_in<M: Transformers, N: Ledger, L: Ledger>(
     at: &FormAt<M>,
     counts: &mut Counts<N, L>,
 ) -> Result<Lambda, Stop>
-    ensures { GivesAfter (λ c. c) result state.new (case_in
-        (inside (M.records at.now.means.now) at.now.room) at.now.place.now at.now.level at.now.depth parts.now.form.now parts.now.ids.now
-        parts.now.forms.now frame.now state.old) }
+    ensures { GivesAfter (λ c. c) result state.new (case_in (inside (M.records at.now.means.now) at.now.room) at.now.site.now parts.now frame.now state.old) }
 {
+    let site = at.site;
     let binders = BinderContext {
         frame,
-        place: at.place,
-        level: at.level,
+        place: site.place,
+        level: site.level,
     };
     let formals = state.bind_formals(&binders, parts.ids)?;
     let whole = BodyForm {
@@ -518,8 +529,7 @@ fn body_under<M: Transformers, N: Ledger, L: Ledger>(
     counts: &mut Counts<N, L>,
 ) -> Result<Core, Stop>
     ensures { GivesAfter (λ c. c) result state.new (body
-        (inside (M.records at.now.means.now) at.now.room) at.now.place.now at.now.level at.now.depth whole.now.form.now
-        (map (stamp frame.now) whole.now.forms.now) state.old) }
+        (inside (M.records at.now.means.now) at.now.room) at.now.site.now whole.now.form.now (map (stamp frame.now) whole.now.forms.now) state.old) }
 {
     let forms = stamp_all(state.alloc(), frame, whole.forms, counts.nodes)?;
     let stamped = BodyForm {
@@ -539,11 +549,11 @@ pub fn procedure<M: Transformers, N: Ledger, L: Ledger>(
     at: &FormAt<M>,
     counts: &mut Counts<N, L>,
 ) -> Result<Lambda, Stop>
-    ensures { GivesAfter (λ c. c) result state.new ((inside (M.records at.now.means.now) at.now.room).procedure at.now.place.now
-        at.now.level at.now.depth parts.now.form.now parts.now.ids.now parts.now.forms.now state.old) }
+    ensures { GivesAfter (λ c. c) result state.new ((inside (M.records at.now.means.now) at.now.room).procedure at.now.site.now parts.now state.old) }
 {
+    let site = at.site;
     if at.room == 0 {
-        return Err(state.fault_form(FaultKind::TooDeep, parts.form, at.place));
+        return Err(state.fault_form(FaultKind::TooDeep, parts.form, site.place));
     }
     let inner = FormAt {
         room: at.room - 1,
@@ -560,9 +570,7 @@ fn letrec_form<M: Transformers, N: Ledger, L: Ledger>(
     at: &FormAt<M>,
     counts: &mut Counts<N, L>,
 ) -> Result<Core, Stop>
-    ensures { GivesAfter (λ c. c) result state.new (letrec_form
-        (inside (M.records at.now.means.now) at.now.room) at.now.place.now at.now.level at.now.depth parts.now.form.now parts.now.star
-        parts.now.specs.now parts.now.forms.now state.old) }
+    ensures { GivesAfter (λ c. c) result state.new (letrec_form (inside (M.records at.now.means.now) at.now.room) at.now.site.now parts.now state.old) }
 {
     let outer = state.in_scope();
     let frame = state.fresh_frame()?;
@@ -580,14 +588,13 @@ fn letrec_in<M: Transformers, N: Ledger, L: Ledger>(
     at: &FormAt<M>,
     counts: &mut Counts<N, L>,
 ) -> Result<Core, Stop>
-    ensures { GivesAfter (λ c. c) result state.new (letrec_in
-        (inside (M.records at.now.means.now) at.now.room) at.now.place.now at.now.level at.now.depth parts.now.form.now parts.now.star
-        parts.now.specs.now parts.now.forms.now frame.now state.old) }
+    ensures { GivesAfter (λ c. c) result state.new (letrec_in (inside (M.records at.now.means.now) at.now.room) at.now.site.now parts.now frame.now state.old) }
 {
+    let site = at.site;
     let binders = BinderContext {
         frame,
-        place: at.place,
-        level: at.level,
+        place: site.place,
+        level: site.level,
     };
     let bound = state.bind_specs(&binders, parts.specs)?;
     let inits = all_inits(state, frame, bound.as_slice(), at, counts)?;
@@ -609,7 +616,7 @@ fn all_inits<M: Transformers, N: Ledger, L: Ledger>(
     counts: &mut Counts<N, L>,
 ) -> Result<Vec<Init>, Stop>
     ensures { GivesAfter (λ c. c.items) result state.new
-        (all_inits (inside (M.records at.now.means.now) at.now.room) at.now.place.now at.now.level at.now.depth frame.now bound.now state.old) }
+        (all_inits (inside (M.records at.now.means.now) at.now.room) at.now.site.now frame.now bound.now state.old) }
 {
     let mut done = with_room(state.alloc(), bound.len());
     for one in bound {
@@ -628,8 +635,7 @@ fn one_init<M: Transformers, N: Ledger, L: Ledger>(
     at: &FormAt<M>,
     counts: &mut Counts<N, L>,
 ) -> Result<Init, Stop>
-    ensures { GivesAfter (λ i. i) result state.new (one_init
-        (inside (M.records at.now.means.now) at.now.room) at.now.place.now at.now.level at.now.depth frame.now bound.now state.old) }
+    ensures { GivesAfter (λ i. i) result state.new (one_init (inside (M.records at.now.means.now) at.now.room) at.now.site.now frame.now bound.now state.old) }
 {
     let label = bound.label.share()?;
     let value = expression_in(state, frame, &bound.init, at, counts)?;

@@ -8,6 +8,7 @@ ghost use Rattle.expand_forms.specs.Keywords.{expand_transformer, seen_in, expan
 
 use crate::at::{FormAt, ItemAt};
 use crate::expression::{expression, in_sequence, stamp_all};
+use crate::site::{Site, site_in};
 use crate::transformers::Transformers;
 use base_data::fault::Stop;
 use base_data::items::Items;
@@ -24,6 +25,7 @@ use expand_standing::expansion::Expansion;
 use expand_standing::means::Counts;
 use expand_standing::uses::KeywordAt;
 use std::alloc::Global;
+use std::marker::Model;
 use std::sync::ledger::Ledger;
 use stx_object::syn::Syn;
 
@@ -35,6 +37,16 @@ pub(crate) struct LetSyntaxForm<'a> {
     pub specs: &'a [BindingSpec],
     /// The forms in which the keywords are seen.
     pub forms: &'a [Syn],
+}
+
+impl<'a> Model for LetSyntaxForm<'a> {
+    ghost use Rattle.expand_forms.specs.Forms.{LetSyntaxForm, let_syntax_code};
+
+    ghost Value = { LetSyntaxForm };
+
+    ghost coded = { let_syntax_code };
+
+    ghost view = { λ f. record { recursive = f.recursive; specs = f.specs.now; forms = f.forms.now } };
 }
 
 /// The frame of the keywords of a `let-syntax`, or of a `letrec-syntax` where `recursive` is true.
@@ -51,6 +63,16 @@ pub(crate) struct KeywordDefinition<'a> {
     pub spec: &'a BindingSpec,
 }
 
+impl<'a> Model for KeywordDefinition<'a> {
+    ghost use Rattle.expand_forms.specs.Forms.{KeywordDefinition, definition_code};
+
+    ghost Value = { KeywordDefinition };
+
+    ghost coded = { definition_code };
+
+    ghost view = { λ f. record { form = f.form.now; spec = f.spec.now } };
+}
+
 /// An expression with nothing in scope.
 #[cycle(form)]
 fn expression_apart<M: Transformers, N: Ledger, L: Ledger>(
@@ -59,8 +81,7 @@ fn expression_apart<M: Transformers, N: Ledger, L: Ledger>(
     at: &FormAt<M>,
     counts: &mut Counts<N, L>,
 ) -> Result<Core, Stop>
-    ensures { GivesAfter (λ c. c) result state.new (apart
-        ((inside (M.records at.now.means.now) at.now.room).form at.now.place.now at.now.level at.now.depth form.now) state.old) }
+    ensures { GivesAfter (λ c. c) result state.new (apart ((inside (M.records at.now.means.now) at.now.room).form at.now.site.now form.now) state.old) }
 {
     let scope = state.take_scope();
     match expression(state, form, at, counts) {
@@ -84,14 +105,19 @@ fn expand_transformer<M: Transformers, N: Ledger, L: Ledger>(
     at: &FormAt<M>,
     counts: &mut Counts<N, L>,
 ) -> Result<(), Stop>
-    ensures { GivesAfter (λ _. tt) result state.new (expand_transformer
-        (inside (M.records at.now.means.now) at.now.room) at.now.place.now at.now.level at.now.depth bound.now state.old) }
+    ensures { GivesAfter (λ _. tt) result state.new (expand_transformer (inside (M.records at.now.means.now) at.now.room) at.now.site.now bound.now state.old) }
 {
-    let Some(up) = at.level.checked_add(1) else {
+    let outer = at.site;
+    let Some(up) = outer.level.checked_add(1) else {
         return Err(Stop::Memory);
     };
-    let place = place_of(&bound.init, at.place)?;
-    let above = FormAt { level: up, ..*at };
+    let place = place_of(&bound.init, outer.place)?;
+    let site = Site {
+        place: outer.place,
+        level: up,
+        depth: outer.depth,
+    };
+    let above = FormAt { site: &site, ..*at };
     let core = expression_apart(state, &bound.init, &above, counts)?;
     let waiting = KeywordAt {
         label: &bound.label,
@@ -128,8 +154,7 @@ fn expand_transformer_in<M: Transformers, N: Ledger, L: Ledger>(
     counts: &mut Counts<N, L>,
 ) -> Result<(), Stop>
     ensures { GivesAfter (λ _. tt) result state.new (expand_transformer_in
-        (inside (M.records at.now.means.now) at.now.room) at.now.place.now at.now.level at.now.depth scope.now.recursive
-        scope.now.frame.now tt bound.now state.old) }
+        (inside (M.records at.now.means.now) at.now.room) at.now.site.now scope.now.recursive scope.now.frame.now tt bound.now state.old) }
 {
     let bound = seen_in(
         state.alloc(),
@@ -150,8 +175,7 @@ fn expand_transformers<M: Transformers, N: Ledger, L: Ledger>(
     counts: &mut Counts<N, L>,
 ) -> Result<(), Stop>
     ensures { GivesAfter (λ _. tt) result state.new (expand_transformers
-        (inside (M.records at.now.means.now) at.now.room) at.now.place.now at.now.level at.now.depth scope.now.recursive
-        scope.now.frame.now bound.now state.old) }
+        (inside (M.records at.now.means.now) at.now.room) at.now.site.now scope.now.recursive scope.now.frame.now bound.now state.old) }
 {
     for one in bound {
         expand_transformer_in(state, scope, one, at, counts)?;
@@ -170,13 +194,13 @@ fn keywords<M: Transformers, N: Ledger, L: Ledger>(
     counts: &mut Counts<N, L>,
 ) -> Result<(), Stop>
     ensures { GivesAfter (λ _. tt) result state.new (keywords
-        (inside (M.records at.now.means.now) at.now.room) at.now.place.now at.now.level at.now.depth scope.now.recursive specs.now
-        scope.now.frame.now state.old) }
+        (inside (M.records at.now.means.now) at.now.room) at.now.site.now scope.now.recursive specs.now scope.now.frame.now state.old) }
 {
+    let site = at.site;
     let binders = BinderContext {
         frame: scope.frame,
-        place: at.place,
-        level: at.level,
+        place: site.place,
+        level: site.level,
     };
     let bound = state.bind_keywords(&binders, specs)?;
     expand_transformers(state, scope, bound.as_slice(), at, counts)
@@ -190,9 +214,7 @@ pub(crate) fn with_keywords<M: Transformers, N: Ledger, L: Ledger>(
     at: &FormAt<M>,
     counts: &mut Counts<N, L>,
 ) -> Result<Items<Syn>, Stop>
-    ensures { GivesAfter (λ ts. ts) result state.new (with_keywords
-        (inside (M.records at.now.means.now) at.now.room) at.now.place.now at.now.level at.now.depth parts.now.recursive
-        parts.now.specs.now parts.now.forms.now state.old) }
+    ensures { GivesAfter (λ ts. ts) result state.new (with_keywords (inside (M.records at.now.means.now) at.now.room) at.now.site.now parts.now state.old) }
 {
     let frame = state.fresh_frame()?;
     let scope = KeywordFrame {
@@ -212,9 +234,7 @@ pub(crate) fn keywords_form<M: Transformers, N: Ledger, L: Ledger>(
     at: &FormAt<M>,
     counts: &mut Counts<N, L>,
 ) -> Result<Core, Stop>
-    ensures { GivesAfter (λ c. c) result state.new (keywords_form
-        (inside (M.records at.now.means.now) at.now.room) at.now.place.now at.now.level at.now.depth parts.now.recursive
-        parts.now.specs.now parts.now.forms.now state.old) }
+    ensures { GivesAfter (λ c. c) result state.new (keywords_form (inside (M.records at.now.means.now) at.now.room) at.now.site.now parts.now state.old) }
 {
     let forms = with_keywords(state, parts, at, counts)?;
     in_sequence(state, forms.as_slice(), at, counts)
@@ -231,14 +251,12 @@ pub(crate) fn define_syntax<M: Transformers, N: Ledger, L: Ledger>(
     counts: &mut Counts<N, L>,
 ) -> Result<(), Stop>
     ensures { GivesAfter (λ _. tt) result state.new (define_syntax
-        (inside (M.records at.now.means.now) at.now.room) at.now.body.now at.now.depth taken.now definition.now.form.now
-        definition.now.spec.now state.old) }
+        (inside (M.records at.now.means.now) at.now.room) at.now.body.now at.now.depth taken.now definition.now state.old) }
 {
     let bound = define_keyword(state, at.body, taken, definition.form, definition.spec)?;
+    let site = site_in(at.body, at.depth);
     let keyword_at = FormAt {
-        place: &at.body.place,
-        level: at.body.level,
-        depth: at.depth,
+        site: &site,
         room: at.room,
         means: at.means,
     };

@@ -15,8 +15,8 @@
 //! Here stand the core forms, and uses of keywords: those that programs and libraries define, and the forms of
 //! records.
 //!
-//! A form is expanded at a *place*, a *level* and a *depth*, with some *room* and some *means*: `at` says what
-//! each is. Callers have an `expander`. `top` expands the body of a library or program, in the two passes of
+//! A form is expanded at a *site*, which has a place, a level and a depth, with some *room* and some *means*: `site` and
+//! `at` say what each is. Callers have an `expander`. `top` expands the body of a library or program, in the two passes of
 //! `body`. `expand_uses` puts what comes of a use of a keyword in its place, until a form is no use. `expression`
 //! has the core forms, but for those of `patterns` (`syntax-case`), `quasi` (`quasiquote`, `quasisyntax`) and
 //! `keywords` (`let-syntax`, `letrec-syntax`).
@@ -33,6 +33,7 @@ pub mod keywords;
 pub mod links;
 pub mod patterns;
 pub mod quasi;
+pub mod site;
 pub mod tally;
 pub mod top;
 pub mod transformers;

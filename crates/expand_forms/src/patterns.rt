@@ -19,6 +19,7 @@ use eval_pattern::compile::Compiled;
 use expand_standing::binders::BinderContext;
 use expand_standing::expansion::Expansion;
 use expand_standing::means::Counts;
+use std::marker::Model;
 use std::sync::ledger::Ledger;
 use stx_object::syn::Syn;
 
@@ -32,6 +33,16 @@ pub(crate) struct SyntaxCaseForm<'a> {
     pub cases: &'a [PatternCase],
     /// Where the whole form stands. Its core code keeps it.
     pub span: &'a Span,
+}
+
+impl<'a> Model for SyntaxCaseForm<'a> {
+    ghost use Rattle.expand_forms.specs.Forms.{SyntaxCaseForm, syntax_case_code};
+
+    ghost Value = { SyntaxCaseForm };
+
+    ghost coded = { syntax_case_code };
+
+    ghost view = { λ f. record { subject = f.subject.now; literals = f.literals.now; cases = f.cases.now; span = f.span.now } };
 }
 
 /// A clause, and the frame of the variables of its pattern.
@@ -49,8 +60,7 @@ fn fender<M: Transformers, N: Ledger, L: Ledger>(
     at: &FormAt<M>,
     counts: &mut Counts<N, L>,
 ) -> Result<Option<Core>, Stop>
-    ensures { GivesAfter (λ c. c) result state.new (fender
-        (inside (M.records at.now.means.now) at.now.room) at.now.place.now at.now.level at.now.depth frame.now form.now state.old) }
+    ensures { GivesAfter (λ c. c) result state.new (fender (inside (M.records at.now.means.now) at.now.room) at.now.site.now frame.now form.now state.old) }
 {
     match form {
         None => Ok(None),
@@ -72,7 +82,7 @@ fn pattern_clause<M: Transformers, N: Ledger, L: Ledger>(
     counts: &mut Counts<N, L>,
 ) -> Result<Clause, Stop>
     ensures { GivesAfter (λ c. c) result state.new (pattern_clause
-        (inside (M.records at.now.means.now) at.now.room) at.now.place.now at.now.level at.now.depth literals.now case.now state.old) }
+        (inside (M.records at.now.means.now) at.now.room) at.now.site.now literals.now case.now state.old) }
 {
     let outer = state.in_scope();
     let frame = state.fresh_frame()?;
@@ -95,14 +105,18 @@ fn clause_in<M: Transformers, N: Ledger, L: Ledger>(
     counts: &mut Counts<N, L>,
 ) -> Result<Clause, Stop>
     ensures { GivesAfter (λ c. c) result state.new (clause_in
-        (inside (M.records at.now.means.now) at.now.room) at.now.place.now at.now.level at.now.depth literals.now framed.now.case.now
-        framed.now.frame.now state.old) }
+        (inside (M.records at.now.means.now) at.now.room) at.now.site.now literals.now framed.now.case.now framed.now.frame.now state.old) }
 {
-    let Compiled { pattern, variables } = state.pattern(&framed.case.pattern, literals, at.place)?;
+    let site = at.site;
+    let Compiled { pattern, variables } = state.pattern(
+        &framed.case.pattern,
+        literals,
+        site.place,
+    )?;
     let binders = BinderContext {
         frame: framed.frame,
-        place: at.place,
-        level: at.level,
+        place: site.place,
+        level: site.level,
     };
     match state.bind_pattern(&binders, variables.as_slice()) {
         Ok(()) => {
@@ -126,10 +140,9 @@ fn clause_of<M: Transformers, N: Ledger, L: Ledger>(
     counts: &mut Counts<N, L>,
 ) -> Result<Clause, Stop>
     ensures { GivesAfter (λ c. c) result state.new (after
-        (fender (inside (M.records at.now.means.now) at.now.room) at.now.place.now at.now.level at.now.depth framed.now.frame.now
-        framed.now.case.now.fender state.old) (λ f s. after ((inside (M.records at.now.means.now) at.now.room).form at.now.place.now
-        at.now.level at.now.depth (stamp framed.now.frame.now framed.now.case.now.output) s)
-        (λ o. give (record { pattern = pattern; fender = f; output = o })))) }
+        (fender (inside (M.records at.now.means.now) at.now.room) at.now.site.now framed.now.frame.now framed.now.case.now.fender
+        state.old) (λ f s. after ((inside (M.records at.now.means.now) at.now.room).form at.now.site.now
+        (stamp framed.now.frame.now framed.now.case.now.output) s) (λ o. give (record { pattern = pattern; fender = f; output = o })))) }
 {
     match fender(state, framed.frame, &framed.case.fender, at, counts) {
         Ok(fender) => match expression_in(state, framed.frame, &framed.case.output, at, counts) {
@@ -160,7 +173,7 @@ fn all_clauses<M: Transformers, N: Ledger, L: Ledger>(
     counts: &mut Counts<N, L>,
 ) -> Result<Vec<Clause>, Stop>
     ensures { GivesAfter (λ c. c.items) result state.new
-        (all_clauses (inside (M.records at.now.means.now) at.now.room) at.now.place.now at.now.level at.now.depth literals.now cases.now state.old) }
+        (all_clauses (inside (M.records at.now.means.now) at.now.room) at.now.site.now literals.now cases.now state.old) }
 {
     let mut done = Vec::new(state.alloc());
     for case in cases {
@@ -179,12 +192,11 @@ pub(crate) fn syntax_case<M: Transformers, N: Ledger, L: Ledger>(
     at: &FormAt<M>,
     counts: &mut Counts<N, L>,
 ) -> Result<Core, Stop>
-    ensures { GivesAfter (λ c. c) result state.new (syntax_case
-        (inside (M.records at.now.means.now) at.now.room) at.now.place.now at.now.level at.now.depth parts.now.subject.now
-        parts.now.literals.now parts.now.cases.now parts.now.span.now state.old) }
+    ensures { GivesAfter (λ c. c) result state.new (syntax_case (inside (M.records at.now.means.now) at.now.room) at.now.site.now parts.now state.old) }
 {
+    let site = at.site;
     let subject = boxed(state, parts.subject, at, counts)?;
-    state.check_literals(parts.literals, at.place)?;
+    state.check_literals(parts.literals, site.place)?;
     let clauses = all_clauses(state, parts.literals, parts.cases, at, counts)?;
     Ok(matching_of(subject, clauses, parts.span)?)
 }

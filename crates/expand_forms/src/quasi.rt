@@ -8,6 +8,7 @@ ghost use Rattle.expand_forms.specs.Quasi.{parts_in_order, quasi_made, quasi_for
 
 use crate::at::FormAt;
 use crate::expression::expression;
+use crate::site::Site;
 use crate::transformers::Transformers;
 use base_data::fault::Stop;
 use core_language::code::Core;
@@ -17,6 +18,7 @@ use expand_quasi::form::{QuasiForm, code_of, form_of, parts_of};
 use expand_quasi::parts::PartForm;
 use expand_standing::expansion::Expansion;
 use expand_standing::means::Counts;
+use std::marker::Model;
 use std::sync::ledger::Ledger;
 use stx_object::syn::Syn;
 
@@ -30,6 +32,16 @@ pub(crate) struct TemplateForm<'a> {
     pub template: &'a Syn,
 }
 
+impl<'a> Model for TemplateForm<'a> {
+    ghost use Rattle.expand_forms.specs.Forms.{TemplateForm, template_code};
+
+    ghost Value = { TemplateForm };
+
+    ghost coded = { template_code };
+
+    ghost view = { λ f. record { form = f.form.now; which = f.which; template = f.template.now } };
+}
+
 /// The parts in order, each at its own depth: that of `at` is not looked at.
 #[cycle(form)]
 fn parts_in_order<M: Transformers, N: Ledger, L: Ledger>(
@@ -39,14 +51,17 @@ fn parts_in_order<M: Transformers, N: Ledger, L: Ledger>(
     counts: &mut Counts<N, L>,
 ) -> Result<Vec<Core>, Stop>
     ensures { GivesAfter (λ c. c.items) result state.new
-        (parts_in_order (inside (M.records at.now.means.now) at.now.room) at.now.place.now at.now.level parts.now state.old) }
+        (parts_in_order (inside (M.records at.now.means.now) at.now.room) at.now.site.now.place at.now.site.now.level parts.now state.old) }
 {
+    let outer = at.site;
     let mut done = Vec::new(state.alloc());
     for part in parts {
-        let inner = FormAt {
+        let site = Site {
+            place: outer.place,
+            level: outer.level,
             depth: part.depth,
-            ..*at
         };
+        let inner = FormAt { site: &site, ..*at };
         let core = expression(state, &part.form, &inner, counts)?;
         done.push(core)?;
     }
@@ -63,10 +78,11 @@ fn cores_of<M: Transformers, N: Ledger, L: Ledger>(
     counts: &mut Counts<N, L>,
 ) -> Result<Vec<Core>, Stop>
     ensures { GivesAfter (λ c. c.items) result state.new
-        (parts_in_order (inside (M.records at.now.means.now) at.now.room) at.now.place.now at.now.level
-        (parts_of form.now at.now.depth quasi.now) state.old) }
+        (parts_in_order (inside (M.records at.now.means.now) at.now.room) at.now.site.now.place at.now.site.now.level
+        (parts_of form.now at.now.site.now.depth quasi.now) state.old) }
 {
-    let parts = parts_of(state.alloc(), form, quasi, at.depth)?;
+    let site = at.site;
+    let parts = parts_of(state.alloc(), form, quasi, site.depth)?;
     parts_in_order(state, parts.as_slice(), at, counts)
 }
 
@@ -79,14 +95,14 @@ fn quasi_made<M: Transformers, N: Ledger, L: Ledger>(
     at: &FormAt<M>,
     counts: &mut Counts<N, L>,
 ) -> Result<Core, Stop>
-    ensures { GivesAfter (λ c. c) result state.new (quasi_made
-        (inside (M.records at.now.means.now) at.now.room) at.now.place.now at.now.level at.now.depth form.now quasi.now state.old) }
+    ensures { GivesAfter (λ c. c) result state.new (quasi_made (inside (M.records at.now.means.now) at.now.room) at.now.site.now form.now quasi.now state.old) }
 {
+    let site = at.site;
     let cores = cores_of(state, form, quasi, at, counts)?;
     let context = FormContext {
         form,
-        place: at.place,
-        level: at.level,
+        place: site.place,
+        level: site.level,
     };
     code_of(state, &context, quasi, cores, counts.nodes)
 }
@@ -100,11 +116,10 @@ pub(crate) fn quasi_form<M: Transformers, N: Ledger, L: Ledger>(
     at: &FormAt<M>,
     counts: &mut Counts<N, L>,
 ) -> Result<Core, Stop>
-    ensures { GivesAfter (λ c. c) result state.new (quasi_form
-        (inside (M.records at.now.means.now) at.now.room) at.now.place.now at.now.level at.now.depth parts.now.form.now parts.now.which
-        parts.now.template.now state.old) }
+    ensures { GivesAfter (λ c. c) result state.new (quasi_form (inside (M.records at.now.means.now) at.now.room) at.now.site.now parts.now state.old) }
 {
-    let quasi = form_of(state, parts.form, parts.which, parts.template, at.place)?;
+    let site = at.site;
+    let quasi = form_of(state, parts.form, parts.which, parts.template, site.place)?;
     let core = quasi_made(state, parts.form, &quasi, at, counts);
     drop(quasi);
     core

@@ -12,6 +12,7 @@ use crate::at::{FormAt, ItemAt};
 use crate::body::{begun, finish_one, item};
 use crate::expression::{stamp_all, with_room};
 use crate::inside::ROOM;
+use crate::site::Site;
 use base_data::fault::{FaultKind, Stop};
 use base_data::items::Items;
 use base_data::library::LibName;
@@ -205,7 +206,7 @@ fn finish_next<N: Ledger, L: Ledger>(
     at: &FormAt<Means>,
     counts: &mut Counts<N, L>,
 ) -> Result<Line, Stop>
-    ensures { GivesAfter (λ l. l) result state.new (finish_one (inside (earlier_in at.now.means.now.earlier) at.now.room) at.now.level one state.old) }
+    ensures { GivesAfter (λ l. l) result state.new (finish_one (inside (earlier_in at.now.means.now.earlier) at.now.room) at.now.site.now.level one state.old) }
 {
     finish_one(state, &one, at, counts)
 }
@@ -220,7 +221,7 @@ fn finish_each<N: Ledger, L: Ledger>(
     counts: &mut Counts<N, L>,
 ) -> Result<Vec<Line>, Stop>
     ensures { GivesAfter (λ v. v.items) result state.new
-        (finish_all (inside (earlier_in at.now.means.now.earlier) at.now.room) at.now.level waiting state.old) }
+        (finish_all (inside (earlier_in at.now.means.now.earlier) at.now.room) at.now.site.now.level waiting state.old) }
 {
     let waiting = waiting.into_vec();
     let mut lines = with_room(state.alloc(), waiting.len());
@@ -250,10 +251,13 @@ fn second_pass<N: Ledger, L: Ledger>(
     let exports = exports(state, &at, list, counts.nodes)?;
     let Taken { waiting, kept, .. } = taken;
     drop(kept);
-    let second = FormAt {
+    let site = Site {
         place: &at.place,
         level: 0,
         depth: 0,
+    };
+    let second = FormAt {
+        site: &site,
         room: ROOM,
         means,
     };

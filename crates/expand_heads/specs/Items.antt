@@ -24,7 +24,8 @@ use Rattle.expand_standing.specs.declared.standing.Standing.{Standing}
 use Rattle.expand_standing.specs.declared.standing.Standing.TheVariants as standing
 use Rattle.expand_standing.specs.declared.standing.Role.{Role}
 use Rattle.expand_standing.specs.declared.standing.Role.TheVariants as role
-use Rattle.expand_heads.specs.declared.item.Item.{Item}
+use Rattle.expand_heads.specs.declared.item.HeadItem.{HeadItem}
+use Rattle.expand_heads.specs.declared.item.HeadItem.TheVariants as head_items
 use Rattle.expand_heads.specs.declared.item.Item.TheVariants as items
 use Rattle.expand_heads.specs.declared.plan.KeywordUse.TheVariants as keyword_use
 use Rattle.expand_heads.specs.declared.taken.BodyAt.{BodyAt}
@@ -122,16 +123,16 @@ define_item at depth done t (shapes.DefineProcedure id ids forms) s
     = after (define at done t id s) (λ d. give (with_waiting at depth d.0 (waits.Procedure d.1 t ids forms)))
 define_item at depth done t x s = fault_form kind.BadForm t at.place s
 
--- What comes of a form: what was taken with it, and what else is to be done with it.
+-- What comes of a form: what was taken with it, and what its head asks for.
 abbrev pub Taking : Type 0
-Taking = Does (Taken × Item)
+Taking = Does (Taken × HeadItem)
 
 abbrev pub alone : Does Taken → Taking
-alone m s = after (m s) (λ done. give (done, items.Nothing))
+alone m s = after (m s) (λ done. give (done, head_items.Item items.Nothing))
 
 -- the target of an assignment is kept, too; an assignment to a keyword may be a use of it
 abbrev pub target_item : BodyAt → ℕ → Taken → Tree → Standing → Taking
-target_item at depth done t (standing.Keyword l) = give (done, items.SetUse l)
+target_item at depth done t (standing.Keyword l) = give (done, head_items.SetUse l)
 target_item at depth done t x = alone (wait at depth done t)
 
 abbrev pub set_item : BodyAt → ℕ → Taken → Tree → Result Shape Fault → Taking
@@ -140,12 +141,12 @@ set_item at depth done t (Ok x) s = alone (wait at depth done t) s
 set_item at depth done t (Err e) s = alone (wait at depth done t) s
 
 unfoldable pub begin_item : BodyAt → Taken → Tree → Shape → Taking
-begin_item at done t (shapes.Begin forms) s = Ok ((done, items.Forms forms), s)
+begin_item at done t (shapes.Begin forms) s = Ok ((done, head_items.Item (items.Forms forms)), s)
 begin_item at done t x s = fault_form kind.BadForm t at.place s
 
 unfoldable pub keywords_item : BodyAt → Taken → Tree → CoreForm → Shape → Taking
-keywords_item at done t f (shapes.DefineSyntax id value) s = Ok ((done, items.Keyword (record { id = id; init = value })), s)
-keywords_item at done t f (shapes.LetSyntax bs forms) s = Ok ((done, items.Keywords (is_letrec_syntax f) bs forms), s)
+keywords_item at done t f (shapes.DefineSyntax id value) s = Ok ((done, head_items.Item (items.Keyword (record { id = id; init = value }))), s)
+keywords_item at done t f (shapes.LetSyntax bs forms) s = Ok ((done, head_items.Item (items.Keywords (is_letrec_syntax f) bs forms)), s)
 keywords_item at done t f x s = fault_form kind.BadForm t at.place s
 
 abbrev pub with_shape : Result Shape Fault → (Shape → Taking) → Taking
@@ -158,8 +159,8 @@ item_by at depth done t f role.Assignment = set_item at depth done t (shape f t 
 item_by at depth done t f role.Sequence = with_shape (shape f t at.place) (begin_item at done t)
 item_by at depth done t f role.Definition = with_shape (shape f t at.place) (λ x. alone (define_item at depth done t x))
 item_by at depth done t f role.Keywords = with_shape (shape f t at.place) (keywords_item at done t f)
-item_by at depth done t f role.Record = give (done, items.Use (keyword_use.Record f))
-item_by at depth done t f role.RecordValue = give (done, items.Use (keyword_use.Record f))
+item_by at depth done t f role.Record = give (done, head_items.Use (keyword_use.Record f))
+item_by at depth done t f role.RecordValue = give (done, head_items.Use (keyword_use.Record f))
 item_by at depth done t f role.Auxiliary = alone (wait at depth done t)
 
 unfoldable pub core_item : BodyAt → ℕ → Taken → Tree → CoreForm → Taking
@@ -171,7 +172,7 @@ headed_item at depth done t (standing.Variable v) = alone (wait at depth done t)
 headed_item at depth done t standing.PatternVariable = alone (wait at depth done t)
 headed_item at depth done t (standing.Primitive op) = alone (wait at depth done t)
 headed_item at depth done t (standing.Core f) = core_item at depth done t f
-headed_item at depth done t (standing.Keyword l) = give (done, items.Use (keyword_use.Macro l))
+headed_item at depth done t (standing.Keyword l) = give (done, head_items.Use (keyword_use.Macro l))
 
 unfoldable pub list_item : BodyAt → ℕ → Taken → Tree → Tree → Taking
 list_item at depth done t head s =
@@ -184,7 +185,7 @@ leaf_by at depth done t (standing.Variable v) = alone (wait at depth done t)
 leaf_by at depth done t standing.PatternVariable = alone (wait at depth done t)
 leaf_by at depth done t (standing.Primitive op) = alone (wait at depth done t)
 leaf_by at depth done t (standing.Core f) = alone (wait at depth done t)
-leaf_by at depth done t (standing.Keyword l) = give (done, items.Use (keyword_use.Macro l))
+leaf_by at depth done t (standing.Keyword l) = give (done, head_items.Use (keyword_use.Macro l))
 
 unfoldable pub leaf_item : BodyAt → ℕ → Taken → Tree → Taking
 leaf_item at depth done t s = after (keep done t s) (λ kept s'. leaf_by at depth kept t (standing_of s' t) s')

@@ -7,7 +7,7 @@ ghost use Rattle.expand_heads.specs.Kept.{heads_of};
 ghost use Rattle.expand_standing.specs.Standing.{standing_by};
 ghost use Rattle.expand_heads.specs.Items.{wait, kept_standing, leaf_item, leaf_by, in_time, keyword_in_time, define, define_keyword, with_waiting, define_item, set_item, target_item, alone, item_plan, list_item, headed_item, core_item, begin_item, keywords_item, is_mixed, is_top, is_changed, any_changed, same_standing, is_keyword_label};
 
-use crate::item::Item;
+use crate::item::{HeadItem, Item};
 use crate::kept::KeptHeads;
 use crate::plan::{KeywordUse, is_letrec_syntax};
 use crate::taken::{BodyAt, BodyKind, KeptHead, Taken, Waiting, Waits};
@@ -315,11 +315,11 @@ fn alone<L: Ledger>(
     state: &mut Expansion<L>,
     context: &ItemContext,
     taken: &mut Taken,
-) -> Result<Item, Stop>
+) -> Result<HeadItem, Stop>
     ensures { GivesAfter (λ i. (taken.new, i)) result state.new (alone (wait context.now.at.now context.now.depth taken.old context.now.form.now) state.old) }
 {
     wait(state, context.at, context.depth, taken, context.form)?;
-    Ok(Item::Nothing)
+    Ok(HeadItem::Item(Item::Nothing))
 }
 
 fn target_item<L: Ledger>(
@@ -327,12 +327,12 @@ fn target_item<L: Ledger>(
     context: &ItemContext,
     taken: &mut Taken,
     standing: &Standing,
-) -> Result<Item, Stop>
+) -> Result<HeadItem, Stop>
     ensures { GivesAfter (λ i. (taken.new, i)) result state.new
         (target_item context.now.at.now context.now.depth taken.old context.now.form.now standing.now state.old) }
 {
     match standing {
-        Standing::Keyword(label) => Ok(Item::SetUse(label.share()?)),
+        Standing::Keyword(label) => Ok(HeadItem::SetUse(label.share()?)),
         _ => alone(state, context, taken),
     }
 }
@@ -343,7 +343,7 @@ fn set_item<L: Ledger>(
     context: &ItemContext,
     taken: &mut Taken,
     which: CoreForm,
-) -> Result<Item, Stop>
+) -> Result<HeadItem, Stop>
     ensures { GivesAfter (λ i. (taken.new, i)) result state.new
         (set_item context.now.at.now context.now.depth taken.old context.now.form.now
         (shape which context.now.form.now context.now.at.now.place) state.old) }
@@ -365,11 +365,11 @@ fn begin_item<L: Ledger>(
     context: &ItemContext,
     taken: &Taken,
     shape: Shape,
-) -> Result<Item, Stop>
+) -> Result<HeadItem, Stop>
     ensures { GivesAfter (λ i. (taken.now, i)) result state.new (begin_item context.now.at.now taken.now context.now.form.now shape state.old) }
 {
     match shape {
-        Shape::Begin(forms) => Ok(Item::Forms(forms)),
+        Shape::Begin(forms) => Ok(HeadItem::Item(Item::Forms(forms))),
         _ => Err(state.fault_form(FaultKind::BadForm, context.form, &context.at.place)),
     }
 }
@@ -381,12 +381,19 @@ fn keywords_item<L: Ledger>(
     taken: &Taken,
     which: CoreForm,
     shape: Shape,
-) -> Result<Item, Stop>
+) -> Result<HeadItem, Stop>
     ensures { GivesAfter (λ i. (taken.now, i)) result state.new (keywords_item context.now.at.now taken.now context.now.form.now which shape state.old) }
 {
     match shape {
-        Shape::DefineSyntax(id, init) => Ok(Item::Keyword(BindingSpec { id, init })),
-        Shape::LetSyntax(specs, forms) => Ok(Item::Keywords(is_letrec_syntax(which), specs, forms)),
+        Shape::DefineSyntax(id, init) => Ok(HeadItem::Item(Item::Keyword(BindingSpec {
+            id,
+            init,
+        }))),
+        Shape::LetSyntax(specs, forms) => Ok(HeadItem::Item(Item::Keywords(
+            is_letrec_syntax(which),
+            specs,
+            forms,
+        ))),
         _ => Err(state.fault_form(FaultKind::BadForm, context.form, &context.at.place)),
     }
 }
@@ -397,7 +404,7 @@ fn core_item<L: Ledger>(
     context: &ItemContext,
     taken: &mut Taken,
     which: CoreForm,
-) -> Result<Item, Stop>
+) -> Result<HeadItem, Stop>
     ensures { GivesAfter (λ i. (taken.new, i)) result state.new
         (core_item context.now.at.now context.now.depth taken.old context.now.form.now which state.old) }
 {
@@ -411,14 +418,14 @@ fn core_item<L: Ledger>(
         Role::Definition => {
             let shape = shape(state.alloc(), context.form, which, &context.at.place)?;
             define_item(state, context, taken, shape)?;
-            Ok(Item::Nothing)
+            Ok(HeadItem::Item(Item::Nothing))
         }
         Role::Keywords => {
             let shape = shape(state.alloc(), context.form, which, &context.at.place)?;
             keywords_item(state, context, taken, which, shape)
         }
-        Role::Record => Ok(Item::Use(KeywordUse::Record(which))),
-        Role::RecordValue => Ok(Item::Use(KeywordUse::Record(which))),
+        Role::Record => Ok(HeadItem::Use(KeywordUse::Record(which))),
+        Role::RecordValue => Ok(HeadItem::Use(KeywordUse::Record(which))),
         Role::Auxiliary => alone(state, context, taken),
     }
 }
@@ -428,7 +435,7 @@ fn headed_item<L: Ledger>(
     context: &ItemContext,
     taken: &mut Taken,
     standing: &Standing,
-) -> Result<Item, Stop>
+) -> Result<HeadItem, Stop>
     ensures { GivesAfter (λ i. (taken.new, i)) result state.new
         (headed_item context.now.at.now context.now.depth taken.old context.now.form.now standing.now state.old) }
 {
@@ -438,7 +445,7 @@ fn headed_item<L: Ledger>(
         Standing::PatternVariable => alone(state, context, taken),
         Standing::Primitive(_) => alone(state, context, taken),
         Standing::Core(which) => core_item(state, context, taken, *which),
-        Standing::Keyword(label) => Ok(Item::Use(KeywordUse::Macro(label.share()?))),
+        Standing::Keyword(label) => Ok(HeadItem::Use(KeywordUse::Macro(label.share()?))),
     }
 }
 
@@ -448,7 +455,7 @@ fn list_item<L: Ledger>(
     context: &ItemContext,
     taken: &mut Taken,
     head: &Syn,
-) -> Result<Item, Stop>
+) -> Result<HeadItem, Stop>
     ensures { GivesAfter (λ i. (taken.new, i)) result state.new
         (list_item context.now.at.now context.now.depth taken.old context.now.form.now head.now state.old) }
 {
@@ -464,7 +471,7 @@ fn leaf_by<L: Ledger>(
     context: &ItemContext,
     taken: &mut Taken,
     standing: &Standing,
-) -> Result<Item, Stop>
+) -> Result<HeadItem, Stop>
     ensures { GivesAfter (λ i. (taken.new, i)) result state.new
         (leaf_by context.now.at.now context.now.depth taken.old context.now.form.now standing.now state.old) }
 {
@@ -474,7 +481,7 @@ fn leaf_by<L: Ledger>(
         Standing::PatternVariable => alone(state, context, taken),
         Standing::Primitive(_) => alone(state, context, taken),
         Standing::Core(_) => alone(state, context, taken),
-        Standing::Keyword(label) => Ok(Item::Use(KeywordUse::Macro(label.share()?))),
+        Standing::Keyword(label) => Ok(HeadItem::Use(KeywordUse::Macro(label.share()?))),
     }
 }
 
@@ -483,7 +490,7 @@ fn leaf_item<L: Ledger>(
     state: &mut Expansion<L>,
     context: &ItemContext,
     taken: &mut Taken,
-) -> Result<Item, Stop>
+) -> Result<HeadItem, Stop>
     ensures { GivesAfter (λ i. (taken.new, i)) result state.new (leaf_item context.now.at.now context.now.depth taken.old context.now.form.now state.old) }
 {
     let standing = keep(state, taken, context.form)?;
@@ -498,7 +505,7 @@ pub fn item_plan<L: Ledger>(
     depth: u16,
     taken: &mut Taken,
     form: &Syn,
-) -> Result<Item, Stop>
+) -> Result<HeadItem, Stop>
     ensures { GivesAfter (λ i. (taken.new, i)) result state.new (item_plan at.now depth taken.old form.now state.old) }
 {
     let context = ItemContext { at, depth, form };

@@ -1,7 +1,7 @@
 //! What is to be done with a form.
 
 ghost use Rattle.std.specs.Prelude.{◌≡◌, ◌∷◌, []};
-ghost use Rattle.base_data.specs.Act.{GivesAfter, give};
+ghost use Rattle.base_data.specs.Act.{GivesAfter};
 ghost use Rattle.core_language.specs.Core.{variable, quoted};
 ghost use Rattle.core_language.specs.declared.core_form.CoreForm.TheVariants as core_forms;
 ghost use Rattle.core_shapes.specs.At.{place_of};
@@ -10,7 +10,7 @@ ghost use Rattle.core_shapes.specs.Forms.{shape};
 ghost use Rattle.core_shapes.specs.Lists.{is_nil_atom};
 ghost use Rattle.stx_tree.specs.Leaves.{strip};
 ghost use Rattle.expand_heads.specs.declared.plan.Plan.TheVariants as plans;
-ghost use Rattle.expand_heads.specs.Plan.{done, plan_of, list_plan, by_head, keyword_plan, with_shape, shape_plan, application, in_sequence, assign, is_star, is_letrec_syntax, keywords_plan, operand_plan, reference, refer, variable_at, constant, target_by, target_variable};
+ghost use Rattle.expand_heads.specs.Plan.{planned, done, plan_of, list_plan, by_head, keyword_plan, with_shape, shape_plan, application, in_sequence, assign, is_star, is_letrec_syntax, keywords_plan, operand_plan, reference, refer, variable_at, constant, target_by, target_variable};
 
 use crate::context::FormContext;
 use base_data::atom::Atom;
@@ -61,6 +61,13 @@ pub enum Plan {
     Keywords(bool, Items<BindingSpec>, Items<Syn>),
     /// `quasiquote` or `quasisyntax`: the template.
     Quasi(Family, Syn),
+}
+
+/// What the head of a form asks for.
+#[derive(Drop)]
+pub enum HeadPlan {
+    /// The form is no use of a keyword.
+    Plan(Plan),
     /// A use of a keyword: the form is to be replaced by what comes of it.
     Use(KeywordUse),
     /// An assignment to a keyword, and its target: a use if the keyword is a variable transformer.
@@ -81,13 +88,13 @@ pub(crate) fn is_letrec_syntax(form: CoreForm) -> bool
     matches!(form, CoreForm::LetrecSyntax)
 }
 
-fn done<L: Ledger>(state: &Expansion<L>, node: CoreNode) -> Result<Plan, Stop>
+fn done<L: Ledger>(state: &Expansion<L>, node: CoreNode) -> Result<HeadPlan, Stop>
     ensures { GivesAfter (λ p. p) result state.now (done (seen node) state.now) }
 {
-    Ok(Plan::Done(Core { node }))
+    Ok(HeadPlan::Plan(Plan::Done(Core { node })))
 }
 
-fn quotation<L: Ledger>(state: &Expansion<L>, datum: &Syn) -> Result<Plan, Stop>
+fn quotation<L: Ledger>(state: &Expansion<L>, datum: &Syn) -> Result<HeadPlan, Stop>
     ensures { GivesAfter (λ p. p) result state.now (done (quoted (strip datum.now)) state.now) }
 {
     let datum = datum.strip(state.alloc())?;
@@ -99,7 +106,7 @@ fn constant<L: Ledger>(
     form: &Syn,
     atom: &Atom,
     place: &Span,
-) -> Result<Plan, Stop>
+) -> Result<HeadPlan, Stop>
     ensures { GivesAfter (λ p. p) result state.now (constant place.now form.now (is_nil_atom atom.now) state.now) }
 {
     if is_nil_atom(atom) {
@@ -108,7 +115,7 @@ fn constant<L: Ledger>(
     quotation(state, form)
 }
 
-fn mention<L: Ledger>(state: &Expansion<L>, label: &Label) -> Result<Plan, Stop>
+fn mention<L: Ledger>(state: &Expansion<L>, label: &Label) -> Result<HeadPlan, Stop>
     ensures { GivesAfter (λ p. p) result state.now (done (variable label.now) state.now) }
 {
     let label = label.share()?;
@@ -122,7 +129,7 @@ fn variable_at<L: Ledger>(
     variable: &Variable,
     place: &Span,
     level: u32,
-) -> Result<Plan, Stop>
+) -> Result<HeadPlan, Stop>
     ensures { GivesAfter (λ p. p) result state.now (variable_at place.now level id.now variable.now state.now) }
 {
     if variable.own {
@@ -149,7 +156,7 @@ fn refer<L: Ledger>(
     standing: &Standing,
     place: &Span,
     level: u32,
-) -> Result<Plan, Stop>
+) -> Result<HeadPlan, Stop>
     ensures { GivesAfter (λ p. p) result state.now (refer place.now level id.now standing.now state.now) }
 {
     match standing {
@@ -158,7 +165,7 @@ fn refer<L: Ledger>(
         Standing::PatternVariable => Err(state.fault_word(FaultKind::KeywordMisuse, id, id, place)),
         Standing::Primitive(op) => done(state, CoreNode::Prim(*op)),
         Standing::Core(_) => Err(state.fault_word(FaultKind::KeywordMisuse, id, id, place)),
-        Standing::Keyword(label) => Ok(Plan::Use(KeywordUse::Macro(label.share()?))),
+        Standing::Keyword(label) => Ok(HeadPlan::Use(KeywordUse::Macro(label.share()?))),
     }
 }
 
@@ -168,7 +175,7 @@ fn reference<L: Ledger>(
     id: &Syn,
     place: &Span,
     level: u32,
-) -> Result<Plan, Stop>
+) -> Result<HeadPlan, Stop>
     ensures { GivesAfter (λ p. p) result state.new (reference place.now level id.now state.old) }
 {
     let standing = state.standing(id)?;
@@ -234,15 +241,15 @@ fn assign<L: Ledger>(
     context: &FormContext,
     id: &Syn,
     value: Syn,
-) -> Result<Plan, Stop>
+) -> Result<HeadPlan, Stop>
     ensures { GivesAfter (λ p. p) result state.new (assign context.now.place.now context.now.level context.now.form.now id.now value state.old) }
 {
     let standing = state.standing(id)?;
     if let Standing::Keyword(label) = &standing {
-        return Ok(Plan::SetUse(label.share()?, id.share()?));
+        return Ok(HeadPlan::SetUse(label.share()?, id.share()?));
     }
     let label = target_by(state, context, id, &standing)?;
-    Ok(Plan::Assignment(label, value))
+    Ok(HeadPlan::Plan(Plan::Assignment(label, value)))
 }
 
 #[tactic(auto, unfolding(crate::specs::Plan::application))]
@@ -251,11 +258,11 @@ fn application<L: Ledger>(
     context: &FormContext,
     head: &Syn,
     rest: &Syn,
-) -> Result<Plan, Stop>
+) -> Result<HeadPlan, Stop>
     ensures { GivesAfter (λ p. p) result state.now (application context.now.place.now context.now.form.now head.now rest.now state.now) }
 {
     match proper(state.alloc(), rest)? {
-        Some(operands) => Ok(Plan::Call(head.share()?, operands)),
+        Some(operands) => Ok(HeadPlan::Plan(Plan::Call(head.share()?, operands))),
         None => Err(state.fault_form(FaultKind::BadForm, context.form, context.place)),
     }
 }
@@ -265,13 +272,13 @@ fn in_sequence<L: Ledger>(
     form: &Syn,
     forms: Items<Syn>,
     place: &Span,
-) -> Result<Plan, Stop>
+) -> Result<HeadPlan, Stop>
     ensures { GivesAfter (λ p. p) result state.now (in_sequence place.now form.now forms state.now) }
 {
     if forms.as_slice().is_empty() {
         return Err(state.fault_form(FaultKind::NoExpression, form, place));
     }
-    Ok(Plan::Sequence(forms))
+    Ok(HeadPlan::Plan(Plan::Sequence(forms)))
 }
 
 fn keywords_plan<L: Ledger>(
@@ -280,13 +287,13 @@ fn keywords_plan<L: Ledger>(
     which: CoreForm,
     specs: Items<BindingSpec>,
     forms: Items<Syn>,
-) -> Result<Plan, Stop>
+) -> Result<HeadPlan, Stop>
     ensures { GivesAfter (λ p. p) result state.now (keywords_plan context.now.place.now context.now.form.now which specs forms state.now) }
 {
     if forms.as_slice().is_empty() {
         return Err(state.fault_form(FaultKind::NoExpression, context.form, context.place));
     }
-    Ok(Plan::Keywords(is_letrec_syntax(which), specs, forms))
+    Ok(HeadPlan::Plan(Plan::Keywords(is_letrec_syntax(which), specs, forms)))
 }
 
 /// The instance of a template.
@@ -294,7 +301,7 @@ fn syntax_plan<L: Ledger>(
     state: &mut Expansion<L>,
     context: &FormContext,
     operand: &Syn,
-) -> Result<Plan, Stop>
+) -> Result<HeadPlan, Stop>
     ensures { GivesAfter (λ p. p) result state.new (operand_plan context.now.place.now context.now.level context.now.form.now
         core_forms.Syntax operand.now state.old) }
 {
@@ -308,13 +315,13 @@ fn operand_plan<L: Ledger>(
     context: &FormContext,
     which: CoreForm,
     operand: &Syn,
-) -> Result<Plan, Stop>
+) -> Result<HeadPlan, Stop>
     ensures { GivesAfter (λ p. p) result state.new (operand_plan context.now.place.now context.now.level context.now.form.now which operand.now state.old) }
 {
     match which {
         CoreForm::Syntax => syntax_plan(state, context, operand),
-        CoreForm::Quasiquote => Ok(Plan::Quasi(Family::Quote, operand.share()?)),
-        CoreForm::Quasisyntax => Ok(Plan::Quasi(Family::Syntax, operand.share()?)),
+        CoreForm::Quasiquote => Ok(HeadPlan::Plan(Plan::Quasi(Family::Quote, operand.share()?))),
+        CoreForm::Quasisyntax => Ok(HeadPlan::Plan(Plan::Quasi(Family::Syntax, operand.share()?))),
         _ => Err(state.fault_form(FaultKind::BadForm, context.form, context.place)),
     }
 }
@@ -326,12 +333,12 @@ fn matching<L: Ledger>(
     subject: Syn,
     literals: Items<Syn>,
     clauses: Items<PatternCase>,
-) -> Result<Plan, Stop>
-    ensures { GivesAfter (λ p. p) result state.now (give
+) -> Result<HeadPlan, Stop>
+    ensures { GivesAfter (λ p. p) result state.now (planned
         (plans.Matching subject literals clauses (place_of context.now.form.now context.now.place.now)) state.now) }
 {
     let span = place_of(context.form, context.place)?;
-    Ok(Plan::Matching(subject, literals, clauses, span))
+    Ok(HeadPlan::Plan(Plan::Matching(subject, literals, clauses, span)))
 }
 
 #[tactic(auto, unfolding(crate::specs::Plan::shape_plan))]
@@ -340,19 +347,25 @@ fn shape_plan<L: Ledger>(
     context: &FormContext,
     which: CoreForm,
     shape: Shape,
-) -> Result<Plan, Stop>
+) -> Result<HeadPlan, Stop>
     ensures { GivesAfter (λ p. p) result state.new (shape_plan context.now.place.now context.now.level context.now.form.now which shape state.old) }
 {
     let form = context.form;
     let place = context.place;
     match shape {
         Shape::Quote(datum) => quotation(state, &datum),
-        Shape::Lambda(ids, forms) => Ok(Plan::Lambda(ids, forms)),
-        Shape::CaseLambda(cases) => Ok(Plan::CaseLambda(cases)),
-        Shape::If(test, consequent, other) => Ok(Plan::Conditional(test, consequent, other)),
+        Shape::Lambda(ids, forms) => Ok(HeadPlan::Plan(Plan::Lambda(ids, forms))),
+        Shape::CaseLambda(cases) => Ok(HeadPlan::Plan(Plan::CaseLambda(cases))),
+        Shape::If(test, consequent, other) => Ok(HeadPlan::Plan(Plan::Conditional(
+            test, consequent, other,
+        ))),
         Shape::Set(id, value) => assign(state, context, &id, value),
         Shape::Begin(forms) => in_sequence(state, form, forms, place),
-        Shape::Letrec(specs, forms) => Ok(Plan::Letrec(is_star(which), specs, forms)),
+        Shape::Letrec(specs, forms) => Ok(HeadPlan::Plan(Plan::Letrec(
+            is_star(which),
+            specs,
+            forms,
+        ))),
         Shape::Define(_, _) => Err(state.fault_form(FaultKind::DefinitionPlace, form, place)),
         Shape::DefineProcedure(_, _, _) => Err(state.fault_form(
             FaultKind::DefinitionPlace,
@@ -372,7 +385,7 @@ fn shaped_plan<L: Ledger>(
     state: &mut Expansion<L>,
     context: &FormContext,
     which: CoreForm,
-) -> Result<Plan, Stop>
+) -> Result<HeadPlan, Stop>
     ensures { GivesAfter (λ p. p) result state.new (with_shape context.now.place.now context.now.level context.now.form.now which
         (shape which context.now.form.now context.now.place.now) state.old) }
 {
@@ -386,7 +399,7 @@ fn keyword_plan<L: Ledger>(
     context: &FormContext,
     head: &Syn,
     which: CoreForm,
-) -> Result<Plan, Stop>
+) -> Result<HeadPlan, Stop>
     ensures { GivesAfter (λ p. p) result state.new (keyword_plan context.now.place.now context.now.level context.now.form.now head.now which state.old) }
 {
     let form = context.form;
@@ -398,7 +411,7 @@ fn keyword_plan<L: Ledger>(
         Role::Definition => shaped_plan(state, context, which),
         Role::Keywords => shaped_plan(state, context, which),
         Role::Record => Err(state.fault_form(FaultKind::DefinitionPlace, form, place)),
-        Role::RecordValue => Ok(Plan::Use(KeywordUse::Record(which))),
+        Role::RecordValue => Ok(HeadPlan::Use(KeywordUse::Record(which))),
         Role::Auxiliary => Err(state.fault_word(FaultKind::KeywordMisuse, head, head, place)),
     }
 }
@@ -409,7 +422,7 @@ fn by_head<L: Ledger>(
     head: &Syn,
     rest: &Syn,
     standing: &Standing,
-) -> Result<Plan, Stop>
+) -> Result<HeadPlan, Stop>
     ensures { GivesAfter (λ p. p) result state.new (by_head context.now.place.now context.now.level context.now.form.now head.now rest.now
         standing.now state.old) }
 {
@@ -419,7 +432,7 @@ fn by_head<L: Ledger>(
         Standing::PatternVariable => application(state, context, head, rest),
         Standing::Primitive(_) => application(state, context, head, rest),
         Standing::Core(which) => keyword_plan(state, context, head, *which),
-        Standing::Keyword(label) => Ok(Plan::Use(KeywordUse::Macro(label.share()?))),
+        Standing::Keyword(label) => Ok(HeadPlan::Use(KeywordUse::Macro(label.share()?))),
     }
 }
 
@@ -429,7 +442,7 @@ fn list_plan<L: Ledger>(
     context: &FormContext,
     head: &Syn,
     rest: &Syn,
-) -> Result<Plan, Stop>
+) -> Result<HeadPlan, Stop>
     ensures { GivesAfter (λ p. p) result state.new (list_plan context.now.place.now context.now.level context.now.form.now head.now rest.now state.old) }
 {
     if !is_id(state.alloc(), head)? {
@@ -446,7 +459,7 @@ pub fn plan_of<L: Ledger>(
     form: &Syn,
     place: &Span,
     level: u32,
-) -> Result<Plan, Stop>
+) -> Result<HeadPlan, Stop>
     ensures { GivesAfter (λ p. p) result state.new (plan_of place.now level form.now state.old) }
 {
     match form.open(state.alloc())? {

@@ -18,6 +18,8 @@ use Rattle.expand_standing.specs.State.{State}
 use Rattle.expand_standing.specs.Uses.{asks_variable}
 use Rattle.expand_standing.specs.declared.standing.Standing.{Standing}
 use Rattle.expand_standing.specs.declared.standing.Standing.TheVariants as standing
+use Rattle.expand_heads.specs.declared.plan.HeadPlan.{HeadPlan}
+use Rattle.expand_heads.specs.declared.plan.HeadPlan.TheVariants as head_plans
 use Rattle.expand_heads.specs.Plan.{done, reference, assign, plan_of}
 use Rattle.expand_heads.specs.declared.item.Item.{Item}
 use Rattle.expand_heads.specs.declared.plan.KeywordUse.{KeywordUse}
@@ -44,13 +46,13 @@ use Rattle.law_counts.proofs.Standing.{Keeps, keeps-after, keeps-given, noted-ke
 -- Plans.
 
 module _ (place : Span) (level : ℕ) (s : State) where
-  abbrev Still : Plan → State → Type 0
+  abbrev Still : HeadPlan → State → Type 0
   Still p u = u.uses_left ≡ s.uses_left
 
   as-many : (u : State) → u ≡ s → u.uses_left ≡ s.uses_left
   as-many u e = ap (λ (w : State). w.uses_left) e
 
-  assigned-still : (id value : Tree) (st : Standing) (p : Plan) (u : State) → AssignsBy place level s id value st p u → Still p u
+  assigned-still : (id value : Tree) (st : Standing) (p : HeadPlan) (u : State) → AssignsBy place level s id value st p u → Still p u
   assigned-still id value standing.Nothing p u k = elim k [ ]
   assigned-still id value (standing.Variable v) p u k = ap (λ (w : State). w.uses_left) k.1.0
   assigned-still id value standing.PatternVariable p u k = elim k [ ]
@@ -65,7 +67,7 @@ module _ (place : Span) (level : ℕ) (s : State) where
       (λ x operand. gave-after (IsTemplate place level operand s) Still (template_of place level operand s) (λ y. done (instance y (place_of x place))) (template-is place level operand s) (λ y u k. as-many u k.same))
       (λ p h. refl) t
 
-  kept-by : (r : Result (Plan × State) Fault) → Gave Still r → Keeps s r
+  kept-by : (r : Result (HeadPlan × State) Fault) → Gave Still r → Keeps s r
   kept-by (Ok p) h = h
   kept-by (Err e) h = tt
 
@@ -79,10 +81,10 @@ module _ (rs : List CompiledLibrary) where
   set-keeps place t l id true s = refl
   set-keeps place t l id false s = tt
 
-  step-of-keeps : (place : Span) (t : Tree) (p : Plan) (s : State) → Keeps s (step_of rs place t p s)
-  step-of-keeps place t (plans.Use k) s = refl
-  step-of-keeps place t (plans.SetUse l id) s = keeps-after s (asks_variable rs (place_of t place) l s) (set_step place t l id) (asks-variable-keeps rs (place_of t place) l s) (λ b u. set-keeps place t l id b u)
-  step-of-keeps place t _ s = refl
+  step-of-keeps : (place : Span) (t : Tree) (p : HeadPlan) (s : State) → Keeps s (step_of rs place t p s)
+  step-of-keeps place t (head_plans.Use k) s = refl
+  step-of-keeps place t (head_plans.SetUse l id) s = keeps-after s (asks_variable rs (place_of t place) l s) (set_step place t l id) (asks-variable-keeps rs (place_of t place) l s) (λ b u. set-keeps place t l id b u)
+  step-of-keeps place t (head_plans.Plan p) s = refl
 
   step-keeps : (place : Span) (level : ℕ) (t : Tree) (s : State) → Keeps s (step rs place level t s)
   unfolding step

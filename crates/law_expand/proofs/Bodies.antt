@@ -25,6 +25,8 @@ use Rattle.expand_heads.specs.declared.taken.Waits.TheVariants as waits
 use Rattle.expand_forms.specs.Body.{splice, no_value, value_of, finish_as, finish_one, finish_all, body_core, finish, lambda_at, body_in, body}
 use Rattle.expand_heads.specs.Depth.{deeper}
 use Rattle.expand_forms.specs.Inside.{Inside}
+use Rattle.expand_forms.specs.Site.{site_at}
+use Rattle.expand_forms.specs.Forms.{procedure_parts}
 use Rattle.law_expand.specs.States.{Adds, IsPattern, Later, LaterBut}
 use Rattle.law_expand.proofs.Acts.{Gave, gave-after, gave-within, gave-both, gave-if, gave-each}
 use Rattle.law_expand.proofs.Fresh.{Made}
@@ -70,7 +72,7 @@ module _ (own : LibName) (given : List Label) (go : Inside) (safe : Safe own giv
         good-one_armed own bs vs ls n n n (quoted (datum.atom None (atoms.Bool false))) (quoted (datum.atom None (atoms.Bool false)))
         (good-quoted own bs vs ls n n (datum.atom None (atoms.Bool false)) (omega arith)) (good-quoted own bs vs ls n n (datum.atom None (atoms.Bool false)) (omega arith))
 
-    gives-value : (place : Span) (depth : ℕ) (o : Option Tree) (s : State) → S s → Gave (GivesGood own vs ls s) (value_of go place level depth o s)
+    gives-value : (place : Span) (depth : ℕ) (o : Option Tree) (s : State) → S s → Gave (GivesGood own vs ls s) (value_of go (site_at place level depth) o s)
     gives-value place depth None s h = no-value-good s.bindings s.names.number
     gives-value place depth (Some t) s h = safe.form place level depth t s vs ls h.0 h.1
 
@@ -85,24 +87,24 @@ module _ (own : LibName) (given : List Label) (go : Inside) (safe : Safe own giv
     abbrev Kind : Waits → State → Line → State → Type 0
     Kind w s x t = GoodLine own t.bindings vs ls s.names.number t.names.number x × (line_kind x ≡ wait_kind w)
 
-    gives-line : (place : Span) (depth : ℕ) (w : Waits) (s : State) → S s → Gave (Kind w s) (finish_as go level place depth w s)
+    gives-line : (place : Span) (depth : ℕ) (w : Waits) (s : State) → S s → Gave (Kind w s) (finish_as go (site_at place level depth) w s)
     unfolding finish_as fresh
     gives-line place depth (waits.Variable l value) s h =
-        gave-after (GivesGood own vs ls s) (Kind (waits.Variable l value) s) (value_of go place level (deeper depth) value s) (λ c. give (line.Define l c)) (gives-value place (deeper depth) value s h) (λ c t k. (k, refl))
+        gave-after (GivesGood own vs ls s) (Kind (waits.Variable l value) s) (value_of go (site_at place level (deeper depth)) value s) (λ c. give (line.Define l c)) (gives-value place (deeper depth) value s h) (λ c t k. (k, refl))
     gives-line place depth (waits.Procedure l x ids forms) s h =
         let next = starts-later own given vs level ls s (counted s) h (counted-later own s h.0.next) in
-        gave-after (GivesCase own vs ls (counted s)) (Kind (waits.Procedure l x ids forms) s) (go.procedure place level (deeper depth) x ids forms (counted s))
+        gave-after (GivesCase own vs ls (counted s)) (Kind (waits.Procedure l x ids forms) s) (go.procedure (site_at place level (deeper depth)) (procedure_parts x ids forms) (counted s))
         (λ c. give (line.Define l (procedure (record { 0 = s.names }) (cases (c ∷ [])) true)))
         (safe.procedure place level (deeper depth) x ids forms (counted s) vs ls next.0 next.1)
         (λ c t k. (number-next s c t h.0.next k, refl))
     gives-line place depth (waits.Expression x) s h =
-        gave-after (GivesGood own vs ls s) (Kind (waits.Expression x) s) (go.form place level depth x s) (λ c. give (line.Expr c)) (safe.form place level depth x s vs ls h.0 h.1) (λ c t k. (k, refl))
+        gave-after (GivesGood own vs ls s) (Kind (waits.Expression x) s) (go.form (site_at place level depth) x s) (λ c. give (line.Expr c)) (safe.form place level depth x s vs ls h.0 h.1) (λ c t k. (k, refl))
 
     pub gives-lines : (ws : List Waiting) (s : State) → S s → Gave (GivesLines ws s) (finish_all go level ws s)
     gives-lines ws s h =
         gave-each (finish_one go level) GivesLine (λ xs t ys u. GivesLines xs t ys u) S
         (λ t k. record { later = later-self own t k.0.next; good = omega arith; kinds = refl })
-        (λ w t k. gave-both (λ x u. Later own t u) (Kind w.what t) (finish_as go level w.place w.depth w.what t) (moved-line own go safe.moves level w.place w.depth w.what t k.0.next) (gives-line w.place w.depth w.what t k))
+        (λ w t k. gave-both (λ x u. Later own t u) (Kind w.what t) (finish_as go (site_at w.place level w.depth) w.what t) (moved-line own go safe.moves level w.place w.depth w.what t k.0.next) (gives-line w.place w.depth w.what t k))
         (λ w t u x k j. starts-later own given vs level ls t u k j.0)
         (λ w xs t u v x ys k j a. record {
           later = later-then own t u v j.0 a.later;
@@ -125,10 +127,10 @@ module _ (own : LibName) (given : List Label) (go : Inside) (safe : Safe own giv
         (good-body own v.bindings vs ls (counted s).names.number u.names.number v.names.number labels xs (ap kind_labels a.kinds) k.took.up k.took.labels (subst HasValue (sym a.kinds) (k.took.value some)) a.good)))
         (λ e. tt)
 
-    pub gives-body : (forms : List Tree) (s : State) → Starts own given vs level ls s → Gave (GivesGood own vs ls s) (body go place level depth t forms s)
+    pub gives-body : (forms : List Tree) (s : State) → Starts own given vs level ls s → Gave (GivesGood own vs ls s) (body go (site_at place level depth) t forms s)
     unfolding body fresh_frame
     gives-body forms s h =
-        gave-within (GivesGood own vs ls s) (λ u. after (fresh_frame u) (body_in go place level depth t forms)) s
+        gave-within (GivesGood own vs ls s) (λ u. after (fresh_frame u) (body_in go (site_at place level depth) t forms)) s
         (gave-after (Takes own (as_frame s.names) false (counted s) (counted s)) (GivesGood own vs ls s)
         (splice go (lambda_at (as_frame s.names) place level) depth begun (map (stamp (as_frame s.names)) forms) (counted s)) (finish go place level t)
         (body-takes own go safe.moves place level depth (map (stamp (as_frame s.names)) forms) s h.0.next) (λ d u k. gives-finished d s u h k))

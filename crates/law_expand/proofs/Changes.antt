@@ -45,6 +45,8 @@ use Rattle.expand_forms.specs.Inside.{Inside}
 use Rattle.expand_forms.specs.Keywords.{expand_transformer, seen_in, expand_transformer_in, expand_transformers, keywords, with_keywords, define_syntax}
 use Rattle.expand_forms.specs.Quasi.{part_core, parts_in_order, quasi_made, quasi_form}
 use Rattle.expand_forms.specs.ExpandUses.{expand_uses, expand_item_uses}
+use Rattle.expand_forms.specs.Site.{site_at}
+use Rattle.expand_forms.specs.Forms.{definition_parts, if_parts, let_syntax_parts, letrec_parts, procedure_parts, syntax_case_parts, template_parts}
 use Rattle.law_expand.specs.InScope.{ScopeStays}
 use Rattle.law_expand.specs.States.{IsOwn, IsKept, Keeps, Adds, Later, LaterBut}
 use Rattle.law_expand.proofs.Acts.{Gave, gave-any, gave-both, gave-after, gave-within, gave-less, gave-if, gave-gather, told}
@@ -68,25 +70,25 @@ took-none own top s = record { labels = fresh-none label_name own s.names.number
 
 -- what is done inside forms changes the state so
 pub record Moves (own : LibName) (go : Inside) : Type 0 where
-  pub form : (place : Span) (level depth : ℕ) (t : Tree) (s : State) → s.names.library ≡ own → Gave (λ c u. Later own s u) (go.form place level depth t s)
-  pub procedure : (place : Span) (level depth : ℕ) (t : Tree) (ids : FormalIds) (forms : List Tree) (s : State) → s.names.library ≡ own → Gave (λ c u. Later own s u) (go.procedure place level depth t ids forms s)
+  pub form : (place : Span) (level depth : ℕ) (t : Tree) (s : State) → s.names.library ≡ own → Gave (λ c u. Later own s u) (go.form (site_at place level depth) t s)
+  pub procedure : (place : Span) (level depth : ℕ) (t : Tree) (ids : FormalIds) (forms : List Tree) (s : State) → s.names.library ≡ own → Gave (λ c u. Later own s u) (go.procedure (site_at place level depth) (procedure_parts t ids forms) s)
   pub item : (at : BodyAt) (depth : ℕ) (d : Taken) (t : Tree) (start s : State) → s.names.library ≡ own → (is_top at.kind ≡ true → at.level ≡ 0) → Took own (is_top at.kind) start d s
       → Gave (Takes own at.frame (is_top at.kind) start s) (go.item at depth d t s)
 
 module _ (own : LibName) (go : Inside) (moves : Moves own go) where
   -- Bodies.
 
-  moved-value : (place : Span) (level depth : ℕ) (o : Option Tree) (s : State) → Names own s → Gave (Moved own s) (value_of go place level depth o s)
+  moved-value : (place : Span) (level depth : ℕ) (o : Option Tree) (s : State) → Names own s → Gave (Moved own s) (value_of go (site_at place level depth) o s)
   moved-value place level depth None s n = later-self own s n
   moved-value place level depth (Some t) s n = moves.form place level depth t s n
 
-  pub moved-line : (level : ℕ) (place : Span) (depth : ℕ) (w : Waits) (s : State) → Names own s → Gave (Moved own s) (finish_as go level place depth w s)
+  pub moved-line : (level : ℕ) (place : Span) (depth : ℕ) (w : Waits) (s : State) → Names own s → Gave (Moved own s) (finish_as go (site_at place level depth) w s)
   unfolding finish_as fresh
-  moved-line level place depth (waits.Variable l value) s n = moved-after own s (value_of go place level (deeper depth) value s) _ (moved-value place level (deeper depth) value s n) (λ c t m. later-self own t m)
+  moved-line level place depth (waits.Variable l value) s n = moved-after own s (value_of go (site_at place level (deeper depth)) value s) _ (moved-value place level (deeper depth) value s n) (λ c t m. later-self own t m)
   moved-line level place depth (waits.Procedure l x ids forms) s n =
-      moved-after own s (go.procedure place level (deeper depth) x ids forms (counted s)) _ (moved-counted own s (go.procedure place level (deeper depth) x ids forms (counted s)) n (moves.procedure place level (deeper depth) x ids forms (counted s) n))
+      moved-after own s (go.procedure (site_at place level (deeper depth)) (procedure_parts x ids forms) (counted s)) _ (moved-counted own s (go.procedure (site_at place level (deeper depth)) (procedure_parts x ids forms) (counted s)) n (moves.procedure place level (deeper depth) x ids forms (counted s) n))
       (λ c t m. later-self own t m)
-  moved-line level place depth (waits.Expression x) s n = moved-after own s (go.form place level depth x s) _ (moves.form place level depth x s n) (λ c t m. later-self own t m)
+  moved-line level place depth (waits.Expression x) s n = moved-after own s (go.form (site_at place level depth) x s) _ (moves.form place level depth x s n) (λ c t m. later-self own t m)
 
   moved-finish : (place : Span) (level : ℕ) (t : Tree) (d : Taken) (s : State) → Names own s → Gave (Moved own s) (finish go place level t d s)
   unfolding finish
@@ -112,11 +114,11 @@ module _ (own : LibName) (go : Inside) (moves : Moves own go) where
   pub body-takes : (place : Span) (level depth : ℕ) (forms : List Tree) (s : State) → Names own s → Gave (Takes own (as_frame s.names) false (counted s) (counted s)) (splice go (lambda_at (as_frame s.names) place level) depth begun forms (counted s))
   body-takes place level depth forms s n = first-takes (lambda_at (as_frame s.names) place level) depth forms (counted s) n (λ e. absurd (cc))
 
-  pub moved-body : (place : Span) (level depth : ℕ) (t : Tree) (forms : List Tree) (s : State) → Names own s → Gave (Moved own s) (body go place level depth t forms s)
+  pub moved-body : (place : Span) (level depth : ℕ) (t : Tree) (forms : List Tree) (s : State) → Names own s → Gave (Moved own s) (body go (site_at place level depth) t forms s)
   unfolding body fresh_frame
   moved-body place level depth t forms s n =
       let first = splice go (lambda_at (as_frame s.names) place level) depth begun (map (stamp (as_frame s.names)) forms) (counted s) in
-      gave-within (Moved own s) (λ u. after (fresh_frame u) (body_in go place level depth t forms)) s
+      gave-within (Moved own s) (λ u. after (fresh_frame u) (body_in go (site_at place level depth) t forms)) s
       (framed own (λ (d : Taken). kind_labels (wait_kinds d.waiting)) (λ d. []) s first (finish go place level t) n
       (gave-less (Takes own (as_frame s.names) false (counted s) (counted s)) _ first (body-takes place level depth (map (stamp (as_frame s.names)) forms) s n) (λ d u k. (k.later, (k.took.adds, k.keeps))))
       (λ d u m. moved-finish place level t d u m))
@@ -124,71 +126,71 @@ module _ (own : LibName) (go : Inside) (moves : Moves own go) where
   -- Procedures and `letrec`.
 
   module _ (place : Span) (level depth : ℕ) (t : Tree) where
-    pub moved-case : (ids : FormalIds) (forms : List Tree) (s : State) → Names own s → Gave (Moved own s) (lambda_case go place level depth t ids forms s)
+    pub moved-case : (ids : FormalIds) (forms : List Tree) (s : State) → Names own s → Gave (Moved own s) (lambda_case go (site_at place level depth) (procedure_parts t ids forms) s)
     unfolding lambda_case fresh_frame
     moved-case ids forms s n =
         let f = as_frame s.names in
-        gave-within (Moved own s) (λ u. after (fresh_frame u) (case_in go place level depth t ids forms)) s
+        gave-within (Moved own s) (λ u. after (fresh_frame u) (case_in go (site_at place level depth) (procedure_parts t ids forms))) s
         (framed own formals_labels (λ x. []) s (bind_formals f place level ids (counted s)) _ n
         (gave-less (λ x u. BindsAll own f (counted s) (formals_labels x) u) _ (bind_formals f place level ids (counted s)) (binds-formals own f place level ids (counted s) n) (λ x u b. (b.later, (b.adds, b.keeps))))
-        (λ x u m. moved-after own u (body go place level depth t (map (stamp f) forms) u) (λ c. give (record { formals = x; body = c })) (moved-body place level depth t (map (stamp f) forms) u m) (λ c v l. later-self own v l)))
+        (λ x u m. moved-after own u (body go (site_at place level depth) t (map (stamp f) forms) u) (λ c. give (record { formals = x; body = c })) (moved-body place level depth t (map (stamp f) forms) u m) (λ c v l. later-self own v l)))
 
-    moved-lambda : (ids : FormalIds) (forms : List Tree) (s : State) → Names own s → Gave (Moved own s) (lambda go place level depth t ids forms s)
+    moved-lambda : (ids : FormalIds) (forms : List Tree) (s : State) → Names own s → Gave (Moved own s) (lambda go (site_at place level depth) (procedure_parts t ids forms) s)
     unfolding lambda fresh
     moved-lambda ids forms s n =
-        let r = lambda_case go place level depth t ids forms (counted s) in
+        let r = lambda_case go (site_at place level depth) (procedure_parts t ids forms) (counted s) in
         moved-after own s r _ (moved-counted own s r n (moved-case ids forms (counted s) n)) (λ c u m. later-self own u m)
 
-    moved-case_lambda : (cs : List LambdaCase) (s : State) → Names own s → Gave (Moved own s) (case_lambda go place level depth t cs s)
+    moved-case_lambda : (cs : List LambdaCase) (s : State) → Names own s → Gave (Moved own s) (case_lambda go (site_at place level depth) t cs s)
     unfolding case_lambda fresh
     moved-case_lambda cs s n =
-        let r = all_cases go place level depth t cs (counted s) in
-        moved-after own s r _ (moved-counted own s r n (moved-each own (one_case go place level depth t) (λ c u m. moved-case c.formals c.body u m) cs (counted s) n)) (λ xs u m. later-self own u m)
+        let r = all_cases go (site_at place level depth) t cs (counted s) in
+        moved-after own s r _ (moved-counted own s r n (moved-each own (one_case go (site_at place level depth) t) (λ c u m. moved-case c.formals c.body u m) cs (counted s) n)) (λ xs u m. later-self own u m)
 
-    pub moved-init : (f : FrameNo) (b : BoundSpec) (s : State) → Names own s → Gave (Moved own s) (one_init go place level depth f b s)
+    pub moved-init : (f : FrameNo) (b : BoundSpec) (s : State) → Names own s → Gave (Moved own s) (one_init go (site_at place level depth) f b s)
     unfolding one_init
-    moved-init f b s n = moved-after own s (go.form place level depth (stamp f b.init) s) _ (moves.form place level depth (stamp f b.init) s n) (λ c u m. later-self own u m)
+    moved-init f b s n = moved-after own s (go.form (site_at place level depth) (stamp f b.init) s) _ (moves.form place level depth (stamp f b.init) s n) (λ c u m. later-self own u m)
 
-    moved-inits : (f : FrameNo) (bs : List BoundSpec) (s : State) → Names own s → Gave (Moved own s) (all_inits go place level depth f bs s)
-    moved-inits f bs s n = moved-each own (one_init go place level depth f) (moved-init f) bs s n
+    moved-inits : (f : FrameNo) (bs : List BoundSpec) (s : State) → Names own s → Gave (Moved own s) (all_inits go (site_at place level depth) f bs s)
+    moved-inits f bs s n = moved-each own (one_init go (site_at place level depth) f) (moved-init f) bs s n
 
-    moved-letrec : (star : Bool) (bs : List BindingSpec) (forms : List Tree) (s : State) → Names own s → Gave (Moved own s) (letrec_form go place level depth t star bs forms s)
+    moved-letrec : (star : Bool) (bs : List BindingSpec) (forms : List Tree) (s : State) → Names own s → Gave (Moved own s) (letrec_form go (site_at place level depth) (letrec_parts t star bs forms) s)
     unfolding letrec_form fresh_frame
     moved-letrec star bs forms s n =
         let f = as_frame s.names in
-        gave-within (Moved own s) (λ u. after (fresh_frame u) (letrec_in go place level depth t star bs forms)) s
+        gave-within (Moved own s) (λ u. after (fresh_frame u) (letrec_in go (site_at place level depth) (letrec_parts t star bs forms))) s
         (framed own (map spec_label) (λ xs. []) s (bind_specs f place level bs (counted s)) _ n
         (gave-less (λ xs u. BindsAll own f (counted s) (map spec_label xs) u) _ (bind_specs f place level bs (counted s)) (binds-specs own f place level bs (counted s) n) (λ xs u b. (b.later, (b.adds, b.keeps))))
-        (λ xs u m. moved-after own u (all_inits go place level depth f xs u) (λ is v. after (body go place level depth t (map (stamp f) forms) v) (λ c. give (letrec star (inits is) c))) (moved-inits f xs u m)
-        (λ is v l. moved-after own v (body go place level depth t (map (stamp f) forms) v) (λ c. give (letrec star (inits is) c)) (moved-body place level depth t (map (stamp f) forms) v l) (λ c w o. later-self own w o))))
+        (λ xs u m. moved-after own u (all_inits go (site_at place level depth) f xs u) (λ is v. after (body go (site_at place level depth) t (map (stamp f) forms) v) (λ c. give (letrec star (inits is) c))) (moved-inits f xs u m)
+        (λ is v l. moved-after own v (body go (site_at place level depth) t (map (stamp f) forms) v) (λ c. give (letrec star (inits is) c)) (moved-body place level depth t (map (stamp f) forms) v l) (λ c w o. later-self own w o))))
 
   -- Forms.
 
   module _ (place : Span) (level depth : ℕ) where
-    moved-order : (forms : List Tree) (s : State) → Names own s → Gave (Moved own s) (in_order go place level depth forms s)
-    moved-order forms s n = moved-each own (go.form place level depth) (moves.form place level depth) forms s n
+    moved-order : (forms : List Tree) (s : State) → Names own s → Gave (Moved own s) (in_order go (site_at place level depth) forms s)
+    moved-order forms s n = moved-each own (go.form (site_at place level depth)) (moves.form place level depth) forms s n
 
-    moved-application : (operator : Tree) (operands : List Tree) (s : State) → Names own s → Gave (Moved own s) (application go place level depth operator operands s)
+    moved-application : (operator : Tree) (operands : List Tree) (s : State) → Names own s → Gave (Moved own s) (application go (site_at place level depth) operator operands s)
     unfolding application
-    moved-application operator operands s n = moved-after own s (go.form place level depth operator s) _ (moves.form place level depth operator s n)
-        (λ c u m. moved-after own u (in_order go place level depth operands u) (λ cs. give (call c (cores cs))) (moved-order operands u m) (λ cs v l. later-self own v l))
+    moved-application operator operands s n = moved-after own s (go.form (site_at place level depth) operator s) _ (moves.form place level depth operator s n)
+        (λ c u m. moved-after own u (in_order go (site_at place level depth) operands u) (λ cs. give (call c (cores cs))) (moved-order operands u m) (λ cs v l. later-self own v l))
 
-    moved-alternate : (c d : PlainCore) (o : Option Tree) (s : State) → Names own s → Gave (Moved own s) (alternate go place level depth c d o s)
+    moved-alternate : (c d : PlainCore) (o : Option Tree) (s : State) → Names own s → Gave (Moved own s) (alternate go (site_at place level depth) c d o s)
     moved-alternate c d None s n = later-self own s n
-    moved-alternate c d (Some x) s n = moved-after own s (go.form place level depth x s) (λ e. give (two_armed c d e)) (moves.form place level depth x s n) (λ e u m. later-self own u m)
+    moved-alternate c d (Some x) s n = moved-after own s (go.form (site_at place level depth) x s) (λ e. give (two_armed c d e)) (moves.form place level depth x s n) (λ e u m. later-self own u m)
 
-    moved-conditional : (test consequent : Tree) (other : Option Tree) (s : State) → Names own s → Gave (Moved own s) (conditional go place level depth test consequent other s)
+    moved-conditional : (test consequent : Tree) (other : Option Tree) (s : State) → Names own s → Gave (Moved own s) (conditional go (site_at place level depth) (if_parts test consequent other) s)
     unfolding conditional
-    moved-conditional test consequent other s n = moved-after own s (go.form place level depth test s) _ (moves.form place level depth test s n)
-        (λ c u m. moved-after own u (go.form place level depth consequent u) (λ d. alternate go place level depth c d other) (moves.form place level depth consequent u m) (λ d v l. moved-alternate c d other v l))
+    moved-conditional test consequent other s n = moved-after own s (go.form (site_at place level depth) test s) _ (moves.form place level depth test s n)
+        (λ c u m. moved-after own u (go.form (site_at place level depth) consequent u) (λ d. alternate go (site_at place level depth) c d other) (moves.form place level depth consequent u m) (λ d v l. moved-alternate c d other v l))
 
-    moved-set : (l : Label) (value : Tree) (s : State) → Names own s → Gave (Moved own s) (set go place level depth l value s)
+    moved-set : (l : Label) (value : Tree) (s : State) → Names own s → Gave (Moved own s) (set go (site_at place level depth) l value s)
     unfolding set
-    moved-set l value s n = moved-after own s (go.form place level depth value s) (λ c. give (assignment l c)) (moves.form place level depth value s n) (λ c u m. later-self own u m)
+    moved-set l value s n = moved-after own s (go.form (site_at place level depth) value s) (λ c. give (assignment l c)) (moves.form place level depth value s n) (λ c u m. later-self own u m)
 
-    moved-sequence : (forms : List Tree) (s : State) → Names own s → Gave (Moved own s) (in_sequence go place level depth forms s)
+    moved-sequence : (forms : List Tree) (s : State) → Names own s → Gave (Moved own s) (in_sequence go (site_at place level depth) forms s)
     unfolding in_sequence
-    moved-sequence forms s n = moved-after own s (in_order go place level depth forms s) (λ cs. give (sequence_of cs)) (moved-order forms s n) (λ cs u m. later-self own u m)
+    moved-sequence forms s n = moved-after own s (in_order go (site_at place level depth) forms s) (λ cs. give (sequence_of cs)) (moved-order forms s n) (λ cs u m. later-self own u m)
 
   -- The expression of a keyword.
 
@@ -196,10 +198,10 @@ module _ (own : LibName) (go : Inside) (moves : Moves own go) where
   abbrev pub Keeping : State → BoundSpec → State → Type 0
   Keeping s b u = Later own s u × IsKept u b.label
 
-  pub moved-keyword : (place : Span) (level depth : ℕ) (b : BoundSpec) (s : State) → Names own s → Gave (λ x u. Keeping s b u) (expand_transformer go place level depth b s)
+  pub moved-keyword : (place : Span) (level depth : ℕ) (b : BoundSpec) (s : State) → Names own s → Gave (λ x u. Keeping s b u) (expand_transformer go (site_at place level depth) b s)
   unfolding expand_transformer
-  moved-keyword place level depth b s n = gave-after (λ c u. Later own s u) (λ x u. Keeping s b u) (apart (go.form place (level + 1) depth b.init) s) (evaluate_transformer go.earlier (place_of b.init place) b.label)
-      (moved-apart own (go.form place (level + 1) depth b.init) s (moves.form place (level + 1) depth b.init (record s { scope = [] }) n))
+  moved-keyword place level depth b s n = gave-after (λ c u. Later own s u) (λ x u. Keeping s b u) (apart (go.form (site_at place (level + 1) depth) b.init) s) (evaluate_transformer go.earlier (place_of b.init place) b.label)
+      (moved-apart own (go.form (site_at place (level + 1) depth) b.init) s (moves.form place (level + 1) depth b.init (record s { scope = [] }) n))
       (λ c u m. gave-less (λ x v. Later own u v × IsKept v b.label) (λ x v. Keeping s b v) (evaluate_transformer go.earlier (place_of b.init place) b.label c u)
       (gave-both (λ x v. Later own u v) (λ x v. IsKept v b.label) (evaluate_transformer go.earlier (place_of b.init place) b.label c u)
       (finish-later own go.earlier (place_of b.init place) b.label c u m.next) (finish-kept own go.earlier (place_of b.init place) b.label c u))
@@ -213,13 +215,13 @@ module _ (own : LibName) (go : Inside) (moves : Moves own go) where
   abbrev pub KeepingAll : State → List BoundSpec → State → Type 0
   KeepingAll s bs u = Later own s u × Each (λ (b : BoundSpec). b.label.0.number < s.names.number → IsKept u b.label) bs
 
-  moved-all : (place : Span) (level depth : ℕ) (recursive : Bool) (f : FrameNo) (bs : List BoundSpec) (s : State) → Names own s → Gave (λ x u. KeepingAll s bs u) (expand_transformers go place level depth recursive f bs s)
+  moved-all : (place : Span) (level depth : ℕ) (recursive : Bool) (f : FrameNo) (bs : List BoundSpec) (s : State) → Names own s → Gave (λ x u. KeepingAll s bs u) (expand_transformers go (site_at place level depth) recursive f bs s)
   unfolding gather
   moved-all place level depth recursive f [] s n = (later-self own s n, tt)
   moved-all place level depth recursive f (b ∷ bs) s n =
-      gave-after (λ x u. Keeping s (seen_in recursive f b) u) (λ x u. KeepingAll s (b ∷ bs) u) (expand_transformer_in go place level depth recursive f tt b s) (λ e. gather (expand_transformer_in go place level depth recursive f) e bs)
+      gave-after (λ x u. Keeping s (seen_in recursive f b) u) (λ x u. KeepingAll s (b ∷ bs) u) (expand_transformer_in go (site_at place level depth) recursive f tt b s) (λ e. gather (expand_transformer_in go (site_at place level depth) recursive f) e bs)
       (moved-keyword place level depth (seen_in recursive f b) s n)
-      (λ x u k. gave-less (λ y v. KeepingAll u bs v) (λ y v. KeepingAll s (b ∷ bs) v) (expand_transformers go place level depth recursive f bs u) (moved-all place level depth recursive f bs u k.0.next)
+      (λ x u k. gave-less (λ y v. KeepingAll u bs v) (λ y v. KeepingAll s (b ∷ bs) v) (expand_transformers go (site_at place level depth) recursive f bs u) (moved-all place level depth recursive f bs u k.0.next)
       (λ y v j. (
         later-then own s u v k.0 j.0,
         (
@@ -229,32 +231,32 @@ module _ (own : LibName) (go : Inside) (moves : Moves own go) where
       )))
 
   -- where a new frame alone has more, and nothing came into scope
-  pub moved-keywords : (place : Span) (level depth : ℕ) (recursive : Bool) (bs : List BindingSpec) (forms : List Tree) (s : State) → Names own s → Gave (Moved own s) (with_keywords go place level depth recursive bs forms s)
+  pub moved-keywords : (place : Span) (level depth : ℕ) (recursive : Bool) (bs : List BindingSpec) (forms : List Tree) (s : State) → Names own s → Gave (Moved own s) (with_keywords go (site_at place level depth) (let_syntax_parts recursive bs forms) s)
   unfolding fresh_frame keywords
   moved-keywords place level depth recursive bs forms s n =
       let f = as_frame s.names in
-      gave-after (λ x u. Later own s u) (Moved own s) (keywords go place level depth recursive bs f (counted s)) (λ _. give (map (stamp f) forms))
-      (gave-after (BindsKeywords own f (counted s)) (Moved own s) (bind_keywords f place level bs (counted s)) (expand_transformers go place level depth recursive f) (binds-keywords own f place level bs (counted s) n)
-      (λ xs u b. gave-less (λ y v. KeepingAll u xs v) (Moved own s) (expand_transformers go place level depth recursive f xs u) (moved-all place level depth recursive f xs u b.later.next)
+      gave-after (λ x u. Later own s u) (Moved own s) (keywords go (site_at place level depth) recursive bs f (counted s)) (λ _. give (map (stamp f) forms))
+      (gave-after (BindsKeywords own f (counted s)) (Moved own s) (bind_keywords f place level bs (counted s)) (expand_transformers go (site_at place level depth) recursive f) (binds-keywords own f place level bs (counted s) n)
+      (λ xs u b. gave-less (λ y v. KeepingAll u xs v) (Moved own s) (expand_transformers go (site_at place level depth) recursive f xs u) (moved-all place level depth recursive f xs u b.later.next)
       (λ y v j. later-framed own f s (counted s) u v (counted-later own s n) b.later (b.adds false) n (omega arith) j.0 (keywords-kept own f (counted s) u v xs b j.0 j.1))))
       (λ x u k. k)
 
   -- and forms come of forms
-  pub keywords-some : (place : Span) (level depth : ℕ) (recursive : Bool) (bs : List BindingSpec) (x : Tree) (xs : List Tree) (s : State) → Names own s → Gave (λ ys u. Later own s u × (ys ≡ [] → ⊥)) (with_keywords go place level depth recursive bs (x ∷ xs) s)
+  pub keywords-some : (place : Span) (level depth : ℕ) (recursive : Bool) (bs : List BindingSpec) (x : Tree) (xs : List Tree) (s : State) → Names own s → Gave (λ ys u. Later own s u × (ys ≡ [] → ⊥)) (with_keywords go (site_at place level depth) (let_syntax_parts recursive bs (x ∷ xs)) s)
   keywords-some place level depth recursive bs x xs s n =
-      gave-both (λ ys u. Later own s u) (λ ys u. ys ≡ [] → ⊥) (with_keywords go place level depth recursive bs (x ∷ xs) s) (moved-keywords place level depth recursive bs (x ∷ xs) s n) some
+      gave-both (λ ys u. Later own s u) (λ ys u. ys ≡ [] → ⊥) (with_keywords go (site_at place level depth) (let_syntax_parts recursive bs (x ∷ xs)) s) (moved-keywords place level depth recursive bs (x ∷ xs) s n) some
     where
-      some : Gave (λ ys u. ys ≡ [] → ⊥) (with_keywords go place level depth recursive bs (x ∷ xs) s)
-      some = gave-after (λ f u. Unit {0}) (λ ys u. ys ≡ [] → ⊥) (fresh_frame s) (λ frame s'. after (keywords go place level depth recursive bs frame s') (λ _. give (map (stamp frame) (x ∷ xs)))) (gave-any (λ f u. Unit {0}) (fresh_frame s) (λ f u. tt))
-          (λ f u k. gave-after (λ y v. Unit {0}) (λ ys v. ys ≡ [] → ⊥) (keywords go place level depth recursive bs f u) (λ _. give (map (stamp f) (x ∷ xs))) (gave-any (λ y v. Unit {0}) (keywords go place level depth recursive bs f u) (λ y v. tt))
+      some : Gave (λ ys u. ys ≡ [] → ⊥) (with_keywords go (site_at place level depth) (let_syntax_parts recursive bs (x ∷ xs)) s)
+      some = gave-after (λ f u. Unit {0}) (λ ys u. ys ≡ [] → ⊥) (fresh_frame s) (λ frame s'. after (keywords go (site_at place level depth) recursive bs frame s') (λ _. give (map (stamp frame) (x ∷ xs)))) (gave-any (λ f u. Unit {0}) (fresh_frame s) (λ f u. tt))
+          (λ f u k. gave-after (λ y v. Unit {0}) (λ ys v. ys ≡ [] → ⊥) (keywords go (site_at place level depth) recursive bs f u) (λ _. give (map (stamp f) (x ∷ xs))) (gave-any (λ y v. Unit {0}) (keywords go (site_at place level depth) recursive bs f u) (λ y v. tt))
           (λ y v j e. absurd (cc)))
 
   -- `syntax-case`.
 
   module _ (place : Span) (level depth : ℕ) (literals : List Tree) where
-    moved-fender : (f : FrameNo) (o : Option Tree) (s : State) → Names own s → Gave (Moved own s) (fender go place level depth f o s)
+    moved-fender : (f : FrameNo) (o : Option Tree) (s : State) → Names own s → Gave (Moved own s) (fender go (site_at place level depth) f o s)
     moved-fender f None s n = later-self own s n
-    moved-fender f (Some t) s n = moved-after own s (go.form place level depth (stamp f t) s) (λ c. give (Some c)) (moves.form place level depth (stamp f t) s n) (λ c u m. later-self own u m)
+    moved-fender f (Some t) s n = moved-after own s (go.form (site_at place level depth) (stamp f t) s) (λ c. give (Some c)) (moves.form place level depth (stamp f t) s n) (λ c u m. later-self own u m)
 
     -- a pattern, and its variables in a frame
     pub record BindsPattern (f : FrameNo) (s : State) (p : Compiled) (u : State) : Type 0 where
@@ -275,39 +277,39 @@ module _ (own : LibName) (go : Inside) (moves : Moves own go) where
     pub pattern-adds : (f : FrameNo) (p : Compiled) (s u : State) → BindsPattern f s p u → LaterBut own f s u × (Adds own false (map variable_label p.variables) (map variable_depth p.variables) s u × Keeps own s u)
     pattern-adds f p s u b = (but-then own f s b.compiled u (but-later own f s b.compiled b.patterned.later) b.binds.later, (pattern-adds-so own f level p s b.compiled u b.patterned b.binds, keeps-then own s b.compiled u b.patterned.later.up b.binds.later.up b.patterned.later.keeps b.binds.keeps))
 
-    pub moved-clause : (c : PatternCase) (s : State) → Names own s → Gave (Moved own s) (pattern_clause go place level depth literals c s)
+    pub moved-clause : (c : PatternCase) (s : State) → Names own s → Gave (Moved own s) (pattern_clause go (site_at place level depth) literals c s)
     unfolding pattern_clause fresh_frame
     moved-clause c s n =
         let f = as_frame s.names in
-        gave-within (Moved own s) (λ u. after (fresh_frame u) (clause_in go place level depth literals c)) s
+        gave-within (Moved own s) (λ u. after (fresh_frame u) (clause_in go (site_at place level depth) literals c)) s
         (gave-after (Patterned own (counted s)) (Leaving own s) (pattern_of literals place c.pattern (counted s)) _ (pattern-later own literals place c.pattern (counted s) n)
         (λ p t h. framed own (λ x. map variable_label p.variables) (λ x. map variable_depth p.variables) s (bind_pattern f place level p.variables t) _ n
         (gave-less (λ x u. BindsPattern f (counted s) p u) _ (bind_pattern f place level p.variables t) (pattern-bound f p (counted s) t h) (λ x u b. pattern-adds f p (counted s) u b))
-        (λ x u m. moved-after own u (fender go place level depth f c.fender u) _ (moved-fender f c.fender u m)
-        (λ e v l. moved-after own v (go.form place level depth (stamp f c.output) v) (λ o. give (record { pattern = p.pattern; fender = e; output = o })) (moves.form place level depth (stamp f c.output) v l) (λ o w j. later-self own w j)))))
+        (λ x u m. moved-after own u (fender go (site_at place level depth) f c.fender u) _ (moved-fender f c.fender u m)
+        (λ e v l. moved-after own v (go.form (site_at place level depth) (stamp f c.output) v) (λ o. give (record { pattern = p.pattern; fender = e; output = o })) (moves.form place level depth (stamp f c.output) v l) (λ o w j. later-self own w j)))))
 
-    moved-syntax_case : (subject : Tree) (cs : List PatternCase) (span : Span) (s : State) → Names own s → Gave (Moved own s) (syntax_case go place level depth subject literals cs span s)
+    moved-syntax_case : (subject : Tree) (cs : List PatternCase) (span : Span) (s : State) → Names own s → Gave (Moved own s) (syntax_case go (site_at place level depth) (syntax_case_parts subject literals cs span) s)
     unfolding syntax_case
     moved-syntax_case subject cs span s n =
-        moved-after own s (go.form place level depth subject s) _ (moves.form place level depth subject s n)
-        (λ c u m. moved-after own u (check_literals place literals u) (λ _ v. after (all_clauses go place level depth literals cs v) (λ xs. give (matching c (clauses xs) span))) (literals-later own literals place u m)
-        (λ x v l. moved-after own v (all_clauses go place level depth literals cs v) (λ xs. give (matching c (clauses xs) span)) (moved-each own (pattern_clause go place level depth literals) moved-clause cs v l) (λ xs w j. later-self own w j)))
+        moved-after own s (go.form (site_at place level depth) subject s) _ (moves.form place level depth subject s n)
+        (λ c u m. moved-after own u (check_literals place literals u) (λ _ v. after (all_clauses go (site_at place level depth) literals cs v) (λ xs. give (matching c (clauses xs) span))) (literals-later own literals place u m)
+        (λ x v l. moved-after own v (all_clauses go (site_at place level depth) literals cs v) (λ xs. give (matching c (clauses xs) span)) (moved-each own (pattern_clause go (site_at place level depth) literals) moved-clause cs v l) (λ xs w j. later-self own w j)))
 
-  moved-keywords_form : (place : Span) (level depth : ℕ) (recursive : Bool) (bs : List BindingSpec) (forms : List Tree) (s : State) → Names own s → Gave (Moved own s) (keywords_form go place level depth recursive bs forms s)
+  moved-keywords_form : (place : Span) (level depth : ℕ) (recursive : Bool) (bs : List BindingSpec) (forms : List Tree) (s : State) → Names own s → Gave (Moved own s) (keywords_form go (site_at place level depth) (let_syntax_parts recursive bs forms) s)
   unfolding keywords_form
   moved-keywords_form place level depth recursive bs forms s n =
-      moved-after own s (with_keywords go place level depth recursive bs forms s) (in_sequence go place level depth) (moved-keywords place level depth recursive bs forms s n) (λ xs u m. moved-sequence place level depth xs u m)
+      moved-after own s (with_keywords go (site_at place level depth) (let_syntax_parts recursive bs forms) s) (in_sequence go (site_at place level depth)) (moved-keywords place level depth recursive bs forms s n) (λ xs u m. moved-sequence place level depth xs u m)
 
-  moved-quasi : (place : Span) (level depth : ℕ) (t : Tree) (which : Family) (template : Tree) (s : State) → Names own s → Gave (Moved own s) (quasi_form go place level depth t which template s)
+  moved-quasi : (place : Span) (level depth : ℕ) (t : Tree) (which : Family) (template : Tree) (s : State) → Names own s → Gave (Moved own s) (quasi_form go (site_at place level depth) (template_parts t which template) s)
   unfolding quasi_form
   moved-quasi place level depth t which template s n =
-      gave-after (λ q u. u ≡ s) (Moved own s) (form_of place t which template s) (quasi_made go place level depth t) (form-same place t which template s)
-      (λ q u e. subst (λ (v : State). Gave (Moved own s) (quasi_made go place level depth t q v)) (sym e)
+      gave-after (λ q u. u ≡ s) (Moved own s) (form_of place t which template s) (quasi_made go (site_at place level depth) t) (form-same place t which template s)
+      (λ q u e. subst (λ (v : State). Gave (Moved own s) (quasi_made go (site_at place level depth) t q v)) (sym e)
       (moved-after own s (parts_in_order go place level (parts_of t depth q) s) (code_of place level t q)
       (moved-each own (part_core go place level) (λ p v m. moves.form place level p.depth p.form v m) (parts_of t depth q) s n)
       (λ cs v m. moved-code own place level t q cs v m)))
 
-  moved-perform : (place : Span) (level depth : ℕ) (t : Tree) (p : Plan) (s : State) → Names own s → Gave (Moved own s) (perform go place level depth t p s)
+  moved-perform : (place : Span) (level depth : ℕ) (t : Tree) (p : Plan) (s : State) → Names own s → Gave (Moved own s) (perform go (site_at place level depth) t p s)
   unfolding perform
   moved-perform place level depth t (plans.Done c) s n = later-self own s n
   moved-perform place level depth t (plans.Call operator operands) s n = moved-application place level (deeper depth) operator operands s n
@@ -320,10 +322,8 @@ module _ (own : LibName) (go : Inside) (moves : Moves own go) where
   moved-perform place level depth t (plans.Matching subject literals cs span) s n = moved-syntax_case place level (deeper depth) literals subject cs span s n
   moved-perform place level depth t (plans.Keywords recursive bs forms) s n = moved-keywords_form place level (deeper depth) recursive bs forms s n
   moved-perform place level depth t (plans.Quasi which template) s n = moved-quasi place level (deeper depth) t which template s n
-  moved-perform place level depth t (plans.Use l) s n = tt
-  moved-perform place level depth t (plans.SetUse l id) s n = tt
 
-  moved-form : (place : Span) (level depth : ℕ) (t : Tree) (s : State) → Names own s → Gave (Moved own s) (form_at go place level depth t s)
+  moved-form : (place : Span) (level depth : ℕ) (t : Tree) (s : State) → Names own s → Gave (Moved own s) (form_at go (site_at place level depth) t s)
   unfolding form_at
   moved-form place level depth t s n = gave-if (Moved own s) (nat_lt most_round depth) _ _ (λ e. tt)
       (λ e. moved-after own s (expand_uses go.earlier place level t s) (perform_settled go level depth) (expand_uses-later own go.earlier s.uses_left place level t s n) (λ d u m. moved-perform d.place level depth d.form d.plan u m))
@@ -334,12 +334,12 @@ module _ (own : LibName) (go : Inside) (moves : Moves own go) where
     abbrev pub T : State → Taken → State → Type 0
     T s d u = Takes own at.frame (is_top at.kind) start s d u
 
-    defined-takes : (depth : ℕ) (d : Taken) (t : Tree) (b : BindingSpec) (s : State) → Names own s → Took own (is_top at.kind) start d s → Gave (T s) (after (define_syntax go at depth d t b s) (λ _. give d))
+    defined-takes : (depth : ℕ) (d : Taken) (t : Tree) (b : BindingSpec) (s : State) → Names own s → Took own (is_top at.kind) start d s → Gave (T s) (after (define_syntax go at depth d (definition_parts t b) s) (λ _. give d))
     unfolding define_syntax
     defined-takes depth d t b s n k =
-        gave-after (λ x u. T s d u) (T s) (after (define_keyword at d t b s) (expand_transformer go at.place at.level depth)) (λ _. give d)
-        (gave-after (BindsOne own start at s n low) (λ x u. T s d u) (define_keyword at d t b s) (expand_transformer go at.place at.level depth) (defines-keyword own start at s n low d t b)
-        (λ x u j. gave-less (λ y v. Keeping u x v) (λ y v. T s d v) (expand_transformer go at.place at.level depth x u) (moved-keyword at.place at.level depth x u j.later.next)
+        gave-after (λ x u. T s d u) (T s) (after (define_keyword at d t b s) (expand_transformer go (site_at at.place at.level depth))) (λ _. give d)
+        (gave-after (BindsOne own start at s n low) (λ x u. T s d u) (define_keyword at d t b s) (expand_transformer go (site_at at.place at.level depth)) (defines-keyword own start at s n low d t b)
+        (λ x u j. gave-less (λ y v. Keeping u x v) (λ y v. T s d v) (expand_transformer go (site_at at.place at.level depth) x u) (moved-keyword at.place at.level depth x u j.later.next)
         (λ y v l. record {
           later = but-then own at.frame s u v j.later (but-later own at.frame u v l.0);
           took = took-later own (is_top at.kind) start d u v l.0.up (adds-later own (is_top at.kind) u v l.0) (took-later own (is_top at.kind) start d s u j.later.up (j.adds (is_top at.kind)) k);
@@ -348,9 +348,9 @@ module _ (own : LibName) (go : Inside) (moves : Moves own go) where
         (λ x u j. j)
 
     keywords-take : (depth : ℕ) (d : Taken) (recursive : Bool) (bs : List BindingSpec) (forms : List Tree) (s : State) → Names own s → Took own (is_top at.kind) start d s
-        → Gave (T s) (after (with_keywords go at.place at.level depth recursive bs forms s) (splice go at depth d))
+        → Gave (T s) (after (with_keywords go (site_at at.place at.level depth) (let_syntax_parts recursive bs forms) s) (splice go at depth d))
     keywords-take depth d recursive bs forms s n k =
-        gave-after (λ xs u. Later own s u) (T s) (with_keywords go at.place at.level depth recursive bs forms s) (splice go at depth d) (moved-keywords at.place at.level depth recursive bs forms s n)
+        gave-after (λ xs u. Later own s u) (T s) (with_keywords go (site_at at.place at.level depth) (let_syntax_parts recursive bs forms) s) (splice go at depth d) (moved-keywords at.place at.level depth recursive bs forms s n)
         (λ xs u l. gave-less (T u) (T s) (splice go at depth d xs u) (splice-takes at depth start d xs u l.next low (took-later own (is_top at.kind) start d s u l.up (adds-later own (is_top at.kind) s u l) k))
         (λ y v j. record { later = but-then own at.frame s u v (but-later own at.frame s u l) j.later; took = j.took; keeps = keeps-then own s u v l.up j.later.up l.keeps j.keeps }))
 
@@ -360,8 +360,6 @@ module _ (own : LibName) (go : Inside) (moves : Moves own go) where
     performs-item depth d t (items.Forms forms) s n k = splice-takes at (deeper depth) start d forms s n low k
     performs-item depth d t (items.Keyword b) s n k = defined-takes (deeper depth) d t b s n k
     performs-item depth d t (items.Keywords recursive bs forms) s n k = keywords-take (deeper depth) d recursive bs forms s n k
-    performs-item depth d t (items.Use l) s n k = tt
-    performs-item depth d t (items.SetUse l) s n k = tt
 
   item-takes : (at : BodyAt) (start : State) → (is_top at.kind ≡ true → at.level ≡ 0) → (depth : ℕ) (d : Taken) (t : Tree) (s : State) → Names own s → Took own (is_top at.kind) start d s
       → Gave (Takes own at.frame (is_top at.kind) start s) (item go at depth d t s)
@@ -388,8 +386,8 @@ inside-moves own rs (suc room) =
     }
 
 -- from a state to the one behind a form
-pub form-later : (rs : List CompiledLibrary) (room : ℕ) (place : Span) (level depth : ℕ) (t : Tree) (s u : State) (c : PlainCore) → (inside rs room).form place level depth t s ≡ Ok (c, u) → Later s.names.library s u
-form-later rs room place level depth t s u c e = told (λ d v. Later s.names.library s v) ((inside rs room).form place level depth t s) c u ((inside-moves s.names.library rs room).form place level depth t s refl) e
+pub form-later : (rs : List CompiledLibrary) (room : ℕ) (place : Span) (level depth : ℕ) (t : Tree) (s u : State) (c : PlainCore) → (inside rs room).form (site_at place level depth) t s ≡ Ok (c, u) → Later s.names.library s u
+form-later rs room place level depth t s u c e = told (λ d v. Later s.names.library s v) ((inside rs room).form (site_at place level depth) t s) c u ((inside-moves s.names.library rs room).form place level depth t s refl) e
 
 pub scope-stays : ScopeStays
 scope-stays rs room place level depth t s u c e = (form-later rs room place level depth t s u c e).scope

@@ -40,6 +40,8 @@ use Rattle.expand_heads.specs.Depth.{deeper, most_round}
 use Rattle.expand_forms.specs.Inside.{Inside}
 use Rattle.expand_forms.specs.Keywords.{with_keywords}
 use Rattle.expand_forms.specs.ExpandUses.{expand_uses}
+use Rattle.expand_forms.specs.Site.{site_at}
+use Rattle.expand_forms.specs.Forms.{let_syntax_parts, letrec_parts, procedure_parts, syntax_case_parts}
 use Rattle.law_expand.specs.States.{IsPattern, Later}
 use Rattle.law_expand.proofs.Acts.{Gave, gave-after, gave-within, gave-less, gave-both, gave-if, gave-each}
 use Rattle.law_expand.proofs.Fresh.{Made, FreshLabels, label_name, code_name, each-map, fresh-wider, fresh-append, made-apart}
@@ -82,25 +84,25 @@ module _ (own : LibName) (given : List Label) (go : Inside) (safe : Safe own giv
           inner = inner-wider own v.bindings vs ls u.names.number v.names.number s.names.number v.names.number (parts c) up (omega arith) k.inner;
         }
 
-    pub gives-case : (ids : FormalIds) (forms : List Tree) (s : State) → S s → Gave (GivesCase own vs ls s) (lambda_case go place level depth t ids forms s)
+    pub gives-case : (ids : FormalIds) (forms : List Tree) (s : State) → S s → Gave (GivesCase own vs ls s) (lambda_case go (site_at place level depth) (procedure_parts t ids forms) s)
     unfolding lambda_case fresh_frame
     gives-case ids forms s h =
         let f = as_frame s.names in
-        gave-within (GivesCase own vs ls s) (λ u. after (fresh_frame u) (case_in go place level depth t ids forms)) s
-        (gave-after (λ x u. With x s u) (GivesCase own vs ls s) (bind_formals f place level ids (counted s)) (λ x u. after (body go place level depth t (map (stamp f) forms) u) (λ c. give (record { formals = x; body = c })))
+        gave-within (GivesCase own vs ls s) (λ u. after (fresh_frame u) (case_in go (site_at place level depth) (procedure_parts t ids forms))) s
+        (gave-after (λ x u. With x s u) (GivesCase own vs ls s) (bind_formals f place level ids (counted s)) (λ x u. after (body go (site_at place level depth) t (map (stamp f) forms) u) (λ c. give (record { formals = x; body = c })))
         (binds-formals own f place level ids (counted s) h.0.next)
         (λ x u b.
-        gave-after (GivesGood own vs (formals_labels x ++ ls) u) (GivesCase own vs ls s) (body go place level depth t (map (stamp f) forms) u) (λ c. give (record { formals = x; body = c }))
+        gave-after (GivesGood own vs (formals_labels x ++ ls) u) (GivesCase own vs ls s) (body go (site_at place level depth) t (map (stamp f) forms) u) (λ c. give (record { formals = x; body = c }))
         (gives-body own given go safe place level depth t vs (formals_labels x ++ ls) (map (stamp f) forms) u (starts-framed own given vs level ls (formals_labels x) s u b.later b.adds h))
         (λ c v k. case-good s u v x c b k.inner.up k)))
 
     next-code : (s : State) → s.names.library ≡ own → Made own s.names.number (suc s.names.number) s.names
     next-code s n = let e : s.names.number + 1 ≡ suc s.names.number = omega arith in subst (λ m. Made own s.names.number m s.names) e (next-made own s n)
 
-    pub gives-lambda : (ids : FormalIds) (forms : List Tree) (s : State) → S s → Gave (GivesGood own vs ls s) (lambda go place level depth t ids forms s)
+    pub gives-lambda : (ids : FormalIds) (forms : List Tree) (s : State) → S s → Gave (GivesGood own vs ls s) (lambda go (site_at place level depth) (procedure_parts t ids forms) s)
     unfolding lambda fresh
     gives-lambda ids forms s h =
-        gave-after (GivesCase own vs ls (counted s)) (GivesGood own vs ls s) (lambda_case go place level depth t ids forms (counted s)) (λ c. give (procedure (record { 0 = s.names }) (cases (c ∷ [])) true))
+        gave-after (GivesCase own vs ls (counted s)) (GivesGood own vs ls s) (lambda_case go (site_at place level depth) (procedure_parts t ids forms) (counted s)) (λ c. give (procedure (record { 0 = s.names }) (cases (c ∷ [])) true))
         (gives-case ids forms (counted s) (counted-starts s h))
         (λ c u k. let e : s.names.number + 1 ≡ suc s.names.number = omega arith in
         good-lambda own u.bindings vs ls s.names.number u.names.number (record { 0 = s.names }) c (next-code s h.0.next) (subst (λ n. GoodCase own u.bindings vs ls n u.names.number c) e k))
@@ -108,18 +110,18 @@ module _ (own : LibName) (given : List Label) (go : Inside) (safe : Safe own giv
     abbrev GivesCases : State → List Lambda → State → Type 0
     GivesCases s xs u = Later own s u × InTurn (GoodCase own u.bindings vs ls) s.names.number u.names.number xs
 
-    gives-cases : (cs : List LambdaCase) (s : State) → S s → Gave (GivesCases s) (all_cases go place level depth t cs s)
+    gives-cases : (cs : List LambdaCase) (s : State) → S s → Gave (GivesCases s) (all_cases go (site_at place level depth) t cs s)
     gives-cases cs s h =
-        gave-each (one_case go place level depth t) (λ c u x v. Later own u v × GivesCase own vs ls u x v) (λ xs u ys v. GivesCases u ys v) S (λ u k. (later-self own u k.0.next, omega arith))
-        (λ c u k. gave-both (λ x v. Later own u v) (GivesCase own vs ls u) (one_case go place level depth t c u) (moved-case own go safe.moves place level depth t c.formals c.body u k.0.next) (gives-case c.formals c.body u k))
+        gave-each (one_case go (site_at place level depth) t) (λ c u x v. Later own u v × GivesCase own vs ls u x v) (λ xs u ys v. GivesCases u ys v) S (λ u k. (later-self own u k.0.next, omega arith))
+        (λ c u k. gave-both (λ x v. Later own u v) (GivesCase own vs ls u) (one_case go (site_at place level depth) t c u) (moved-case own go safe.moves place level depth t c.formals c.body u k.0.next) (gives-case c.formals c.body u k))
         (λ c u v x k j. starts-later own given vs level ls u v k j.0)
         (λ c xs u v w x ys k j a. (later-then own u v w j.0 a.0, (v.names.number, (case-grown own v.bindings w.bindings a.0.grows.bound vs ls u.names.number v.names.number x j.1, a.1))))
         cs s h
 
-    pub gives-case_lambda : (cs : List LambdaCase) (s : State) → S s → Gave (GivesGood own vs ls s) (case_lambda go place level depth t cs s)
+    pub gives-case_lambda : (cs : List LambdaCase) (s : State) → S s → Gave (GivesGood own vs ls s) (case_lambda go (site_at place level depth) t cs s)
     unfolding case_lambda fresh
     gives-case_lambda cs s h =
-        gave-after (GivesCases (counted s)) (GivesGood own vs ls s) (all_cases go place level depth t cs (counted s)) (λ xs. give (procedure (record { 0 = s.names }) (cases xs) false)) (gives-cases cs (counted s) (counted-starts s h))
+        gave-after (GivesCases (counted s)) (GivesGood own vs ls s) (all_cases go (site_at place level depth) t cs (counted s)) (λ xs. give (procedure (record { 0 = s.names }) (cases xs) false)) (gives-cases cs (counted s) (counted-starts s h))
         (λ xs u k. let e : s.names.number + 1 ≡ suc s.names.number = omega arith in
         good-case_lambda own u.bindings vs ls s.names.number u.names.number (record { 0 = s.names }) xs (next-code s h.0.next) (subst (λ n. InTurn (GoodCase own u.bindings vs ls) n u.names.number xs) e k.1))
 
@@ -136,17 +138,17 @@ module _ (own : LibName) (given : List Label) (go : Inside) (safe : Safe own giv
         pub good : InTurn (GoodInit own u.bindings vs wide) s.names.number u.names.number is
         pub labels : map label_of is ≡ map spec_label bs
 
-      gives-init : (b : BoundSpec) (s : State) → Starts own given vs level wide s → Gave (IsInit b s) (one_init go place level depth f b s)
+      gives-init : (b : BoundSpec) (s : State) → Starts own given vs level wide s → Gave (IsInit b s) (one_init go (site_at place level depth) f b s)
       unfolding one_init
       gives-init b s h =
-          gave-after (GivesGood own vs wide s) (IsInit b s) (go.form place level depth (stamp f b.init) s) (λ c. give (record { label = b.label; value = c })) (safe.form place level depth (stamp f b.init) s vs wide h.0 h.1)
+          gave-after (GivesGood own vs wide s) (IsInit b s) (go.form (site_at place level depth) (stamp f b.init) s) (λ c. give (record { label = b.label; value = c })) (safe.form place level depth (stamp f b.init) s vs wide h.0 h.1)
           (λ c u k. (k, refl))
 
-      pub gives-inits : (bs : List BoundSpec) (s : State) → Starts own given vs level wide s → Gave (GivesInits bs s) (all_inits go place level depth f bs s)
+      pub gives-inits : (bs : List BoundSpec) (s : State) → Starts own given vs level wide s → Gave (GivesInits bs s) (all_inits go (site_at place level depth) f bs s)
       gives-inits bs s h =
-          gave-each (one_init go place level depth f) (λ b u i v. Later own u v × IsInit b u i v) (λ xs u ys v. GivesInits xs u ys v) (Starts own given vs level wide)
+          gave-each (one_init go (site_at place level depth) f) (λ b u i v. Later own u v × IsInit b u i v) (λ xs u ys v. GivesInits xs u ys v) (Starts own given vs level wide)
           (λ u k. record { later = later-self own u k.0.next; good = omega arith; labels = refl })
-          (λ b u k. gave-both (λ i v. Later own u v) (IsInit b u) (one_init go place level depth f b u) (moved-init own go safe.moves place level depth t f b u k.0.next) (gives-init b u k))
+          (λ b u k. gave-both (λ i v. Later own u v) (IsInit b u) (one_init go (site_at place level depth) f b u) (moved-init own go safe.moves place level depth t f b u k.0.next) (gives-init b u k))
           (λ b u v x k j. starts-later own given vs level wide u v k j.0)
           (λ b xs u v w x ys k j a. record { later = later-then own u v w j.0 a.later; good = (v.names.number, (lifted own vs wide u.names.number v.names.number x.value v w a.later j.1.0, a.good)); labels = λ i. j.1.1 i ∷ a.labels i })
           bs s h
@@ -172,22 +174,22 @@ module _ (own : LibName) (given : List Label) (go : Inside) (safe : Safe own giv
     inits-lifted wide a b [] v w l h = h
     inits-lifted wide a b (i ∷ is) v w l (m, (h, k)) = (m, (lifted own vs wide a m i.value v w l h, inits-lifted wide m b is v w l k))
 
-    pub gives-letrec : (bs : List BindingSpec) (forms : List Tree) (s : State) → Starts own given vs level ls s → Gave (GivesGood own vs ls s) (letrec_form go place level depth t star bs forms s)
+    pub gives-letrec : (bs : List BindingSpec) (forms : List Tree) (s : State) → Starts own given vs level ls s → Gave (GivesGood own vs ls s) (letrec_form go (site_at place level depth) (letrec_parts t star bs forms) s)
     unfolding letrec_form fresh_frame
     gives-letrec bs forms s h =
         let f = as_frame s.names in
-        gave-within (GivesGood own vs ls s) (λ u. after (fresh_frame u) (letrec_in go place level depth t star bs forms)) s
+        gave-within (GivesGood own vs ls s) (λ u. after (fresh_frame u) (letrec_in go (site_at place level depth) (letrec_parts t star bs forms))) s
         (gave-after (λ xs u. BindsAll own f (counted s) (map spec_label xs) u) (GivesGood own vs ls s) (bind_specs f place level bs (counted s))
-        (λ xs u. after (all_inits go place level depth f xs u) (λ is v. after (body go place level depth t (map (stamp f) forms) v) (λ c. give (letrec star (inits is) c))))
+        (λ xs u. after (all_inits go (site_at place level depth) f xs u) (λ is v. after (body go (site_at place level depth) t (map (stamp f) forms) v) (λ c. give (letrec star (inits is) c))))
         (binds-specs own f place level bs (counted s) h.0.next)
         (λ xs u b.
         let labels = map spec_label xs in
         let seen = starts-framed own given vs level ls labels s u b.later b.adds h in
-        gave-after (GivesInits f (labels ++ ls) xs u) (GivesGood own vs ls s) (all_inits go place level depth f xs u) (λ is v. after (body go place level depth t (map (stamp f) forms) v) (λ c. give (letrec star (inits is) c)))
+        gave-after (GivesInits f (labels ++ ls) xs u) (GivesGood own vs ls s) (all_inits go (site_at place level depth) f xs u) (λ is v. after (body go (site_at place level depth) t (map (stamp f) forms) v) (λ c. give (letrec star (inits is) c)))
         (gives-inits f (labels ++ ls) xs u seen)
         (λ is v k.
-        gave-after (Gives own given go safe place level depth vs (labels ++ ls) v) (GivesGood own vs ls s) (body go place level depth t (map (stamp f) forms) v) (λ c. give (letrec star (inits is) c))
-        (gave-both (λ c w. Later own v w) (GivesGood own vs (labels ++ ls) v) (body go place level depth t (map (stamp f) forms) v) (moved-body own go safe.moves place level depth t (map (stamp f) forms) v k.later.next)
+        gave-after (Gives own given go safe place level depth vs (labels ++ ls) v) (GivesGood own vs ls s) (body go (site_at place level depth) t (map (stamp f) forms) v) (λ c. give (letrec star (inits is) c))
+        (gave-both (λ c w. Later own v w) (GivesGood own vs (labels ++ ls) v) (body go (site_at place level depth) t (map (stamp f) forms) v) (moved-body own go safe.moves place level depth t (map (stamp f) forms) v k.later.next)
         (gives-body own given go safe place level depth t vs (labels ++ ls) (map (stamp f) forms) v (starts-later own given vs level (labels ++ ls) u v seen k.later)))
         (λ c w j. good-wider own w.bindings vs ls (counted s).names.number w.names.number s.names.number w.names.number (letrec star (inits is) c) (omega arith) (omega arith)
         (letrec-good w.bindings (counted s).names.number u.names.number v.names.number w.names.number labels is c k.labels b.later.up b.labels (inits-lifted (labels ++ ls) u.names.number v.names.number is v w j.0 k.good) k.later.up j.1)))))
@@ -208,21 +210,21 @@ module _ (own : LibName) (given : List Label) (go : Inside) (safe : Safe own giv
     bound-labels u (w ∷ ws) h = ((level, (w.depth, h.0)), bound-labels u ws h.1)
 
     fender-given : (f : FrameNo) (wide : Depths) (seen : List Label) (o : Option Tree) (s : State) → Starts own given wide level seen s
-        → Gave (λ x u. Later own s u × GoodFender own u.bindings wide seen s.names.number u.names.number x) (fender go place level depth f o s)
+        → Gave (λ x u. Later own s u × GoodFender own u.bindings wide seen s.names.number u.names.number x) (fender go (site_at place level depth) f o s)
     fender-given f wide seen None s h = (later-self own s h.0.next, omega arith)
     fender-given f wide seen (Some t) s h =
-        gave-after (Gives own given go safe place level depth wide seen s) (λ x u. Later own s u × GoodFender own u.bindings wide seen s.names.number u.names.number x) (go.form place level depth (stamp f t) s) (λ c. give (Some c))
+        gave-after (Gives own given go safe place level depth wide seen s) (λ x u. Later own s u × GoodFender own u.bindings wide seen s.names.number u.names.number x) (go.form (site_at place level depth) (stamp f t) s) (λ c. give (Some c))
         (gives own given go safe place level depth wide seen (stamp f t) s h) (λ c u k. k)
 
     fender-lifted : (wide : Depths) (seen : List Label) (a b : ℕ) (x : Option PlainCore) (t u : State) → Later own t u → GoodFender own t.bindings wide seen a b x → GoodFender own u.bindings wide seen a b x
     fender-lifted wide seen a b None t u l h = h
     fender-lifted wide seen a b (Some c) t u l h = lifted own wide seen a b c t u l h
 
-    gives-clause : (c : PatternCase) (s : State) → Starts own given vs level ls s → Gave (IsClause s) (pattern_clause go place level depth literals c s)
+    gives-clause : (c : PatternCase) (s : State) → Starts own given vs level ls s → Gave (IsClause s) (pattern_clause go (site_at place level depth) literals c s)
     unfolding pattern_clause fresh_frame
     gives-clause c s h =
         let f = as_frame s.names in
-        gave-within (IsClause s) (λ u. after (fresh_frame u) (clause_in go place level depth literals c)) s
+        gave-within (IsClause s) (λ u. after (fresh_frame u) (clause_in go (site_at place level depth) literals c)) s
         (gave-after (Patterned own (counted s)) (IsClause s) (pattern_of literals place c.pattern (counted s)) _ (pattern-later own literals place c.pattern (counted s) h.0.next)
         (λ p t j.
         gave-after (λ x u. BindsPattern own go safe.moves place level depth literals f (counted s) p u) (IsClause s) (bind_pattern f place level p.variables t) _ (pattern-bound own go safe.moves place level depth literals f p (counted s) t j)
@@ -233,9 +235,9 @@ module _ (own : LibName) (given : List Label) (go : Inside) (safe : Safe own giv
         let labels = map variable_label p.variables in
         let ds = map variable_depth p.variables in
         let seen = starts-with own given vs level ls labels ds s u adds.0 adds.1.0 (bound-patterns f p t u p.variables are) h in
-        gave-after (λ x v. Later own u v × GoodFender own v.bindings (ds ++ vs) (labels ++ ls) u.names.number v.names.number x) (IsClause s) (fender go place level depth f c.fender u) _ (fender-given f (ds ++ vs) (labels ++ ls) c.fender u seen)
+        gave-after (λ x v. Later own u v × GoodFender own v.bindings (ds ++ vs) (labels ++ ls) u.names.number v.names.number x) (IsClause s) (fender go (site_at place level depth) f c.fender u) _ (fender-given f (ds ++ vs) (labels ++ ls) c.fender u seen)
         (λ e v k.
-        gave-after (Gives own given go safe place level depth (ds ++ vs) (labels ++ ls) v) (IsClause s) (go.form place level depth (stamp f c.output) v) (λ o. give (record { pattern = p.pattern; fender = e; output = o }))
+        gave-after (Gives own given go safe place level depth (ds ++ vs) (labels ++ ls) v) (IsClause s) (go.form (site_at place level depth) (stamp f c.output) v) (λ o. give (record { pattern = p.pattern; fender = e; output = o }))
         (gives own given go safe place level depth (ds ++ vs) (labels ++ ls) (stamp f c.output) v (starts-later own given (ds ++ vs) level (labels ++ ls) u v seen k.0))
         (λ o w i. clause-made s p e o u v w b adds.0.up are k.0 i.0 (fender-lifted (ds ++ vs) (labels ++ ls) u.names.number v.names.number e v w i.0 k.1) i.1)))))
       where
@@ -258,22 +260,22 @@ module _ (own : LibName) (given : List Label) (go : Inside) (safe : Safe own giv
     abbrev GivesClauses : State → List Clause → State → Type 0
     GivesClauses s xs u = Later own s u × InTurn (GoodClause own u.bindings vs ls) s.names.number u.names.number xs
 
-    gives-clauses : (cs : List PatternCase) (s : State) → Starts own given vs level ls s → Gave (GivesClauses s) (all_clauses go place level depth literals cs s)
+    gives-clauses : (cs : List PatternCase) (s : State) → Starts own given vs level ls s → Gave (GivesClauses s) (all_clauses go (site_at place level depth) literals cs s)
     gives-clauses cs s h =
-        gave-each (pattern_clause go place level depth literals) (λ c u x v. Later own u v × IsClause u x v) (λ xs u ys v. GivesClauses u ys v) (Starts own given vs level ls) (λ u k. (later-self own u k.0.next, omega arith))
-        (λ c u k. gave-both (λ x v. Later own u v) (IsClause u) (pattern_clause go place level depth literals c u) (moved-clause own go safe.moves place level depth literals c u k.0.next) (gives-clause c u k))
+        gave-each (pattern_clause go (site_at place level depth) literals) (λ c u x v. Later own u v × IsClause u x v) (λ xs u ys v. GivesClauses u ys v) (Starts own given vs level ls) (λ u k. (later-self own u k.0.next, omega arith))
+        (λ c u k. gave-both (λ x v. Later own u v) (IsClause u) (pattern_clause go (site_at place level depth) literals c u) (moved-clause own go safe.moves place level depth literals c u k.0.next) (gives-clause c u k))
         (λ c u v x k j. starts-later own given vs level ls u v k j.0)
         (λ c xs u v w x ys k j a. (later-then own u v w j.0 a.0, (v.names.number, (clauses-grown own v.bindings w.bindings a.0.grows.bound vs ls u.names.number v.names.number (clause_on x.pattern x.fender x.output no_clause) j.1, a.1))))
         cs s h
 
-    pub gives-syntax_case : (subject : Tree) (cs : List PatternCase) (span : Span) (s : State) → Starts own given vs level ls s → Gave (GivesGood own vs ls s) (syntax_case go place level depth subject literals cs span s)
+    pub gives-syntax_case : (subject : Tree) (cs : List PatternCase) (span : Span) (s : State) → Starts own given vs level ls s → Gave (GivesGood own vs ls s) (syntax_case go (site_at place level depth) (syntax_case_parts subject literals cs span) s)
     unfolding syntax_case
     gives-syntax_case subject cs span s h =
-        gave-after (Gives own given go safe place level depth vs ls s) (GivesGood own vs ls s) (go.form place level depth subject s) _ (gives own given go safe place level depth vs ls subject s h)
+        gave-after (Gives own given go safe place level depth vs ls s) (GivesGood own vs ls s) (go.form (site_at place level depth) subject s) _ (gives own given go safe place level depth vs ls subject s h)
         (λ c t j. let h' = starts-later own given vs level ls s t h j.0 in
-        gave-after (λ x u. Later own t u) (GivesGood own vs ls s) (check_literals place literals t) (λ _ u. after (all_clauses go place level depth literals cs u) (λ xs. give (matching c (clauses xs) span))) (literals-later own literals place t h'.0.next)
+        gave-after (λ x u. Later own t u) (GivesGood own vs ls s) (check_literals place literals t) (λ _ u. after (all_clauses go (site_at place level depth) literals cs u) (λ xs. give (matching c (clauses xs) span))) (literals-later own literals place t h'.0.next)
         (λ x u k.
-        gave-after (GivesClauses u) (GivesGood own vs ls s) (all_clauses go place level depth literals cs u) (λ xs. give (matching c (clauses xs) span)) (gives-clauses cs u (starts-later own given vs level ls t u h' k))
+        gave-after (GivesClauses u) (GivesGood own vs ls s) (all_clauses go (site_at place level depth) literals cs u) (λ xs. give (matching c (clauses xs) span)) (gives-clauses cs u (starts-later own given vs level ls t u h' k))
         (λ xs v a. good-matching own v.bindings vs ls s.names.number t.names.number v.names.number c (clauses xs) span (lifted own vs ls s.names.number t.names.number c t v (later-then own t u v k a.0) j.1)
         (clauses-sooner own v.bindings vs ls t.names.number u.names.number v.names.number (clauses xs) k.up (good-clauses own v.bindings vs ls u.names.number v.names.number xs a.1)))))
 
@@ -281,18 +283,18 @@ module _ (own : LibName) (given : List Label) (go : Inside) (safe : Safe own giv
 
   module _ (level : ℕ) (vs : Depths) (ls : List Label) where
     -- forms behind keywords
-    nothing-given : (place : Span) (depth : ℕ) (forms : List Tree) (s : State) → (forms ≡ [] → ⊥) → Starts own given vs level ls s → Gave (GivesGood own vs ls s) (in_sequence go place level depth forms s)
+    nothing-given : (place : Span) (depth : ℕ) (forms : List Tree) (s : State) → (forms ≡ [] → ⊥) → Starts own given vs level ls s → Gave (GivesGood own vs ls s) (in_sequence go (site_at place level depth) forms s)
     nothing-given place depth [] s some h = absurd (some refl)
     nothing-given place depth (x ∷ xs) s some h = gives-sequence own given go safe place level depth vs ls x xs s h
 
-    gives-keywords : (place : Span) (depth : ℕ) (recursive : Bool) (bs : List BindingSpec) (x : Tree) (xs : List Tree) (s : State) → Starts own given vs level ls s → Gave (GivesGood own vs ls s) (keywords_form go place level depth recursive bs (x ∷ xs) s)
+    gives-keywords : (place : Span) (depth : ℕ) (recursive : Bool) (bs : List BindingSpec) (x : Tree) (xs : List Tree) (s : State) → Starts own given vs level ls s → Gave (GivesGood own vs ls s) (keywords_form go (site_at place level depth) (let_syntax_parts recursive bs (x ∷ xs)) s)
     unfolding keywords_form
     gives-keywords place depth recursive bs x xs s h =
-        gave-after (λ ys u. Later own s u × (ys ≡ [] → ⊥)) (GivesGood own vs ls s) (with_keywords go place level depth recursive bs (x ∷ xs) s) (in_sequence go place level depth) (keywords-some own go safe.moves place level depth recursive bs x xs s h.0.next)
-        (λ ys u k. gave-less (GivesGood own vs ls u) (GivesGood own vs ls s) (in_sequence go place level depth ys u) (nothing-given place depth ys u k.1 (starts-later own given vs level ls s u h k.0))
+        gave-after (λ ys u. Later own s u × (ys ≡ [] → ⊥)) (GivesGood own vs ls s) (with_keywords go (site_at place level depth) (let_syntax_parts recursive bs (x ∷ xs)) s) (in_sequence go (site_at place level depth)) (keywords-some own go safe.moves place level depth recursive bs x xs s h.0.next)
+        (λ ys u k. gave-less (GivesGood own vs ls u) (GivesGood own vs ls s) (in_sequence go (site_at place level depth) ys u) (nothing-given place depth ys u k.1 (starts-later own given vs level ls s u h k.0))
         (λ c v j. good-wider own v.bindings vs ls u.names.number v.names.number s.names.number v.names.number c k.0.up (omega arith) j))
 
-    performs : (place : Span) (depth : ℕ) (t : Tree) (p : Plan) (s : State) → Starts own given vs level ls s → Planned own s.bindings vs ls s.names.number p → Gave (GivesGood own vs ls s) (perform go place level depth t p s)
+    performs : (place : Span) (depth : ℕ) (t : Tree) (p : Plan) (s : State) → Starts own given vs level ls s → Planned own s.bindings vs ls s.names.number p → Gave (GivesGood own vs ls s) (perform go (site_at place level depth) t p s)
     unfolding perform
     performs place depth t (plans.Done c) s h k = k
     performs place depth t (plans.Call operator operands) s h k = gives-application own given go safe place level (deeper depth) vs ls operator operands s h
@@ -307,10 +309,8 @@ module _ (own : LibName) (given : List Label) (go : Inside) (safe : Safe own giv
     performs place depth t (plans.Keywords recursive bs []) s h k = elim k [ ]
     performs place depth t (plans.Keywords recursive bs (x ∷ xs)) s h k = gives-keywords place (deeper depth) recursive bs x xs s h
     performs place depth t (plans.Quasi which template) s h k = gives-quasi own given place level t vs ls go safe (deeper depth) which template s h
-    performs place depth t (plans.Use l) s h k = tt
-    performs place depth t (plans.SetUse l id) s h k = tt
 
-    pub gives-form : (place : Span) (depth : ℕ) (t : Tree) (s : State) → Starts own given vs level ls s → Gave (GivesGood own vs ls s) (form_at go place level depth t s)
+    pub gives-form : (place : Span) (depth : ℕ) (t : Tree) (s : State) → Starts own given vs level ls s → Gave (GivesGood own vs ls s) (form_at go (site_at place level depth) t s)
     unfolding form_at
     gives-form place depth t s h =
         gave-if (GivesGood own vs ls s) (nat_lt most_round depth) _ (after (expand_uses go.earlier place level t s) (perform_settled go level depth)) (λ e. tt)

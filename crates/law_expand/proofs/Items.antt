@@ -26,10 +26,11 @@ use Rattle.expand_standing.specs.declared.standing.Role.{Role}
 use Rattle.expand_standing.specs.declared.standing.Role.TheVariants as role
 use Rattle.expand_standing.specs.declared.standing.Standing.{Standing}
 use Rattle.expand_standing.specs.declared.standing.Standing.TheVariants as standing
+use Rattle.expand_heads.specs.declared.item.HeadItem.{HeadItem}
+use Rattle.expand_heads.specs.declared.item.HeadItem.TheVariants as head_items
 use Rattle.expand_heads.specs.Items.{waiting_at, kept_head, keep, any_changed, is_mixed, is_top, with_waiting, heads_like, in_time, keyword_in_time, define, define_keyword, define_item, target_item, set_item, Taking, alone, begin_item, keywords_item, with_shape, item_by, core_item, headed_item, list_item, leaf_by, leaf_item, item_plan}
 use Rattle.expand_heads.specs.Kept.{with_head}
 use Rattle.expand_heads.specs.Plan.{is_letrec_syntax}
-use Rattle.expand_heads.specs.declared.item.Item.{Item}
 use Rattle.expand_heads.specs.declared.item.Item.TheVariants as items
 use Rattle.expand_heads.specs.declared.plan.KeywordUse.TheVariants as keyword_use
 use Rattle.expand_heads.specs.declared.taken.BodyAt.{BodyAt}
@@ -109,18 +110,18 @@ with_kept s d id = record d { kept = with_head d.kept (kept_head s id) }
 abbrev pub with_expression : BodyAt → ℕ → Taken → Tree → Taken
 with_expression at depth d t = record d { waiting = d.waiting ++ waiting_at at depth (waits.Expression t) ∷ []; has_expression = true }
 
-module _ (Q : Taken → Type 0) (P : Taken × Item → State → Type 0) (at : BodyAt) (depth : ℕ) (s : State) (keeps : (d : Taken) (id : Tree) → Q d → Q (with_kept s d id))
-    (waits-so : (d : Taken) (t : Tree) → Q d → P (with_expression at depth d t, items.Nothing) s)
-    (defines : (d : Taken) (t : Tree) (x : Shape) → Q d → Gave P (alone (define_item at depth d t x) s)) (comes : (d : Taken) (i : Item) → Q d → P (d, i) s) where
+module _ (Q : Taken → Type 0) (P : Taken × HeadItem → State → Type 0) (at : BodyAt) (depth : ℕ) (s : State) (keeps : (d : Taken) (id : Tree) → Q d → Q (with_kept s d id))
+    (waits-so : (d : Taken) (t : Tree) → Q d → P (with_expression at depth d t, head_items.Item items.Nothing) s)
+    (defines : (d : Taken) (t : Tree) (x : Shape) → Q d → Gave P (alone (define_item at depth d t x) s)) (comes : (d : Taken) (i : HeadItem) → Q d → P (d, i) s) where
   by-begin : (d : Taken) (t : Tree) (x : Shape) → Q d → Gave P (begin_item at d t x s)
   unfolding begin_item
-  by-begin d t (shapes.Begin forms) k = comes d (items.Forms forms) k
+  by-begin d t (shapes.Begin forms) k = comes d (head_items.Item (items.Forms forms)) k
   by-begin d t _ k = tt
 
   by-keywords : (d : Taken) (t : Tree) (g : CoreForm) (x : Shape) → Q d → Gave P (keywords_item at d t g x s)
   unfolding keywords_item
-  by-keywords d t g (shapes.DefineSyntax id value) k = comes d (items.Keyword (record { id = id; init = value })) k
-  by-keywords d t g (shapes.LetSyntax bs forms) k = comes d (items.Keywords (is_letrec_syntax g) bs forms) k
+  by-keywords d t g (shapes.DefineSyntax id value) k = comes d (head_items.Item (items.Keyword (record { id = id; init = value }))) k
+  by-keywords d t g (shapes.LetSyntax bs forms) k = comes d (head_items.Item (items.Keywords (is_letrec_syntax g) bs forms)) k
   by-keywords d t g _ k = tt
 
   by-target : (d : Taken) (t : Tree) (st : Standing) → Q d → Gave P (target_item at depth d t st s)
@@ -129,7 +130,7 @@ module _ (Q : Taken → Type 0) (P : Taken × Item → State → Type 0) (at : B
   by-target d t standing.PatternVariable k = waits-so d t k
   by-target d t (standing.Primitive op) k = waits-so d t k
   by-target d t (standing.Core g) k = waits-so d t k
-  by-target d t (standing.Keyword l) k = comes d (items.SetUse l) k
+  by-target d t (standing.Keyword l) k = comes d (head_items.SetUse l) k
 
   by-set : (d : Taken) (t : Tree) (r : Result Shape Fault) → Q d → Gave P (set_item at depth d t r s)
   unfolding keep
@@ -147,8 +148,8 @@ module _ (Q : Taken → Type 0) (P : Taken × Item → State → Type 0) (at : B
   by-role d t g role.Sequence k = by-shape (shape g t at.place) (begin_item at d t) (λ x. by-begin d t x k)
   by-role d t g role.Definition k = by-shape (shape g t at.place) (λ x. alone (define_item at depth d t x)) (λ x. defines d t x k)
   by-role d t g role.Keywords k = by-shape (shape g t at.place) (keywords_item at d t g) (λ x. by-keywords d t g x k)
-  by-role d t g role.Record k = comes d (items.Use (keyword_use.Record g)) k
-  by-role d t g role.RecordValue k = comes d (items.Use (keyword_use.Record g)) k
+  by-role d t g role.Record k = comes d (head_items.Use (keyword_use.Record g)) k
+  by-role d t g role.RecordValue k = comes d (head_items.Use (keyword_use.Record g)) k
   by-role d t g role.Auxiliary k = waits-so d t k
 
   by-core : (d : Taken) (t : Tree) (g : CoreForm) → Q d → Gave P (core_item at depth d t g s)
@@ -161,7 +162,7 @@ module _ (Q : Taken → Type 0) (P : Taken × Item → State → Type 0) (at : B
   by-standing d t standing.PatternVariable k = waits-so d t k
   by-standing d t (standing.Primitive op) k = waits-so d t k
   by-standing d t (standing.Core g) k = by-core d t g k
-  by-standing d t (standing.Keyword l) k = comes d (items.Use (keyword_use.Macro l)) k
+  by-standing d t (standing.Keyword l) k = comes d (head_items.Use (keyword_use.Macro l)) k
 
   by-leaf : (d : Taken) (t : Tree) (st : Standing) → Q d → Gave P (leaf_by at depth d t st s)
   by-leaf d t standing.Nothing k = waits-so d t k
@@ -169,7 +170,7 @@ module _ (Q : Taken → Type 0) (P : Taken × Item → State → Type 0) (at : B
   by-leaf d t standing.PatternVariable k = waits-so d t k
   by-leaf d t (standing.Primitive op) k = waits-so d t k
   by-leaf d t (standing.Core g) k = waits-so d t k
-  by-leaf d t (standing.Keyword l) k = comes d (items.Use (keyword_use.Macro l)) k
+  by-leaf d t (standing.Keyword l) k = comes d (head_items.Use (keyword_use.Macro l)) k
 
   by-list : (d : Taken) (t head : Tree) → Q d → Gave P (list_item at depth d t head s)
   unfolding list_item keep
@@ -225,7 +226,7 @@ module _ (own : LibName) (start : State) (at : BodyAt) where
       }
 
   -- what comes of a form: what was taken, and what else is to be done
-  abbrev pub Comes : State → Taken × Item → State → Type 0
+  abbrev pub Comes : State → Taken × HeadItem → State → Type 0
   Comes s p t = Takes own at.frame (is_top at.kind) start s p.0 t
 
   -- only whether a head has moved is told anew
@@ -275,7 +276,7 @@ module _ (own : LibName) (start : State) (at : BodyAt) where
     pub takes-item : (depth : ℕ) (d : Taken) (t : Tree) → Took own (is_top at.kind) start d s → Gave (Comes s) (item_plan at depth d t s)
     takes-item depth d t k = item-cases (λ e. Took own (is_top at.kind) start e s) (Comes s) at depth s (λ e id j. record { labels = j.labels; up = j.up; adds = j.adds; value = j.value })
         (λ e x j. record { later = but-self own at.frame s next; took = took-wait depth e x s j; keeps = keeps-self own s })
-        (λ e x y j. gave-after (TK s) (Comes s) (define_item at depth e x y s) (λ z. give (z, items.Nothing)) (takes-define depth e x y j) (λ z u l. l))
+        (λ e x y j. gave-after (TK s) (Comes s) (define_item at depth e x y s) (λ z. give (z, head_items.Item items.Nothing)) (takes-define depth e x y j) (λ z u l. l))
         (λ e i j. record { later = but-self own at.frame s next; took = j; keeps = keeps-self own s }) d t k
 
     -- the definition of a keyword
@@ -315,13 +316,10 @@ module _ (own : LibName) (rs : List CompiledLibrary) (start : State) where
     set-steps at d t l true s u h = h
     set-steps at d t l false s u h = record { later = h.later; took = took-wait own start at depth d t u h.took; keeps = h.keeps }
 
-    steps-of : (at : BodyAt) (t : Tree) (d : Taken) (i : Item) (s u : State) → Takes own at.frame (is_top at.kind) start s d u → Gave (Steps {A = ItemOrUse} at s) (item_step_of rs at depth t d i u)
-    steps-of at t d items.Nothing s u h = h
-    steps-of at t d (items.Forms forms) s u h = h
-    steps-of at t d (items.Keyword b) s u h = h
-    steps-of at t d (items.Keywords recursive bs forms) s u h = h
-    steps-of at t d (items.Use l) s u h = h
-    steps-of at t d (items.SetUse l) s u h =
+    steps-of : (at : BodyAt) (t : Tree) (d : Taken) (i : HeadItem) (s u : State) → Takes own at.frame (is_top at.kind) start s d u → Gave (Steps {A = ItemOrUse} at s) (item_step_of rs at depth t d i u)
+    steps-of at t d (head_items.Item i) s u h = h
+    steps-of at t d (head_items.Use l) s u h = h
+    steps-of at t d (head_items.SetUse l) s u h =
         gave-after (λ b v. Later own u v) (Steps {A = ItemOrUse} at s) (asks_variable rs (place_of t at.place) l u) (set_item_step at depth d t l) (asks-later own rs (place_of t at.place) l u h.later.next)
         (λ b v k. set-steps at d t l b s v (takes-moved at s u v d h k))
 

@@ -29,6 +29,8 @@ use Rattle.expand_standing.specs.Standing.{label_standing, numbered_as, given_as
 use Rattle.expand_standing.specs.State.{State}
 use Rattle.expand_standing.specs.declared.standing.Standing.{Standing}
 use Rattle.expand_standing.specs.declared.standing.Standing.TheVariants as standing
+use Rattle.expand_heads.specs.declared.plan.HeadPlan.{HeadPlan}
+use Rattle.expand_heads.specs.declared.plan.HeadPlan.TheVariants as head_plans
 use Rattle.expand_heads.specs.Plan.{done, reference, assign, plan_of}
 use Rattle.expand_heads.specs.declared.plan.Plan.{Plan}
 use Rattle.expand_heads.specs.declared.plan.Plan.TheVariants as plans
@@ -65,25 +67,28 @@ Planned own bs vs ls n (plans.Matching subject literals cs span) = Unit {0}
 Planned own bs vs ls n (plans.Keywords recursive specs []) = ⊥
 Planned own bs vs ls n (plans.Keywords recursive specs (x ∷ xs)) = Unit {0}
 Planned own bs vs ls n (plans.Quasi which template) = Unit {0}
-Planned own bs vs ls n (plans.Use l) = Unit {0}
-Planned own bs vs ls n (plans.SetUse l id) = Unit {0}
 
-forms-planned : (own : LibName) (bs : Bindings) (vs : Depths) (ls : List Label) (n : ℕ) (p : Plan) → IsOfForms p → Planned own bs vs ls n p
-forms-planned own bs vs ls n (plans.Done c) h = elim h [ ]
-forms-planned own bs vs ls n (plans.Call operator operands) h = tt
-forms-planned own bs vs ls n (plans.Conditional test consequent other) h = tt
-forms-planned own bs vs ls n (plans.Assignment l value) h = elim h [ ]
-forms-planned own bs vs ls n (plans.Sequence []) h = elim h [ ]
-forms-planned own bs vs ls n (plans.Sequence (x ∷ xs)) h = tt
-forms-planned own bs vs ls n (plans.Lambda ids forms) h = tt
-forms-planned own bs vs ls n (plans.CaseLambda cs) h = tt
-forms-planned own bs vs ls n (plans.Letrec star specs forms) h = tt
-forms-planned own bs vs ls n (plans.Matching subject literals cs span) h = tt
-forms-planned own bs vs ls n (plans.Keywords recursive specs []) h = elim h [ ]
-forms-planned own bs vs ls n (plans.Keywords recursive specs (x ∷ xs)) h = tt
-forms-planned own bs vs ls n (plans.Quasi which template) h = tt
-forms-planned own bs vs ls n (plans.Use l) h = tt
-forms-planned own bs vs ls n (plans.SetUse l id) h = elim h [ ]
+abbrev pub HeadPlanned : LibName → Bindings → Depths → List Label → ℕ → HeadPlan → Type 0
+HeadPlanned own bs vs ls n (head_plans.Plan p) = Planned own bs vs ls n p
+HeadPlanned own bs vs ls n (head_plans.Use l) = Unit {0}
+HeadPlanned own bs vs ls n (head_plans.SetUse l id) = Unit {0}
+
+forms-planned : (own : LibName) (bs : Bindings) (vs : Depths) (ls : List Label) (n : ℕ) (p : HeadPlan) → IsOfForms p → HeadPlanned own bs vs ls n p
+forms-planned own bs vs ls n (head_plans.Plan (plans.Done c)) h = elim h [ ]
+forms-planned own bs vs ls n (head_plans.Plan (plans.Call operator operands)) h = tt
+forms-planned own bs vs ls n (head_plans.Plan (plans.Conditional test consequent other)) h = tt
+forms-planned own bs vs ls n (head_plans.Plan (plans.Assignment l value)) h = elim h [ ]
+forms-planned own bs vs ls n (head_plans.Plan (plans.Sequence [])) h = elim h [ ]
+forms-planned own bs vs ls n (head_plans.Plan (plans.Sequence (x ∷ xs))) h = tt
+forms-planned own bs vs ls n (head_plans.Plan (plans.Lambda ids forms)) h = tt
+forms-planned own bs vs ls n (head_plans.Plan (plans.CaseLambda cs)) h = tt
+forms-planned own bs vs ls n (head_plans.Plan (plans.Letrec star specs forms)) h = tt
+forms-planned own bs vs ls n (head_plans.Plan (plans.Matching subject literals cs span)) h = tt
+forms-planned own bs vs ls n (head_plans.Plan (plans.Keywords recursive specs [])) h = elim h [ ]
+forms-planned own bs vs ls n (head_plans.Plan (plans.Keywords recursive specs (x ∷ xs))) h = tt
+forms-planned own bs vs ls n (head_plans.Plan (plans.Quasi which template)) h = tt
+forms-planned own bs vs ls n (head_plans.Use l) h = tt
+forms-planned own bs vs ls n (head_plans.SetUse l id) h = elim h [ ]
 
 below : (m k : ℕ) → nat_lt m k ≡ true → m < k
 below m k e = omega (arith, ltb-true)
@@ -145,10 +150,10 @@ module _ (own : LibName) (given : List Label) (vs : Depths) (level : ℕ) (ls : 
   -- Plans.
 
   -- at this state
-  abbrev P : Plan → State → Type 0
-  P p t = Planned own t.bindings vs ls t.names.number p
+  abbrev P : HeadPlan → State → Type 0
+  P p t = HeadPlanned own t.bindings vs ls t.names.number p
 
-  planned-standing : (st : Standing) (p : Plan) → Fits level ls s st → RefersBy level s st p → P p s
+  planned-standing : (st : Standing) (p : HeadPlan) → Fits level ls s st → RefersBy level s st p → P p s
   planned-standing standing.Nothing p h k = elim k [ ]
   planned-standing (standing.Variable v) p h k = subst (λ q. P q s) (sym k.0) (good-variable own s.bindings vs ls s.names.number s.names.number v.label (omega arith) h.1 (h.0 k.1))
   planned-standing standing.PatternVariable p h k = elim k [ ]
@@ -157,9 +162,9 @@ module _ (own : LibName) (given : List Label) (vs : Depths) (level : ℕ) (ls : 
   planned-standing (standing.Keyword l) p h k = subst (λ q. P q s) (sym k) tt
 
   -- noting an assignment changes no binding
-  assigned-standing : (somewhere : Span) (id value : Tree) (st : Standing) (p : Plan) (u : State) → Fits level ls s st → AssignsBy somewhere level s id value st p u → P p u
+  assigned-standing : (somewhere : Span) (id value : Tree) (st : Standing) (p : HeadPlan) (u : State) → Fits level ls s st → AssignsBy somewhere level s id value st p u → P p u
   assigned-standing somewhere id value standing.Nothing p u h k = elim k [ ]
-  assigned-standing somewhere id value (standing.Variable v) p u h k = subst (λ q. P q u) (sym k.0) (subst (λ (t : State). P (plans.Assignment v.label value) t) (sym k.1.0) (h.1, h.0 k.1.1))
+  assigned-standing somewhere id value (standing.Variable v) p u h k = subst (λ q. P q u) (sym k.0) (subst (λ (t : State). P (head_plans.Plan (plans.Assignment v.label value)) t) (sym k.1.0) (h.1, h.0 k.1.1))
   assigned-standing somewhere id value standing.PatternVariable p u h k = elim k [ ]
   assigned-standing somewhere id value (standing.Primitive op) p u h k = elim k [ ]
   assigned-standing somewhere id value (standing.Core f) p u h k = elim k [ ]
@@ -180,7 +185,7 @@ module _ (own : LibName) (given : List Label) (vs : Depths) (level : ℕ) (ls : 
       (λ x id value. gave-less (AssignsBy place level s id value (standing_of s id)) P (assign place level x id value s) (assign-is place level s x id value)
       (λ p u k. assigned-standing place id value (standing_of s id) p u (fits id) k))
       (λ x operand. gave-after (IsTemplate place level operand s) P (template_of place level operand s) (λ y. done (instance y (place_of x place))) (template-is place level operand s)
-      (λ y u k. let suits = template-suits place operand y u k in subst (P (plans.Done (instance y (place_of x place)))) (sym k.same) (good-instance own s.bindings vs ls s.names.number s.names.number y (place_of x place) (omega arith) suits.1 suits.0)))
+      (λ y u k. let suits = template-suits place operand y u k in subst (P (head_plans.Plan (plans.Done (instance y (place_of x place))))) (sym k.same) (good-instance own s.bindings vs ls s.names.number s.names.number y (place_of x place) (omega arith) suits.1 suits.0)))
       (λ p h. forms-planned own s.bindings vs ls s.names.number p h) t
 
 -- Later states, and more labels.

@@ -37,6 +37,8 @@ use Rattle.expand_standing.specs.State.{State, Does, fresh, fault_form, note}
 use Rattle.expand_standing.specs.declared.standing.Standing.TheVariants as standing
 use Rattle.expand_standing.specs.declared.standing.Standing.{Standing}
 use Rattle.expand_standing.proofs.Noted.{noted-keeps}
+use Rattle.expand_heads.specs.declared.plan.HeadPlan.{HeadPlan}
+use Rattle.expand_heads.specs.declared.plan.HeadPlan.TheVariants as head_plans
 use Rattle.expand_heads.specs.Depth.{most_round}
 use Rattle.expand_heads.specs.Plan.{reference, target_by, plan_of}
 use Rattle.expand_heads.specs.declared.plan.KeywordUse.{KeywordUse}
@@ -49,6 +51,7 @@ use Rattle.expand_forms.specs.ExpandUses.{next_form, too_many, step_of, step, li
 use Rattle.expand_forms.specs.declared.expand_uses.PlannedForm.{PlannedForm}
 use Rattle.expand_forms.specs.declared.expand_uses.PlanOrUse.{PlanOrUse}
 use Rattle.expand_forms.specs.declared.expand_uses.PlanOrUse.TheVariants as steps
+use Rattle.expand_forms.specs.Site.{site_at}
 use Rattle.law_expand.specs.Named.{RefersTo, IsUse, ReferencesNameBinders, AssignmentsNameBinders, BindersAreFound, BindersStay}
 use Rattle.law_expand.specs.States.{IsOld}
 use Rattle.law_expand.specs.Trees.{StampsAre, LeavesAre}
@@ -102,12 +105,12 @@ UseOf st (keyword_use.Macro l) = st ≡ standing.Keyword l
 UseOf st (keyword_use.Record f) = ⊥
 
 -- a reference to what the leaf stands for, or a use
-abbrev Finishes : State → Option Label → Standing → Plan → State → Type 0
-Finishes s o st (plans.Done c) u = RefersTo s o c × (u ≡ s)
-Finishes s o st (plans.Use k) u = UseOf st k × (u ≡ s)
+abbrev Finishes : State → Option Label → Standing → HeadPlan → State → Type 0
+Finishes s o st (head_plans.Plan (plans.Done c)) u = RefersTo s o c × (u ≡ s)
+Finishes s o st (head_plans.Use k) u = UseOf st k × (u ≡ s)
 Finishes s o st _ u = ⊥
 
-finishes : (level : ℕ) (s : State) (l : Label) (st : Standing) (p : Plan) (u : State) → label_standing s l ≡ st → OfLabel l st → u ≡ s → RefersBy level s st p → Finishes s (Some l) st p u
+finishes : (level : ℕ) (s : State) (l : Label) (st : Standing) (p : HeadPlan) (u : State) → label_standing s l ≡ st → OfLabel l st → u ≡ s → RefersBy level s st p → Finishes s (Some l) st p u
 finishes level s l standing.Nothing p u is of same h = elim h [ ]
 finishes level s l (standing.Variable v) p u is of same h = subst (λ q. Finishes s (Some l) (standing.Variable v) q u) (sym h.0) (inl (ap variable of), same)
 finishes level s l standing.PatternVariable p u is of same h = elim h [ ]
@@ -119,7 +122,7 @@ reference-named : (place : Span) (level : ℕ) (id : Tree) (s : State) → Gave 
 unfolding standing_of
 reference-named place level id s = gave-less (Refers place level s (standing_by s (stands s.frames id))) (Finishes s (stands s.frames id) (standing_by s (stands s.frames id))) (reference place level id s) (reference-is place level s id) (λ p u k. by (stands s.frames id) p u k)
   where
-    by : (o : Option Label) (p : Plan) (u : State) → Refers place level s (standing_by s o) p u → Finishes s o (standing_by s o) p u
+    by : (o : Option Label) (p : HeadPlan) (u : State) → Refers place level s (standing_by s o) p u → Finishes s o (standing_by s o) p u
     by None p u k = elim k.1 [ ]
     by (Some l) p u k = finishes level s l (label_standing s l) p u refl (label-kept s l) k.0 k.1
 
@@ -139,9 +142,9 @@ module _ (rs : List CompiledLibrary) (place : Span) (level : ℕ) (t : Tree) (s 
   use-named (keyword_use.Macro l) h = (l, h)
   use-named (keyword_use.Record f) h = elim h [ ]
 
-  step-named : (p : Plan) (u : State) → Finishes s (stands s.frames t) (standing_of s t) p u → Gave IsStep (step_of rs place t p u)
-  step-named (plans.Done c) u h = (c, (refl, h))
-  step-named (plans.Use k) u h = use-named k h.0
+  step-named : (p : HeadPlan) (u : State) → Finishes s (stands s.frames t) (standing_of s t) p u → Gave IsStep (step_of rs place t p u)
+  step-named (head_plans.Plan (plans.Done c)) u h = (c, (refl, h))
+  step-named (head_plans.Use k) u h = use-named k h.0
   step-named _ u h = elim h [ ]
 
   -- whatever comes of a use
@@ -165,11 +168,11 @@ module _ (rs : List CompiledLibrary) (place : Span) (level : ℕ) (t : Tree) (s 
 
   pub performs-named : (go : Inside) (depth : ℕ) (d : PlannedForm) (u : State) → IsSettled d u → Gave Answers (perform_settled go level depth d u)
   unfolding perform
-  performs-named go depth d u (inl h) = subst (λ (p : Plan). Gave Answers (perform go d.place level depth d.form p u)) (sym h.1.0) (inl h.1.1)
+  performs-named go depth d u (inl h) = subst (λ (p : Plan). Gave Answers (perform go (site_at d.place level depth) d.form p u)) (sym h.1.0) (inl h.1.1)
   performs-named go depth d u (inr h) = any Answers (perform_settled go level depth d u) (λ a v. inr h)
 
 form-named : (rs : List CompiledLibrary) (room : ℕ) (place : Span) (level depth : ℕ) (t : Tree) (s : State) → is_leaf t ≡ true
-    → Gave (λ c u. (RefersTo s (stands s.frames t) c × (u ≡ linked_code t c s)) ⊎ IsUse s t) ((inside rs room).form place level depth t s)
+    → Gave (λ c u. (RefersTo s (stands s.frames t) c × (u ≡ linked_code t c s)) ⊎ IsUse s t) ((inside rs room).form (site_at place level depth) t s)
 unfolding inside form_at
 form-named rs zero place level depth t s h = tt
 form-named rs (suc room) place level depth (leaf r x c) s h =
@@ -182,7 +185,7 @@ form-named rs (suc room) place level depth (pair r a d) s h = absurd (cc)
 form-named rs (suc room) place level depth (vector r d) s h = absurd (cc)
 
 pub references-named : ReferencesNameBinders
-references-named rs room place level depth t s u c h e = told (λ d v. (RefersTo s (stands s.frames t) d × (v ≡ linked_code t d s)) ⊎ IsUse s t) ((inside rs room).form place level depth t s) c u (form-named rs room place level depth t s h) e
+references-named rs room place level depth t s u c h e = told (λ d v. (RefersTo s (stands s.frames t) d × (v ≡ linked_code t d s)) ⊎ IsUse s t) ((inside rs room).form (site_at place level depth) t s) c u (form-named rs room place level depth t s h) e
 
 -- Assignments.
 

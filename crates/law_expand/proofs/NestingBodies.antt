@@ -25,6 +25,8 @@ use Rattle.expand_heads.specs.declared.taken.Waits.{Waits}
 use Rattle.expand_heads.specs.declared.taken.Waits.TheVariants as waits
 use Rattle.expand_forms.specs.Body.{splice, no_value, value_of, finish_as, finish_one, finish_all, sequence_of, inits_in, values_in, with_inits, body_core, finish, lambda_at, body_in, body}
 use Rattle.expand_forms.specs.Inside.{Inside}
+use Rattle.expand_forms.specs.Site.{site_at}
+use Rattle.expand_forms.specs.Forms.{procedure_parts}
 use Rattle.law_expand.specs.States.{Later}
 use Rattle.law_expand.specs.Shallow.{deepest}
 use Rattle.law_expand.proofs.Acts.{Gave, gave-after, gave-both, gave-gather, gave-if, gave-less, gave-within}
@@ -43,8 +45,8 @@ use Rattle.law_expand.proofs.NestingItems.{IsDeep, AreWaiting, waiting-grown}
 -- what is done inside forms nests so
 pub record Nests (own : LibName) (go : Inside) : Type 0 where
   pub moves : Moves own go
-  pub form : (place : Span) (level depth : ℕ) (t : Tree) (s : State) → Here own s → Gave (λ c u. Within u.bindings level depth deepest c) (go.form place level depth t s)
-  pub procedure : (place : Span) (level depth : ℕ) (t : Tree) (ids : FormalIds) (forms : List Tree) (s : State) → depth ≤ most_round + 1 → Here own s → Gave (λ c u. WithinCase u.bindings level depth (deepest + 2) c) (go.procedure place level depth t ids forms s)
+  pub form : (place : Span) (level depth : ℕ) (t : Tree) (s : State) → Here own s → Gave (λ c u. Within u.bindings level depth deepest c) (go.form (site_at place level depth) t s)
+  pub procedure : (place : Span) (level depth : ℕ) (t : Tree) (ids : FormalIds) (forms : List Tree) (s : State) → depth ≤ most_round + 1 → Here own s → Gave (λ c u. WithinCase u.bindings level depth (deepest + 2) c) (go.procedure (site_at place level depth) (procedure_parts t ids forms) s)
   pub item : (at : BodyAt) (base depth : ℕ) (d : Taken) (t : Tree) (start s : State) → base ≤ depth → Here own s → (is_top at.kind ≡ true → at.level ≡ 0) → Took own (is_top at.kind) start d s → AreWaiting at base d s.bindings
       → Gave (λ e u. AreWaiting at base e u.bindings) (go.item at depth d t s)
 
@@ -88,10 +90,10 @@ module _ (own : LibName) (go : Inside) (nests : Nests own go) where
       let f = datum.atom None (atoms.Bool false) in
       one_armed-within bs level depth (deepest + 1) (deepest + 2) (omega arith) (quoted f) (quoted f) (quoted-within bs level depth (deepest + 1) f (omega (arith, le))) (quoted-within bs level depth (deepest + 1) f (omega (arith, le)))
 
-  value-nests : (place : Span) (level depth : ℕ) (o : Option Tree) (s : State) → depth ≤ most_round + 1 → Here own s → Gave (λ c u. Within u.bindings level depth (deepest + 2) c) (value_of go place level depth o s)
+  value-nests : (place : Span) (level depth : ℕ) (o : Option Tree) (s : State) → depth ≤ most_round + 1 → Here own s → Gave (λ c u. Within u.bindings level depth (deepest + 2) c) (value_of go (site_at place level depth) o s)
   value-nests place level depth None s le h = no-value-within s.bindings level depth le
   value-nests place level depth (Some t) s le h =
-      gave-less (λ c u. Within u.bindings level depth deepest c) (λ c u. Within u.bindings level depth (deepest + 2) c) (go.form place level depth t s) (nests.form place level depth t s h) (λ c u k. within-at u.bindings level depth deepest depth (deepest + 2) c (omega arith) k)
+      gave-less (λ c u. Within u.bindings level depth deepest c) (λ c u. Within u.bindings level depth (deepest + 2) c) (go.form (site_at place level depth) t s) (nests.form place level depth t s h) (λ c u k. within-at u.bindings level depth deepest depth (deepest + 2) c (omega arith) k)
 
   -- what stands one deeper, nearer
   nearer : (bs : Bindings) (level base depth n : ℕ) (c : PlainCore) → base ≤ depth → depth ≤ most_round → n ≤ (deepest + 4) → Within bs level (deeper depth) n c → Within bs level base deepest c
@@ -100,26 +102,26 @@ module _ (own : LibName) (go : Inside) (nests : Nests own go) where
       within-at bs level (depth + 1) n base deepest c (omega (arith, le, most)) (subst (λ d. Within bs level d n c) next h)
 
   line-nests : (level base depth : ℕ) (place : Span) (w : Waits) (s : State) → base ≤ depth → depth ≤ most_round → Here own s
-      → Gave (λ x u. Within u.bindings level base deepest (line_core x) × (line_kind x ≡ wait_kind w)) (finish_as go level place depth w s)
+      → Gave (λ x u. Within u.bindings level base deepest (line_core x) × (line_kind x ≡ wait_kind w)) (finish_as go (site_at place level depth) w s)
   unfolding finish_as fresh
   line-nests level base depth place (waits.Variable l value) s le room h =
-      gave-after (λ c u. Within u.bindings level (deeper depth) (deepest + 2) c) (λ x u. Within u.bindings level base deepest (line_core x) × (line_kind x ≡ wait_kind (waits.Variable l value))) (value_of go place level (deeper depth) value s) (λ c. give (line.Define l c))
+      gave-after (λ c u. Within u.bindings level (deeper depth) (deepest + 2) c) (λ x u. Within u.bindings level base deepest (line_core x) × (line_kind x ≡ wait_kind (waits.Variable l value))) (value_of go (site_at place level (deeper depth)) value s) (λ c. give (line.Define l c))
       (value-nests place level (deeper depth) value s (let e = deeper-next depth room in omega (arith, e, room)) h)
       (λ c u k. (nearer u.bindings level base depth (deepest + 2) c le room (omega arith) k, refl))
   line-nests level base depth place (waits.Procedure l x ids forms) s le room h =
       let n = s.names in
       let up : deeper depth ≤ most_round + 1 = let e = deeper-next depth room in omega (arith, e, room) in
-      gave-after (λ c u. WithinCase u.bindings level (deeper depth) (deepest + 2) c) (λ y u. Within u.bindings level base deepest (line_core y) × (line_kind y ≡ wait_kind (waits.Procedure l x ids forms))) (go.procedure place level (deeper depth) x ids forms (counted s))
+      gave-after (λ c u. WithinCase u.bindings level (deeper depth) (deepest + 2) c) (λ y u. Within u.bindings level base deepest (line_core y) × (line_kind y ≡ wait_kind (waits.Procedure l x ids forms))) (go.procedure (site_at place level (deeper depth)) (procedure_parts x ids forms) (counted s))
       (λ c. give (line.Define l (procedure (record { 0 = n }) (cases (c ∷ [])) true)))
       (nests.procedure place level (deeper depth) x ids forms (counted s) up (here-counted own s h))
       (λ c u k. (nearer u.bindings level base depth (deepest + 3) (procedure (record { 0 = n }) (cases (c ∷ [])) true) le room (omega arith) (procedure-within u.bindings level (deeper depth) (deepest + 2) (deepest + 3) (omega arith) (omega (arith, up)) (record { 0 = n }) (c ∷ []) true (k, tt)), refl))
   line-nests level base depth place (waits.Expression x) s le room h =
-      gave-after (λ c u. Within u.bindings level depth deepest c) (λ y u. Within u.bindings level base deepest (line_core y) × (line_kind y ≡ wait_kind (waits.Expression x))) (go.form place level depth x s) (λ c. give (line.Expr c)) (nests.form place level depth x s h)
+      gave-after (λ c u. Within u.bindings level depth deepest c) (λ y u. Within u.bindings level base deepest (line_core y) × (line_kind y ≡ wait_kind (waits.Expression x))) (go.form (site_at place level depth) x s) (λ c. give (line.Expr c)) (nests.form place level depth x s h)
       (λ c u k. (within-at u.bindings level depth deepest base deepest c (omega (arith, le)) k, refl))
 
   one-nests : (level base : ℕ) (w : Waiting) (s : State) → IsDeep base w → Here own s → Gave (λ x u. Later own s u × LineWithin u.bindings level base w x) (finish_one go level w s)
   one-nests level base w s deep h =
-      gave-both (λ x u. Later own s u) (λ x u. LineWithin u.bindings level base w x) (finish_as go level w.place w.depth w.what s) (moved-line own go nests.moves level w.place w.depth w.what s h.0) (line-nests level base w.depth w.place w.what s deep.0 deep.1 h)
+      gave-both (λ x u. Later own s u) (λ x u. LineWithin u.bindings level base w x) (finish_as go (site_at w.place level w.depth) w.what s) (moved-line own go nests.moves level w.place w.depth w.what s h.0) (line-nests level base w.depth w.place w.what s deep.0 deep.1 h)
 
   pub lines-nest : (level base : ℕ) (ws : List Waiting) (s : State) → Each (IsDeep base) ws → Here own s → Gave (λ xs u. Later own s u × Pairs (LineWithin u.bindings level base) ws xs) (finish_all go level ws s)
   lines-nest level base ws s deep h =
@@ -166,13 +168,13 @@ module _ (own : LibName) (go : Inside) (nests : Nests own go) where
   pub first-nests : (at : BodyAt) (depth : ℕ) (forms : List Tree) (s : State) → Here own s → (is_top at.kind ≡ true → at.level ≡ 0) → Gave (λ e t. Splices at depth s s e t) (splice go at depth begun forms s)
   first-nests at depth forms s h low = splice-nests at depth depth s begun forms s (omega arith) h low (took-none own (is_top at.kind) s) (record { deep = tt; labels = tt })
 
-  pub body-nests : (place : Span) (level depth : ℕ) (t : Tree) (forms : List Tree) (s : State) → depth ≤ most_round + 1 → Here own s → Gave (λ c u. Within u.bindings level depth (deepest + 2) c) (body go place level depth t forms s)
+  pub body-nests : (place : Span) (level depth : ℕ) (t : Tree) (forms : List Tree) (s : State) → depth ≤ most_round + 1 → Here own s → Gave (λ c u. Within u.bindings level depth (deepest + 2) c) (body go (site_at place level depth) t forms s)
   unfolding body fresh_frame
   body-nests place level depth t forms s room h =
       let at = lambda_at (as_frame s.names) place level in
       let some = map (stamp (as_frame s.names)) forms in
       let next = here-counted own s h in
-      gave-within (λ c u. Within u.bindings level depth (deepest + 2) c) (λ u. after (fresh_frame u) (body_in go place level depth t forms)) s
+      gave-within (λ c u. Within u.bindings level depth (deepest + 2) c) (λ u. after (fresh_frame u) (body_in go (site_at place level depth) t forms)) s
       (gave-after (λ d u. Splices at depth (counted s) (counted s) d u) (λ c u. Within u.bindings level depth (deepest + 2) c) (splice go at depth begun some (counted s)) (finish go place level t)
       (first-nests at depth some (counted s) next (λ e. absurd (cc)))
       (λ d u k. finish-nests at place depth t d u room (here-but own at.frame (counted s) u next k.takes.later) k.waiting))

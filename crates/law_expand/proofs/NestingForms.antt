@@ -31,6 +31,8 @@ use Rattle.expand_standing.specs.declared.standing.Standing.{Standing}
 use Rattle.expand_standing.specs.declared.standing.Standing.TheVariants as standing
 use Rattle.expand_standing.specs.declared.standing.Variable.{Variable}
 use Rattle.expand_standing.specs.InScope.{is_in_scope}
+use Rattle.expand_heads.specs.declared.plan.HeadPlan.{HeadPlan}
+use Rattle.expand_heads.specs.declared.plan.HeadPlan.TheVariants as head_plans
 use Rattle.expand_heads.specs.Depth.{deeper, most_round}
 use Rattle.expand_heads.specs.Items.{is_top}
 use Rattle.expand_heads.specs.Plan.{variable_at, refer, reference, target_by, assign_to, assign_by, assign, done, plan_of}
@@ -50,6 +52,8 @@ use Rattle.expand_forms.specs.ExpandUses.{step, step_of, set_step, planned_by, n
 use Rattle.expand_forms.specs.declared.expand_uses.PlannedForm.{PlannedForm}
 use Rattle.expand_forms.specs.declared.expand_uses.PlanOrUse.{PlanOrUse}
 use Rattle.expand_forms.specs.declared.expand_uses.PlanOrUse.TheVariants as steps
+use Rattle.expand_forms.specs.Site.{site_at}
+use Rattle.expand_forms.specs.Forms.{definition_parts, if_parts, let_syntax_parts, letrec_parts, procedure_parts, syntax_case_parts, template_parts}
 use Rattle.law_expand.specs.States.{Later}
 use Rattle.law_expand.specs.Shallow.{deepest}
 use Rattle.law_expand.proofs.Acts.{Gave, gave-any, gave-after, gave-both, gave-if, gave-less, gave-within}
@@ -84,26 +88,29 @@ IsShort (plans.Letrec star bs forms) = Unit {0}
 IsShort (plans.Matching subject literals cs span) = Unit {0}
 IsShort (plans.Keywords recursive bs forms) = Unit {0}
 IsShort (plans.Quasi which template) = Unit {0}
-IsShort (plans.Use l) = Unit {0}
-IsShort (plans.SetUse l id) = Unit {0}
 
-abbrev Short : Plan → State → Type 0
-Short p s = IsShort p
+abbrev pub HeadIsShort : HeadPlan → Type 0
+HeadIsShort (head_plans.Plan p) = IsShort p
+HeadIsShort (head_plans.Use l) = Unit {0}
+HeadIsShort (head_plans.SetUse l id) = Unit {0}
 
-forms-short : (p : Plan) → IsOfForms p → IsShort p
-forms-short (plans.Done c) h = elim h [ ]
-forms-short (plans.Call operator operands) h = tt
-forms-short (plans.Conditional test consequent other) h = tt
-forms-short (plans.Assignment l value) h = tt
-forms-short (plans.Sequence forms) h = tt
-forms-short (plans.Lambda ids forms) h = tt
-forms-short (plans.CaseLambda cs) h = tt
-forms-short (plans.Letrec star bs forms) h = tt
-forms-short (plans.Matching subject literals cs span) h = tt
-forms-short (plans.Keywords recursive bs forms) h = tt
-forms-short (plans.Quasi which template) h = tt
-forms-short (plans.Use l) h = tt
-forms-short (plans.SetUse l id) h = tt
+abbrev Short : HeadPlan → State → Type 0
+Short p s = HeadIsShort p
+
+forms-short : (p : HeadPlan) → IsOfForms p → HeadIsShort p
+forms-short (head_plans.Plan (plans.Done c)) h = elim h [ ]
+forms-short (head_plans.Plan (plans.Call operator operands)) h = tt
+forms-short (head_plans.Plan (plans.Conditional test consequent other)) h = tt
+forms-short (head_plans.Plan (plans.Assignment l value)) h = tt
+forms-short (head_plans.Plan (plans.Sequence forms)) h = tt
+forms-short (head_plans.Plan (plans.Lambda ids forms)) h = tt
+forms-short (head_plans.Plan (plans.CaseLambda cs)) h = tt
+forms-short (head_plans.Plan (plans.Letrec star bs forms)) h = tt
+forms-short (head_plans.Plan (plans.Matching subject literals cs span)) h = tt
+forms-short (head_plans.Plan (plans.Keywords recursive bs forms)) h = tt
+forms-short (head_plans.Plan (plans.Quasi which template)) h = tt
+forms-short (head_plans.Use l) h = tt
+forms-short (head_plans.SetUse l id) h = tt
 
 module _ (place : Span) (level : ℕ) where
   variable-short : (id : Tree) (v : Variable) (s : State) → Gave Short (variable_at place level id v s)
@@ -154,20 +161,10 @@ module _ (rs : List CompiledLibrary) where
   set-short place t l id true u = tt
   set-short place t l id false u = tt
 
-  steps-short : (place : Span) (t : Tree) (p : Plan) (u : State) → IsShort p → Gave StepShort (step_of rs place t p u)
-  steps-short place t (plans.Done c) u k = k
-  steps-short place t (plans.Call operator operands) u k = k
-  steps-short place t (plans.Conditional test consequent other) u k = k
-  steps-short place t (plans.Assignment l value) u k = k
-  steps-short place t (plans.Sequence forms) u k = k
-  steps-short place t (plans.Lambda ids forms) u k = k
-  steps-short place t (plans.CaseLambda cs) u k = k
-  steps-short place t (plans.Letrec star bs forms) u k = k
-  steps-short place t (plans.Matching subject literals cs span) u k = k
-  steps-short place t (plans.Keywords recursive bs forms) u k = k
-  steps-short place t (plans.Quasi which template) u k = k
-  steps-short place t (plans.Use l) u k = tt
-  steps-short place t (plans.SetUse l id) u k =
+  steps-short : (place : Span) (t : Tree) (p : HeadPlan) (u : State) → HeadIsShort p → Gave StepShort (step_of rs place t p u)
+  steps-short place t (head_plans.Plan p) u k = k
+  steps-short place t (head_plans.Use l) u k = tt
+  steps-short place t (head_plans.SetUse l id) u k =
       gave-after (λ b v. Unit {0}) StepShort (asks_variable rs (place_of t place) l u) (set_step place t l id) (gave-any (λ b v. Unit {0}) (asks_variable rs (place_of t place) l u) (λ b v. tt)) (λ b v j. set-short place t l id b v)
 
   step-short : (place : Span) (level : ℕ) (t : Tree) (s : State) → Gave StepShort (step rs place level t s)
@@ -203,52 +200,52 @@ module _ (own : LibName) (go : Inside) (nests : Nests own go) where
     abbrev L : ℕ → State → PlainCore → State → Type 0
     L n s c u = Later own s u × C n c u
 
-    form-both : (t : Tree) (s : State) → Here own s → Gave (L deepest s) (go.form place level depth t s)
-    form-both t s h = gave-both (λ c u. Later own s u) (C deepest) (go.form place level depth t s) (nests.moves.form place level depth t s h.0) (nests.form place level depth t s h)
+    form-both : (t : Tree) (s : State) → Here own s → Gave (L deepest s) (go.form (site_at place level depth) t s)
+    form-both t s h = gave-both (λ c u. Later own s u) (C deepest) (go.form (site_at place level depth) t s) (nests.moves.form place level depth t s h.0) (nests.form place level depth t s h)
 
     abbrev All : State → List PlainCore → State → Type 0
     All s cs u = Later own s u × Each (Within u.bindings level depth deepest) cs
 
-    order-nests : (forms : List Tree) (s : State) → Here own s → Gave (All s) (in_order go place level depth forms s)
+    order-nests : (forms : List Tree) (s : State) → Here own s → Gave (All s) (in_order go (site_at place level depth) forms s)
     order-nests forms s h =
-        gave-less (λ cs u. Later own s u × Pairs (λ (x : Tree). Within u.bindings level depth deepest) forms cs) (All s) (in_order go place level depth forms s)
-        (gave-pairs own (go.form place level depth) (λ x. Unit {0}) (λ bs x c. Within bs level depth deepest c) (λ bs cs ext x c k. within-grown bs cs ext level depth deepest c k) (λ x t q k. form-both x t k) forms s (nothing-asked forms) h)
+        gave-less (λ cs u. Later own s u × Pairs (λ (x : Tree). Within u.bindings level depth deepest) forms cs) (All s) (in_order go (site_at place level depth) forms s)
+        (gave-pairs own (go.form (site_at place level depth)) (λ x. Unit {0}) (λ bs x c. Within bs level depth deepest c) (λ bs cs ext x c k. within-grown bs cs ext level depth deepest c k) (λ x t q k. form-both x t k) forms s (nothing-asked forms) h)
         (λ cs u k. (k.0, pairs-each (λ (x : Tree). Within u.bindings level depth deepest) (Within u.bindings level depth deepest) (λ x c j. j) forms cs k.1))
 
     module _ (room : depth ≤ most_round + 1) where
-      application-nests : (operator : Tree) (operands : List Tree) (s : State) → Here own s → Gave (C (deepest + 3)) (application go place level depth operator operands s)
+      application-nests : (operator : Tree) (operands : List Tree) (s : State) → Here own s → Gave (C (deepest + 3)) (application go (site_at place level depth) operator operands s)
       unfolding application
       application-nests operator operands s h =
-          gave-after (L deepest s) (C (deepest + 3)) (go.form place level depth operator s) (λ c s'. after (in_order go place level depth operands s') (λ cs. give (call c (cores cs)))) (form-both operator s h)
-          (λ c t j. gave-after (All t) (C (deepest + 3)) (in_order go place level depth operands t) (λ cs. give (call c (cores cs))) (order-nests operands t (here-later own s t h j.0))
+          gave-after (L deepest s) (C (deepest + 3)) (go.form (site_at place level depth) operator s) (λ c s'. after (in_order go (site_at place level depth) operands s') (λ cs. give (call c (cores cs)))) (form-both operator s h)
+          (λ c t j. gave-after (All t) (C (deepest + 3)) (in_order go (site_at place level depth) operands t) (λ cs. give (call c (cores cs))) (order-nests operands t (here-later own s t h j.0))
           (λ cs u k. call-within u.bindings level depth deepest (deepest + 3) (omega arith) (omega (arith, room)) c cs (within-grown t.bindings u.bindings k.0.grows.bound level depth deepest c j.1) k.1))
 
-      alternate-nests : (c d : PlainCore) (o : Option Tree) (s : State) → Here own s → C deepest c s → C deepest d s → Gave (C (deepest + 3)) (alternate go place level depth c d o s)
+      alternate-nests : (c d : PlainCore) (o : Option Tree) (s : State) → Here own s → C deepest c s → C deepest d s → Gave (C (deepest + 3)) (alternate go (site_at place level depth) c d o s)
       alternate-nests c d None s h j k = one_armed-within s.bindings level depth deepest (deepest + 3) (omega arith) c d j k
       alternate-nests c d (Some x) s h j k =
-          gave-after (L deepest s) (C (deepest + 3)) (go.form place level depth x s) (λ e. give (two_armed c d e)) (form-both x s h)
+          gave-after (L deepest s) (C (deepest + 3)) (go.form (site_at place level depth) x s) (λ e. give (two_armed c d e)) (form-both x s h)
           (λ e u i. two_armed-within u.bindings level depth deepest (deepest + 3) (omega arith) c d e (within-grown s.bindings u.bindings i.0.grows.bound level depth deepest c j) (within-grown s.bindings u.bindings i.0.grows.bound level depth deepest d k) i.1)
 
-      conditional-nests : (test consequent : Tree) (other : Option Tree) (s : State) → Here own s → Gave (C (deepest + 3)) (conditional go place level depth test consequent other s)
+      conditional-nests : (test consequent : Tree) (other : Option Tree) (s : State) → Here own s → Gave (C (deepest + 3)) (conditional go (site_at place level depth) (if_parts test consequent other) s)
       unfolding conditional
       conditional-nests test consequent other s h =
-          gave-after (L deepest s) (C (deepest + 3)) (go.form place level depth test s) (λ c s'. after (go.form place level depth consequent s') (λ d. alternate go place level depth c d other)) (form-both test s h)
+          gave-after (L deepest s) (C (deepest + 3)) (go.form (site_at place level depth) test s) (λ c s'. after (go.form (site_at place level depth) consequent s') (λ d. alternate go (site_at place level depth) c d other)) (form-both test s h)
           (λ c t j. let next = here-later own s t h j.0 in
-          gave-after (L deepest t) (C (deepest + 3)) (go.form place level depth consequent t) (λ d. alternate go place level depth c d other) (form-both consequent t next)
+          gave-after (L deepest t) (C (deepest + 3)) (go.form (site_at place level depth) consequent t) (λ d. alternate go (site_at place level depth) c d other) (form-both consequent t next)
           (λ d u k. alternate-nests c d other u (here-later own t u next k.0) (within-grown t.bindings u.bindings k.0.grows.bound level depth deepest c j.1) k.1))
 
-      set-nests : (l : Label) (value : Tree) (s : State) → Here own s → Gave (C (deepest + 3)) (set go place level depth l value s)
+      set-nests : (l : Label) (value : Tree) (s : State) → Here own s → Gave (C (deepest + 3)) (set go (site_at place level depth) l value s)
       unfolding set
-      set-nests l value s h = gave-after (C deepest) (C (deepest + 3)) (go.form place level depth value s) (λ c. give (assignment l c)) (nests.form place level depth value s h) (λ c u k. assignment-within u.bindings level depth deepest (deepest + 3) (omega arith) l c k)
+      set-nests l value s h = gave-after (C deepest) (C (deepest + 3)) (go.form (site_at place level depth) value s) (λ c. give (assignment l c)) (nests.form place level depth value s h) (λ c u k. assignment-within u.bindings level depth deepest (deepest + 3) (omega arith) l c k)
 
-      sequence-nests : (forms : List Tree) (s : State) → Here own s → Gave (C (deepest + 3)) (in_sequence go place level depth forms s)
+      sequence-nests : (forms : List Tree) (s : State) → Here own s → Gave (C (deepest + 3)) (in_sequence go (site_at place level depth) forms s)
       unfolding in_sequence
-      sequence-nests forms s h = gave-after (All s) (C (deepest + 3)) (in_order go place level depth forms s) (λ cs. give (sequence_of cs)) (order-nests forms s h) (λ cs u k. in-sequence-within u.bindings level depth deepest (deepest + 3) (omega arith) (omega (arith, room)) cs k.1)
+      sequence-nests forms s h = gave-after (All s) (C (deepest + 3)) (in_order go (site_at place level depth) forms s) (λ cs. give (sequence_of cs)) (order-nests forms s h) (λ cs u k. in-sequence-within u.bindings level depth deepest (deepest + 3) (omega arith) (omega (arith, room)) cs k.1)
 
-      keywords-nest : (recursive : Bool) (bs : List BindingSpec) (forms : List Tree) (s : State) → Here own s → Gave (C (deepest + 3)) (keywords_form go place level depth recursive bs forms s)
+      keywords-nest : (recursive : Bool) (bs : List BindingSpec) (forms : List Tree) (s : State) → Here own s → Gave (C (deepest + 3)) (keywords_form go (site_at place level depth) (let_syntax_parts recursive bs forms) s)
       unfolding keywords_form
       keywords-nest recursive bs forms s h =
-          gave-after (λ xs u. Later own s u) (C (deepest + 3)) (with_keywords go place level depth recursive bs forms s) (in_sequence go place level depth) (moved-keywords own go nests.moves place level depth recursive bs forms s h.0)
+          gave-after (λ xs u. Later own s u) (C (deepest + 3)) (with_keywords go (site_at place level depth) (let_syntax_parts recursive bs forms) s) (in_sequence go (site_at place level depth)) (moved-keywords own go nests.moves place level depth recursive bs forms s h.0)
           (λ xs u k. sequence-nests xs u (here-later own s u h k))
 
       -- Procedures and `letrec`.
@@ -257,32 +254,32 @@ module _ (own : LibName) (go : Inside) (nests : Nests own go) where
         abbrev K : Lambda → State → Type 0
         K c u = WithinCase u.bindings level depth (deepest + 2) c
 
-        pub case-nests : (ids : FormalIds) (forms : List Tree) (s : State) → Here own s → Gave K (lambda_case go place level depth t ids forms s)
+        pub case-nests : (ids : FormalIds) (forms : List Tree) (s : State) → Here own s → Gave K (lambda_case go (site_at place level depth) (procedure_parts t ids forms) s)
         unfolding lambda_case fresh_frame
         case-nests ids forms s h =
             let f = as_frame s.names in
             let next = here-counted own s h in
-            gave-within K (λ u. after (fresh_frame u) (case_in go place level depth t ids forms)) s
+            gave-within K (λ u. after (fresh_frame u) (case_in go (site_at place level depth) (procedure_parts t ids forms))) s
             (gave-after (λ x u. BindsAll own f (counted s) (formals_labels x) u × Each (IsLeveled u.bindings level) (formals_labels x)) K (bind_formals f place level ids (counted s))
-            (λ x u. after (body go place level depth t (map (stamp f) forms) u) (λ c. give (record { formals = x; body = c })))
+            (λ x u. after (body go (site_at place level depth) t (map (stamp f) forms) u) (λ c. give (record { formals = x; body = c })))
             (binds-formals-leveled own f place level ids (counted s) next)
             (λ x u k. let here = here-but own f (counted s) u next k.0.later in
-            gave-after (λ c v. Later own u v × Within v.bindings level depth (deepest + 2) c) K (body go place level depth t (map (stamp f) forms) u) (λ c. give (record { formals = x; body = c }))
-            (gave-both (λ c v. Later own u v) (λ c v. Within v.bindings level depth (deepest + 2) c) (body go place level depth t (map (stamp f) forms) u) (moved-body own go nests.moves place level depth t (map (stamp f) forms) u here.0) (body-nests own go nests place level depth t (map (stamp f) forms) u room here))
+            gave-after (λ c v. Later own u v × Within v.bindings level depth (deepest + 2) c) K (body go (site_at place level depth) t (map (stamp f) forms) u) (λ c. give (record { formals = x; body = c }))
+            (gave-both (λ c v. Later own u v) (λ c v. Within v.bindings level depth (deepest + 2) c) (body go (site_at place level depth) t (map (stamp f) forms) u) (moved-body own go nests.moves place level depth t (map (stamp f) forms) u here.0) (body-nests own go nests place level depth t (map (stamp f) forms) u room here))
             (λ c v j. record { formals = labels-grown u.bindings v.bindings j.0.grows.bound level (formals_labels x) k.1; body = j.1 })))
 
-        lambda-nests : (ids : FormalIds) (forms : List Tree) (s : State) → Here own s → Gave (C (deepest + 3)) (lambda go place level depth t ids forms s)
+        lambda-nests : (ids : FormalIds) (forms : List Tree) (s : State) → Here own s → Gave (C (deepest + 3)) (lambda go (site_at place level depth) (procedure_parts t ids forms) s)
         unfolding lambda fresh
         lambda-nests ids forms s h =
-            gave-after K (C (deepest + 3)) (lambda_case go place level depth t ids forms (counted s)) _ (case-nests ids forms (counted s) (here-counted own s h))
+            gave-after K (C (deepest + 3)) (lambda_case go (site_at place level depth) (procedure_parts t ids forms) (counted s)) _ (case-nests ids forms (counted s) (here-counted own s h))
             (λ c u k. procedure-within u.bindings level depth (deepest + 2) (deepest + 3) (omega arith) (omega (arith, room)) (record { 0 = s.names }) (c ∷ []) true (k, tt))
 
-        case_lambda-nests : (cs : List LambdaCase) (s : State) → Here own s → Gave (C (deepest + 3)) (case_lambda go place level depth t cs s)
+        case_lambda-nests : (cs : List LambdaCase) (s : State) → Here own s → Gave (C (deepest + 3)) (case_lambda go (site_at place level depth) t cs s)
         unfolding case_lambda fresh
         case_lambda-nests cs s h =
-            gave-after (λ xs u. Later own (counted s) u × Pairs (λ (x : LambdaCase). WithinCase u.bindings level depth (deepest + 2)) cs xs) (C (deepest + 3)) (all_cases go place level depth t cs (counted s)) _
-            (gave-pairs own (one_case go place level depth t) (λ x. Unit {0}) (λ bs x c. WithinCase bs level depth (deepest + 2) c) (λ bs ds ext x c k. case-grown bs ds ext level depth (deepest + 2) c k)
-            (λ x u q k. gave-both (λ c v. Later own u v) K (one_case go place level depth t x u) (moved-case own go nests.moves place level depth t x.formals x.body u k.0) (case-nests x.formals x.body u k))
+            gave-after (λ xs u. Later own (counted s) u × Pairs (λ (x : LambdaCase). WithinCase u.bindings level depth (deepest + 2)) cs xs) (C (deepest + 3)) (all_cases go (site_at place level depth) t cs (counted s)) _
+            (gave-pairs own (one_case go (site_at place level depth) t) (λ x. Unit {0}) (λ bs x c. WithinCase bs level depth (deepest + 2) c) (λ bs ds ext x c k. case-grown bs ds ext level depth (deepest + 2) c k)
+            (λ x u q k. gave-both (λ c v. Later own u v) K (one_case go (site_at place level depth) t x u) (moved-case own go nests.moves place level depth t x.formals x.body u k.0) (case-nests x.formals x.body u k))
             cs (counted s) (nothing-asked cs) (here-counted own s h))
             (λ xs u k. procedure-within u.bindings level depth (deepest + 2) (deepest + 3) (omega arith) (omega (arith, room)) (record { 0 = s.names }) xs false
             (pairs-each (λ (x : LambdaCase). WithinCase u.bindings level depth (deepest + 2)) (WithinCase u.bindings level depth (deepest + 2)) (λ x c j. j) cs xs k.1))
@@ -290,13 +287,13 @@ module _ (own : LibName) (go : Inside) (nests : Nests own go) where
         abbrev I : Bindings → BoundSpec → Init → Type 0
         I bs b i = (i.label ≡ b.label) × Within bs level depth deepest i.value
 
-        init-nests : (f : FrameNo) (b : BoundSpec) (s : State) → Here own s → Gave (λ i u. Later own s u × I u.bindings b i) (one_init go place level depth f b s)
+        init-nests : (f : FrameNo) (b : BoundSpec) (s : State) → Here own s → Gave (λ i u. Later own s u × I u.bindings b i) (one_init go (site_at place level depth) f b s)
         unfolding one_init
-        init-nests f b s h = gave-after (L deepest s) (λ i u. Later own s u × I u.bindings b i) (go.form place level depth (stamp f b.init) s) (λ c. give (record { label = b.label; value = c })) (form-both (stamp f b.init) s h) (λ c u k. (k.0, (refl, k.1)))
+        init-nests f b s h = gave-after (L deepest s) (λ i u. Later own s u × I u.bindings b i) (go.form (site_at place level depth) (stamp f b.init) s) (λ c. give (record { label = b.label; value = c })) (form-both (stamp f b.init) s h) (λ c u k. (k.0, (refl, k.1)))
 
-        inits-nest : (f : FrameNo) (bs : List BoundSpec) (s : State) → Here own s → Gave (λ is u. Later own s u × Pairs (I u.bindings) bs is) (all_inits go place level depth f bs s)
+        inits-nest : (f : FrameNo) (bs : List BoundSpec) (s : State) → Here own s → Gave (λ is u. Later own s u × Pairs (I u.bindings) bs is) (all_inits go (site_at place level depth) f bs s)
         inits-nest f bs s h =
-            gave-pairs own (one_init go place level depth f) (λ b. Unit {0}) I (λ cs ds ext b i k. (k.0, within-grown cs ds ext level depth deepest i.value k.1)) (λ b u q k. init-nests f b u k) bs s (nothing-asked bs) h
+            gave-pairs own (one_init go (site_at place level depth) f) (λ b. Unit {0}) I (λ cs ds ext b i k. (k.0, within-grown cs ds ext level depth deepest i.value k.1)) (λ b u q k. init-nests f b u k) bs s (nothing-asked bs) h
 
         inits-so : (bs : Bindings) (xs : List BoundSpec) (is : List Init) → Pairs (I bs) xs is → Each (IsLeveled bs level) (map spec_label xs) → Each (WithinInit bs level depth (deepest + 2)) is
         inits-so bs [] [] h k = tt
@@ -305,20 +302,20 @@ module _ (own : LibName) (go : Inside) (nests : Nests own go) where
         inits-so bs (x ∷ xs) (i ∷ is) h k =
             (record { label = subst (IsLeveled bs level) (sym h.0.0) k.0; value = within-at bs level depth deepest depth (deepest + 2) i.value (omega arith) h.0.1 }, inits-so bs xs is h.1 k.1)
 
-        letrec-nests : (star : Bool) (bs : List BindingSpec) (forms : List Tree) (s : State) → Here own s → Gave (C (deepest + 3)) (letrec_form go place level depth t star bs forms s)
+        letrec-nests : (star : Bool) (bs : List BindingSpec) (forms : List Tree) (s : State) → Here own s → Gave (C (deepest + 3)) (letrec_form go (site_at place level depth) (letrec_parts t star bs forms) s)
         unfolding letrec_form fresh_frame
         letrec-nests star bs forms s h =
             let f = as_frame s.names in
             let next = here-counted own s h in
             let some = map (stamp f) forms in
-            gave-within (C (deepest + 3)) (λ u. after (fresh_frame u) (letrec_in go place level depth t star bs forms)) s
+            gave-within (C (deepest + 3)) (λ u. after (fresh_frame u) (letrec_in go (site_at place level depth) (letrec_parts t star bs forms))) s
             (gave-after (λ xs u. BindsAll own f (counted s) (map spec_label xs) u × Each (IsLeveled u.bindings level) (map spec_label xs)) (C (deepest + 3)) (bind_specs f place level bs (counted s)) _
             (binds-specs-leveled own f place level bs (counted s) next)
             (λ xs u k. let here = here-but own f (counted s) u next k.0.later in
-            gave-after (λ is v. Later own u v × Pairs (I v.bindings) xs is) (C (deepest + 3)) (all_inits go place level depth f xs u) (λ is v. after (body go place level depth t some v) (λ c. give (letrec star (inits is) c))) (inits-nest f xs u here)
+            gave-after (λ is v. Later own u v × Pairs (I v.bindings) xs is) (C (deepest + 3)) (all_inits go (site_at place level depth) f xs u) (λ is v. after (body go (site_at place level depth) t some v) (λ c. give (letrec star (inits is) c))) (inits-nest f xs u here)
             (λ is v j. let later = here-later own u v here j.0 in
-            gave-after (λ c w. Later own v w × Within w.bindings level depth (deepest + 2) c) (C (deepest + 3)) (body go place level depth t some v) (λ c. give (letrec star (inits is) c))
-            (gave-both (λ c w. Later own v w) (λ c w. Within w.bindings level depth (deepest + 2) c) (body go place level depth t some v) (moved-body own go nests.moves place level depth t some v later.0) (body-nests own go nests place level depth t some v room later))
+            gave-after (λ c w. Later own v w × Within w.bindings level depth (deepest + 2) c) (C (deepest + 3)) (body go (site_at place level depth) t some v) (λ c. give (letrec star (inits is) c))
+            (gave-both (λ c w. Later own v w) (λ c w. Within w.bindings level depth (deepest + 2) c) (body go (site_at place level depth) t some v) (moved-body own go nests.moves place level depth t some v later.0) (body-nests own go nests place level depth t some v room later))
             (λ c w i. letrec-within w.bindings level depth (deepest + 2) (deepest + 3) (omega arith) (omega (arith, room)) star is c
             (each-map (WithinInit v.bindings level depth (deepest + 2)) (WithinInit w.bindings level depth (deepest + 2)) is (inits-so v.bindings xs is j.1 (labels-grown u.bindings v.bindings j.0.grows.bound level (map spec_label xs) k.1))
             (λ x y. record { label = (y.label.0, defined-grown v.bindings w.bindings i.0.grows.bound level y.label.0 x.label y.label.1); value = within-grown v.bindings w.bindings i.0.grows.bound level depth (deepest + 2) x.value y.value }))
@@ -327,33 +324,33 @@ module _ (own : LibName) (go : Inside) (nests : Nests own go) where
       -- `syntax-case`.
 
       module _ (literals : List Tree) where
-        fender-nests : (f : FrameNo) (o : Option Tree) (s : State) → Here own s → Gave (λ e u. Later own s u × WithinFender u.bindings level depth deepest e) (fender go place level depth f o s)
+        fender-nests : (f : FrameNo) (o : Option Tree) (s : State) → Here own s → Gave (λ e u. Later own s u × WithinFender u.bindings level depth deepest e) (fender go (site_at place level depth) f o s)
         fender-nests f None s h = (later-self own s h.0, tt)
-        fender-nests f (Some x) s h = gave-after (L deepest s) (λ e u. Later own s u × WithinFender u.bindings level depth deepest e) (go.form place level depth (stamp f x) s) (λ c. give (Some c)) (form-both (stamp f x) s h) (λ c u k. k)
+        fender-nests f (Some x) s h = gave-after (L deepest s) (λ e u. Later own s u × WithinFender u.bindings level depth deepest e) (go.form (site_at place level depth) (stamp f x) s) (λ c. give (Some c)) (form-both (stamp f x) s h) (λ c u k. k)
 
-        clause-nests : (c : PatternCase) (s : State) → Here own s → Gave (λ x u. WithinClause u.bindings level depth deepest x) (pattern_clause go place level depth literals c s)
+        clause-nests : (c : PatternCase) (s : State) → Here own s → Gave (λ x u. WithinClause u.bindings level depth deepest x) (pattern_clause go (site_at place level depth) literals c s)
         unfolding pattern_clause fresh_frame
         clause-nests c s h =
             let f = as_frame s.names in
             let next = here-counted own s h in
-            gave-within (λ x u. WithinClause u.bindings level depth deepest x) (λ u. after (fresh_frame u) (clause_in go place level depth literals c)) s
+            gave-within (λ x u. WithinClause u.bindings level depth deepest x) (λ u. after (fresh_frame u) (clause_in go (site_at place level depth) literals c)) s
             (gave-after (Patterned own (counted s)) (λ x u. WithinClause u.bindings level depth deepest x) (pattern_of literals place c.pattern (counted s)) _ (pattern-later own literals place c.pattern (counted s) next.0)
             (λ p t j. gave-after (λ x u. BindsPattern own go nests.moves place level depth literals f (counted s) p u) (λ x u. WithinClause u.bindings level depth deepest x) (bind_pattern f place level p.variables t) _
             (pattern-bound own go nests.moves place level depth literals f p (counted s) t j)
             (λ x u b. let here = here-but own f (counted s) u next (pattern-adds own go nests.moves place level depth literals f p (counted s) u b).0 in
-            gave-after (λ e v. Later own u v × WithinFender v.bindings level depth deepest e) (λ y w. WithinClause w.bindings level depth deepest y) (fender go place level depth f c.fender u) _ (fender-nests f c.fender u here)
-            (λ e v k. gave-after (L deepest v) (λ y w. WithinClause w.bindings level depth deepest y) (go.form place level depth (stamp f c.output) v) (λ o. give (record { pattern = p.pattern; fender = e; output = o })) (form-both (stamp f c.output) v (here-later own u v here k.0))
+            gave-after (λ e v. Later own u v × WithinFender v.bindings level depth deepest e) (λ y w. WithinClause w.bindings level depth deepest y) (fender go (site_at place level depth) f c.fender u) _ (fender-nests f c.fender u here)
+            (λ e v k. gave-after (L deepest v) (λ y w. WithinClause w.bindings level depth deepest y) (go.form (site_at place level depth) (stamp f c.output) v) (λ o. give (record { pattern = p.pattern; fender = e; output = o })) (form-both (stamp f c.output) v (here-later own u v here k.0))
             (λ o w i. record { fender = fender-grown v.bindings w.bindings i.0.grows.bound level depth deepest e k.1; output = i.1 })))))
 
-        syntax_case-nests : (subject : Tree) (cs : List PatternCase) (span : Span) (s : State) → Here own s → Gave (C (deepest + 3)) (syntax_case go place level depth subject literals cs span s)
+        syntax_case-nests : (subject : Tree) (cs : List PatternCase) (span : Span) (s : State) → Here own s → Gave (C (deepest + 3)) (syntax_case go (site_at place level depth) (syntax_case_parts subject literals cs span) s)
         unfolding syntax_case
         syntax_case-nests subject cs span s h =
-            gave-after (L deepest s) (C (deepest + 3)) (go.form place level depth subject s) _ (form-both subject s h)
+            gave-after (L deepest s) (C (deepest + 3)) (go.form (site_at place level depth) subject s) _ (form-both subject s h)
             (λ c t j. let next = here-later own s t h j.0 in
-            gave-after (λ x u. Later own t u) (C (deepest + 3)) (check_literals place literals t) (λ _ u. after (all_clauses go place level depth literals cs u) (λ xs. give (matching c (clauses xs) span))) (literals-later own literals place t next.0)
-            (λ x u k. gave-after (λ xs v. Later own u v × Pairs (λ (y : PatternCase). WithinClause v.bindings level depth deepest) cs xs) (C (deepest + 3)) (all_clauses go place level depth literals cs u) (λ xs. give (matching c (clauses xs) span))
-            (gave-pairs own (pattern_clause go place level depth literals) (λ y. Unit {0}) (λ bs y z. WithinClause bs level depth deepest z) (λ bs ds ext y z i. clause-grown bs ds ext level depth deepest z i)
-            (λ y v q i. gave-both (λ z w. Later own v w) (λ z w. WithinClause w.bindings level depth deepest z) (pattern_clause go place level depth literals y v) (moved-clause own go nests.moves place level depth literals y v i.0) (clause-nests y v i))
+            gave-after (λ x u. Later own t u) (C (deepest + 3)) (check_literals place literals t) (λ _ u. after (all_clauses go (site_at place level depth) literals cs u) (λ xs. give (matching c (clauses xs) span))) (literals-later own literals place t next.0)
+            (λ x u k. gave-after (λ xs v. Later own u v × Pairs (λ (y : PatternCase). WithinClause v.bindings level depth deepest) cs xs) (C (deepest + 3)) (all_clauses go (site_at place level depth) literals cs u) (λ xs. give (matching c (clauses xs) span))
+            (gave-pairs own (pattern_clause go (site_at place level depth) literals) (λ y. Unit {0}) (λ bs y z. WithinClause bs level depth deepest z) (λ bs ds ext y z i. clause-grown bs ds ext level depth deepest z i)
+            (λ y v q i. gave-both (λ z w. Later own v w) (λ z w. WithinClause w.bindings level depth deepest z) (pattern_clause go (site_at place level depth) literals y v) (moved-clause own go nests.moves place level depth literals y v i.0) (clause-nests y v i))
             cs u (nothing-asked cs) (here-later own t u next k))
             (λ xs v i. matching-within v.bindings level depth deepest (deepest + 3) (omega arith) (omega (arith, room)) c xs span
             (within-grown t.bindings v.bindings (later-then own t u v k i.0).grows.bound level depth deepest c j.1)
@@ -372,25 +369,23 @@ module _ (own : LibName) (go : Inside) (nests : Nests own go) where
     brought : (r : Result (PlainCore × State) Fault) → Gave (λ c u. Within u.bindings level (deeper depth) (deepest + 3) c) r → Gave (λ c u. Within u.bindings level depth deepest c) r
     brought r h = gave-less (λ c u. Within u.bindings level (deeper depth) (deepest + 3) c) (λ c u. Within u.bindings level depth deepest c) r h (λ c u k. made (deepest + 3) c u (omega arith) k)
 
-    performs : (p : Plan) (s : State) → IsShort p → Here own s → Gave (λ c u. Within u.bindings level depth deepest c) (perform go place level depth t p s)
+    performs : (p : Plan) (s : State) → IsShort p → Here own s → Gave (λ c u. Within u.bindings level depth deepest c) (perform go (site_at place level depth) t p s)
     unfolding perform
     performs (plans.Done c) s k h = alone-within s.bindings level depth deepest c k (omega (arith, room))
-    performs (plans.Call operator operands) s k h = brought (application go place level (deeper depth) operator operands s) (application-nests place level (deeper depth) inner operator operands s h)
-    performs (plans.Conditional test consequent other) s k h = brought (conditional go place level (deeper depth) test consequent other s) (conditional-nests place level (deeper depth) inner test consequent other s h)
-    performs (plans.Assignment l value) s k h = brought (set go place level (deeper depth) l value s) (set-nests place level (deeper depth) inner l value s h)
-    performs (plans.Sequence forms) s k h = brought (in_sequence go place level (deeper depth) forms s) (sequence-nests place level (deeper depth) inner forms s h)
-    performs (plans.Lambda ids forms) s k h = brought (lambda go place level (deeper depth) t ids forms s) (lambda-nests place level (deeper depth) inner t ids forms s h)
-    performs (plans.CaseLambda cs) s k h = brought (case_lambda go place level (deeper depth) t cs s) (case_lambda-nests place level (deeper depth) inner t cs s h)
-    performs (plans.Letrec star bs forms) s k h = brought (letrec_form go place level (deeper depth) t star bs forms s) (letrec-nests place level (deeper depth) inner t star bs forms s h)
-    performs (plans.Matching subject literals cs span) s k h = brought (syntax_case go place level (deeper depth) subject literals cs span s) (syntax_case-nests place level (deeper depth) inner literals subject cs span s h)
-    performs (plans.Keywords recursive bs forms) s k h = brought (keywords_form go place level (deeper depth) recursive bs forms s) (keywords-nest place level (deeper depth) inner recursive bs forms s h)
+    performs (plans.Call operator operands) s k h = brought (application go (site_at place level (deeper depth)) operator operands s) (application-nests place level (deeper depth) inner operator operands s h)
+    performs (plans.Conditional test consequent other) s k h = brought (conditional go (site_at place level (deeper depth)) (if_parts test consequent other) s) (conditional-nests place level (deeper depth) inner test consequent other s h)
+    performs (plans.Assignment l value) s k h = brought (set go (site_at place level (deeper depth)) l value s) (set-nests place level (deeper depth) inner l value s h)
+    performs (plans.Sequence forms) s k h = brought (in_sequence go (site_at place level (deeper depth)) forms s) (sequence-nests place level (deeper depth) inner forms s h)
+    performs (plans.Lambda ids forms) s k h = brought (lambda go (site_at place level (deeper depth)) (procedure_parts t ids forms) s) (lambda-nests place level (deeper depth) inner t ids forms s h)
+    performs (plans.CaseLambda cs) s k h = brought (case_lambda go (site_at place level (deeper depth)) t cs s) (case_lambda-nests place level (deeper depth) inner t cs s h)
+    performs (plans.Letrec star bs forms) s k h = brought (letrec_form go (site_at place level (deeper depth)) (letrec_parts t star bs forms) s) (letrec-nests place level (deeper depth) inner t star bs forms s h)
+    performs (plans.Matching subject literals cs span) s k h = brought (syntax_case go (site_at place level (deeper depth)) (syntax_case_parts subject literals cs span) s) (syntax_case-nests place level (deeper depth) inner literals subject cs span s h)
+    performs (plans.Keywords recursive bs forms) s k h = brought (keywords_form go (site_at place level (deeper depth)) (let_syntax_parts recursive bs forms) s) (keywords-nest place level (deeper depth) inner recursive bs forms s h)
     performs (plans.Quasi which template) s k h =
-        gave-less (λ c u. Within u.bindings level (deeper depth) deepest c) (λ c u. Within u.bindings level depth deepest c) (quasi_form go place level (deeper depth) t which template s) (quasi-nests own go nests place level t (deeper depth) which template s h)
+        gave-less (λ c u. Within u.bindings level (deeper depth) deepest c) (λ c u. Within u.bindings level depth deepest c) (quasi_form go (site_at place level (deeper depth)) (template_parts t which template) s) (quasi-nests own go nests place level t (deeper depth) which template s h)
         (λ c u j. made deepest c u (omega arith) j)
-    performs (plans.Use l) s k h = tt
-    performs (plans.SetUse l id) s k h = tt
 
-  form-nests : (place : Span) (level depth : ℕ) (t : Tree) (s : State) → Here own s → Gave (λ c u. Within u.bindings level depth deepest c) (form_at go place level depth t s)
+  form-nests : (place : Span) (level depth : ℕ) (t : Tree) (s : State) → Here own s → Gave (λ c u. Within u.bindings level depth deepest c) (form_at go (site_at place level depth) t s)
   unfolding form_at
   form-nests place level depth t s h =
       gave-if (λ c u. Within u.bindings level depth deepest c) (nat_lt most_round depth) _ (after (expand_uses go.earlier place level t s) (perform_settled go level depth)) (λ e. tt)
@@ -405,8 +400,8 @@ module _ (own : LibName) (go : Inside) (nests : Nests own go) where
     W d u = AreWaiting at base d u.bindings
 
     -- a keyword that is defined leaves what was taken
-    same-taken : (d : Taken) (t : Tree) (b : BindingSpec) (s : State) → Gave (λ e u. e ≡ d) (after (define_syntax go at (deeper depth) d t b s) (λ _. give d))
-    same-taken d t b s = gave-after (λ x u. Unit {0}) (λ e u. e ≡ d) (define_syntax go at (deeper depth) d t b s) (λ _. give d) (gave-any (λ x u. Unit {0}) (define_syntax go at (deeper depth) d t b s) (λ x u. tt)) (λ x u k. refl)
+    same-taken : (d : Taken) (t : Tree) (b : BindingSpec) (s : State) → Gave (λ e u. e ≡ d) (after (define_syntax go at (deeper depth) d (definition_parts t b) s) (λ _. give d))
+    same-taken d t b s = gave-after (λ x u. Unit {0}) (λ e u. e ≡ d) (define_syntax go at (deeper depth) d (definition_parts t b) s) (λ _. give d) (gave-any (λ x u. Unit {0}) (define_syntax go at (deeper depth) d (definition_parts t b) s) (λ x u. tt)) (λ x u k. refl)
 
     item-performs : (d : Taken) (t : Tree) (i : Item) (s : State) → Here own s → Took own (is_top at.kind) start d s → W d s → Gave W (perform_item go at depth d t i s)
     unfolding perform_item
@@ -415,16 +410,14 @@ module _ (own : LibName) (go : Inside) (nests : Nests own go) where
         gave-less (λ e u. Splices own go nests at base start s e u) W (splice go at (deeper depth) d forms s)
         (splice-nests own go nests at base (deeper depth) start d forms s (let up = deeper-up depth in omega (arith, up, deep)) h low k w) (λ e u j. j.waiting)
     item-performs d t (items.Keyword b) s h k w =
-        gave-less (λ e u. Takes own at.frame (is_top at.kind) start s e u × (e ≡ d)) W (after (define_syntax go at (deeper depth) d t b s) (λ _. give d))
-        (gave-both (λ e u. Takes own at.frame (is_top at.kind) start s e u) (λ e u. e ≡ d) (after (define_syntax go at (deeper depth) d t b s) (λ _. give d)) (performs-item own go nests.moves at start low depth d t (items.Keyword b) s h.0 k) (same-taken d t b s))
+        gave-less (λ e u. Takes own at.frame (is_top at.kind) start s e u × (e ≡ d)) W (after (define_syntax go at (deeper depth) d (definition_parts t b) s) (λ _. give d))
+        (gave-both (λ e u. Takes own at.frame (is_top at.kind) start s e u) (λ e u. e ≡ d) (after (define_syntax go at (deeper depth) d (definition_parts t b) s) (λ _. give d)) (performs-item own go nests.moves at start low depth d t (items.Keyword b) s h.0 k) (same-taken d t b s))
         (λ e u j. subst (λ (x : Taken). W x u) (sym j.1) (waiting-grown at base d s.bindings u.bindings j.0.later.grows.bound w))
     item-performs d t (items.Keywords recursive bs forms) s h k w =
-        gave-after (λ xs u. Later own s u) W (with_keywords go at.place at.level (deeper depth) recursive bs forms s) (splice go at (deeper depth) d) (moved-keywords own go nests.moves at.place at.level (deeper depth) recursive bs forms s h.0)
+        gave-after (λ xs u. Later own s u) W (with_keywords go (site_at at.place at.level (deeper depth)) (let_syntax_parts recursive bs forms) s) (splice go at (deeper depth) d) (moved-keywords own go nests.moves at.place at.level (deeper depth) recursive bs forms s h.0)
         (λ xs u l. gave-less (λ e v. Splices own go nests at base start u e v) W (splice go at (deeper depth) d xs u)
         (splice-nests own go nests at base (deeper depth) start d xs u (let up = deeper-up depth in omega (arith, up, deep)) (here-later own s u h l) low (took-later own (is_top at.kind) start d s u l.up (adds-later own (is_top at.kind) s u l) k)
         (waiting-grown at base d s.bindings u.bindings l.grows.bound w)) (λ e v j. j.waiting))
-    item-performs d t (items.Use l) s h k w = tt
-    item-performs d t (items.SetUse l) s h k w = tt
 
   item-nests : (at : BodyAt) (base depth : ℕ) (d : Taken) (t : Tree) (start s : State) → base ≤ depth → Here own s → (is_top at.kind ≡ true → at.level ≡ 0) → Took own (is_top at.kind) start d s → AreWaiting at base d s.bindings
       → Gave (λ e u. AreWaiting at base e u.bindings) (item go at depth d t s)

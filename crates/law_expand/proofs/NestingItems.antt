@@ -14,9 +14,10 @@ use Rattle.core_shapes.specs.declared.shape.Shape.TheVariants as shapes
 use Rattle.expand_standing.specs.Binders.{bind_variable}
 use Rattle.expand_standing.specs.State.{State, fault_word}
 use Rattle.expand_standing.specs.Uses.{asks_variable}
+use Rattle.expand_heads.specs.declared.item.HeadItem.{HeadItem}
+use Rattle.expand_heads.specs.declared.item.HeadItem.TheVariants as head_items
 use Rattle.expand_heads.specs.Depth.{most_round}
 use Rattle.expand_heads.specs.Items.{waiting_at, any_changed, is_mixed, is_top, with_waiting, heads_like, in_time, define, define_item, item_plan}
-use Rattle.expand_heads.specs.declared.item.Item.{Item}
 use Rattle.expand_heads.specs.declared.item.Item.TheVariants as items
 use Rattle.expand_heads.specs.declared.taken.BodyAt.{BodyAt}
 use Rattle.expand_heads.specs.declared.taken.Taken.{Taken}
@@ -112,13 +113,13 @@ module _ (own : LibName) (start : State) (at : BodyAt) (base depth : ℕ) (deep 
         gave-after (Defines d) W (define at d t id s) (λ e. give (with_waiting at depth e.0 (waits.Procedure e.1 t ids forms))) (defines d t id) (λ e u k. defined-waits d (waits.Procedure e.1 t ids forms) e u refl h k)
     definition-item d t _ h = tt
 
-    abbrev Item-waits : Taken × Item → State → Type 0
+    abbrev Item-waits : Taken × HeadItem → State → Type 0
     Item-waits p u = W p.0 u
 
     item-waits : (d : Taken) (t : Tree) → W d s → Gave Item-waits (item_plan at depth d t s)
     item-waits d t h = item-cases (λ e. W e s) Item-waits at depth s (λ e id j. record { deep = j.deep; labels = j.labels })
         (λ e x j. expression-waits e x s j)
-        (λ e x y j. gave-after W Item-waits (define_item at depth e x y s) (λ z. give (z, items.Nothing)) (definition-item e x y j) (λ z u k. k))
+        (λ e x y j. gave-after W Item-waits (define_item at depth e x y s) (λ z. give (z, head_items.Item items.Nothing)) (definition-item e x y j) (λ z u k. k))
         (λ e i j. j) d t h
 
   module _ (rs : List CompiledLibrary) where
@@ -129,13 +130,10 @@ module _ (own : LibName) (start : State) (at : BodyAt) (base depth : ℕ) (deep 
     set-waits d t l true u h = h
     set-waits d t l false u h = expression-waits d t u h
 
-    steps-wait : (t : Tree) (d : Taken) (i : Item) (u : State) → u.names.library ≡ own → W d u → Gave (Step-waits {A = ItemOrUse}) (item_step_of rs at depth t d i u)
-    steps-wait t d items.Nothing u n h = h
-    steps-wait t d (items.Forms forms) u n h = h
-    steps-wait t d (items.Keyword b) u n h = h
-    steps-wait t d (items.Keywords recursive bs forms) u n h = h
-    steps-wait t d (items.Use l) u n h = h
-    steps-wait t d (items.SetUse l) u n h =
+    steps-wait : (t : Tree) (d : Taken) (i : HeadItem) (u : State) → u.names.library ≡ own → W d u → Gave (Step-waits {A = ItemOrUse}) (item_step_of rs at depth t d i u)
+    steps-wait t d (head_items.Item i) u n h = h
+    steps-wait t d (head_items.Use l) u n h = h
+    steps-wait t d (head_items.SetUse l) u n h =
         gave-after (λ b v. Later own u v) (Step-waits {A = ItemOrUse}) (asks_variable rs (place_of t at.place) l u) (set_item_step at depth d t l) (asks-later own rs (place_of t at.place) l u n)
         (λ b v k. set-waits d t l b v (waiting-grown at base d u.bindings v.bindings k.grows.bound h))
 

@@ -30,6 +30,8 @@ use Rattle.expand_standing.specs.State.{State, fresh_frame}
 use Rattle.expand_heads.specs.Depth.{deeper, most_round}
 use Rattle.expand_forms.specs.Inside.{Inside}
 use Rattle.expand_forms.specs.Quasi.{part_core, parts_in_order, quasi_made, quasi_form}
+use Rattle.expand_forms.specs.Site.{site_at}
+use Rattle.expand_forms.specs.Forms.{template_parts}
 use Rattle.law_expand.specs.States.{Later}
 use Rattle.law_expand.specs.Shallow.{deepest}
 use Rattle.law_expand.proofs.Acts.{Gave, gave-after, gave-any, gave-both, gave-within}
@@ -155,7 +157,7 @@ module _ (own : LibName) (go : Inside) (nests : Nests own go) (place : Span) (le
   parts-nest : (ps : List PartForm) (s : State) → Here own s → Gave (λ cs u. Later own s u × Had ps u cs) (parts_in_order go place level ps s)
   parts-nest ps s h =
       gave-pairs own (part_core go place level) (λ p. Unit {0}) (λ bs. PartWithin bs level) (λ bs cs ext p c k. within-grown bs cs ext level p.depth deepest c k)
-      (λ p u q k. gave-both (λ c v. Later own u v) (λ c v. Within v.bindings level p.depth deepest c) (go.form place level p.depth p.form u) (nests.moves.form place level p.depth p.form u k.0) (nests.form place level p.depth p.form u k))
+      (λ p u q k. gave-both (λ c v. Later own u v) (λ c v. Within v.bindings level p.depth deepest c) (go.form (site_at place level p.depth) p.form u) (nests.moves.form place level p.depth p.form u k.0) (nests.form place level p.depth p.form u k))
       ps s (nothing-asked ps) h
 
   -- the code of the match
@@ -204,10 +206,10 @@ module _ (own : LibName) (go : Inside) (nests : Nests own go) (place : Span) (le
       (filled-nests s.bindings level t q depth [] cs (subst (λ (ps : List PartForm). Codes s.bindings level ps cs) (sym (append-nil (quasi_parts t depth [] q))) (pairs-codes s.bindings level (quasi_parts t depth [] q) cs k))).0
   code-nests (forms.Syntax q) depth cs s h k = syntax-nests q q.inserts depth cs s h k
 
-  pub quasi-nests : (depth : ℕ) (which : Family) (template : Tree) (s : State) → Here own s → Gave (λ c u. Within u.bindings level depth deepest c) (quasi_form go place level depth t which template s)
+  pub quasi-nests : (depth : ℕ) (which : Family) (template : Tree) (s : State) → Here own s → Gave (λ c u. Within u.bindings level depth deepest c) (quasi_form go (site_at place level depth) (template_parts t which template) s)
   unfolding quasi_form
   quasi-nests depth which template s h =
-      gave-after (λ q u. u ≡ s) (λ c u. Within u.bindings level depth deepest c) (form_of place t which template s) (quasi_made go place level depth t) (form-same place t which template s)
-      (λ q u e. subst (λ (v : State). Gave (λ c w. Within w.bindings level depth deepest c) (quasi_made go place level depth t q v)) (sym e)
+      gave-after (λ q u. u ≡ s) (λ c u. Within u.bindings level depth deepest c) (form_of place t which template s) (quasi_made go (site_at place level depth) t) (form-same place t which template s)
+      (λ q u e. subst (λ (v : State). Gave (λ c w. Within w.bindings level depth deepest c) (quasi_made go (site_at place level depth) t q v)) (sym e)
       (gave-after (λ cs v. Later own s v × Had (parts_of t depth q) v cs) (λ c v. Within v.bindings level depth deepest c) (parts_in_order go place level (parts_of t depth q) s) (code_of place level t q) (parts-nest (parts_of t depth q) s h)
       (λ cs v k. code-nests q depth cs v (here-later own s v h k.0) k.1)))

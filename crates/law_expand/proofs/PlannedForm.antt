@@ -9,9 +9,9 @@ use Rattle.core_language.specs.declared.record.CompiledLibrary.{CompiledLibrary}
 use Rattle.core_shapes.specs.At.{place_of}
 use Rattle.expand_standing.specs.State.{State}
 use Rattle.expand_standing.specs.Uses.{asks_variable}
+use Rattle.expand_heads.specs.declared.plan.HeadPlan.{HeadPlan}
+use Rattle.expand_heads.specs.declared.plan.HeadPlan.TheVariants as head_plans
 use Rattle.expand_heads.specs.Plan.{plan_of}
-use Rattle.expand_heads.specs.declared.plan.Plan.{Plan}
-use Rattle.expand_heads.specs.declared.plan.Plan.TheVariants as plans
 use Rattle.expand_forms.specs.ExpandUses.{next_form, too_many, set_step, step_of, step, planned_by, expand_uses_to}
 use Rattle.expand_forms.specs.declared.expand_uses.PlanOrUse.{PlanOrUse}
 use Rattle.expand_forms.specs.declared.expand_uses.PlanOrUse.TheVariants as steps
@@ -28,20 +28,10 @@ module _ (own : LibName) (rs : List CompiledLibrary) where
   set-later place t l id true s n = later-self own s n
   set-later place t l id false s n = tt
 
-  steps-later : (place : Span) (t : Tree) (p : Plan) (s : State) → Names own s → Gave (Moved own s) (step_of rs place t p s)
-  steps-later place t (plans.Done c) s n = later-self own s n
-  steps-later place t (plans.Call operator operands) s n = later-self own s n
-  steps-later place t (plans.Conditional test consequent other) s n = later-self own s n
-  steps-later place t (plans.Assignment l value) s n = later-self own s n
-  steps-later place t (plans.Sequence forms) s n = later-self own s n
-  steps-later place t (plans.Lambda ids forms) s n = later-self own s n
-  steps-later place t (plans.CaseLambda cs) s n = later-self own s n
-  steps-later place t (plans.Letrec star bs forms) s n = later-self own s n
-  steps-later place t (plans.Matching subject literals cs span) s n = later-self own s n
-  steps-later place t (plans.Keywords recursive bs forms) s n = later-self own s n
-  steps-later place t (plans.Quasi which template) s n = later-self own s n
-  steps-later place t (plans.Use l) s n = later-self own s n
-  steps-later place t (plans.SetUse l id) s n = moved-after own s (asks_variable rs (place_of t place) l s) (set_step place t l id) (asks-later own rs (place_of t place) l s n) (λ b u m. set-later place t l id b u m)
+  steps-later : (place : Span) (t : Tree) (p : HeadPlan) (s : State) → Names own s → Gave (Moved own s) (step_of rs place t p s)
+  steps-later place t (head_plans.Plan p) s n = later-self own s n
+  steps-later place t (head_plans.Use l) s n = later-self own s n
+  steps-later place t (head_plans.SetUse l id) s n = moved-after own s (asks_variable rs (place_of t place) l s) (set_step place t l id) (asks-later own rs (place_of t place) l s n) (λ b u m. set-later place t l id b u m)
 
   step-later : (place : Span) (level : ℕ) (t : Tree) (s : State) → Names own s → Gave (Moved own s) (step rs place level t s)
   unfolding step

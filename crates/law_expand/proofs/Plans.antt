@@ -26,8 +26,9 @@ use Rattle.expand_standing.specs.declared.standing.Role.TheVariants as role
 use Rattle.expand_standing.specs.declared.standing.Standing.{Standing}
 use Rattle.expand_standing.specs.declared.standing.Standing.TheVariants as standing
 use Rattle.eval_template.specs.Compile as templates
+use Rattle.expand_heads.specs.declared.plan.HeadPlan.{HeadPlan}
+use Rattle.expand_heads.specs.declared.plan.HeadPlan.TheVariants as head_plans
 use Rattle.expand_heads.specs.Plan.{done, reference, constant, assign, keywords_plan, is_letrec_syntax, operand_plan, call_of, application, in_sequence, is_star, shape_plan, with_shape, by_role, keyword_plan, by_head, list_plan, plan_of}
-use Rattle.expand_heads.specs.declared.plan.Plan.{Plan}
 use Rattle.expand_heads.specs.declared.plan.Plan.TheVariants as plans
 use Rattle.expand_heads.specs.declared.plan.KeywordUse.TheVariants as keyword_use
 use Rattle.law_expand.specs.States.{Later}
@@ -37,30 +38,30 @@ use Rattle.law_expand.proofs.Later.{keeps-same, later-self}
 use Rattle.law_expand.proofs.References.{Refers, AssignsBy, marked, reference-is, assign-is}
 
 -- a plan of forms alone, or a use
-abbrev pub IsOfForms : Plan → Type 0
-IsOfForms (plans.Done c) = ⊥
-IsOfForms (plans.Call operator operands) = Unit {0}
-IsOfForms (plans.Conditional test consequent other) = Unit {0}
-IsOfForms (plans.Assignment l value) = ⊥
-IsOfForms (plans.Sequence []) = ⊥
-IsOfForms (plans.Sequence (x ∷ xs)) = Unit {0}
-IsOfForms (plans.Lambda ids forms) = Unit {0}
-IsOfForms (plans.CaseLambda cs) = Unit {0}
-IsOfForms (plans.Letrec star bs forms) = Unit {0}
-IsOfForms (plans.Matching subject literals cs span) = Unit {0}
-IsOfForms (plans.Keywords recursive bs []) = ⊥
-IsOfForms (plans.Keywords recursive bs (x ∷ xs)) = Unit {0}
-IsOfForms (plans.Quasi which template) = Unit {0}
-IsOfForms (plans.Use l) = Unit {0}
-IsOfForms (plans.SetUse l id) = ⊥
+abbrev pub IsOfForms : HeadPlan → Type 0
+IsOfForms (head_plans.Plan (plans.Done c)) = ⊥
+IsOfForms (head_plans.Plan (plans.Call operator operands)) = Unit {0}
+IsOfForms (head_plans.Plan (plans.Conditional test consequent other)) = Unit {0}
+IsOfForms (head_plans.Plan (plans.Assignment l value)) = ⊥
+IsOfForms (head_plans.Plan (plans.Sequence [])) = ⊥
+IsOfForms (head_plans.Plan (plans.Sequence (x ∷ xs))) = Unit {0}
+IsOfForms (head_plans.Plan (plans.Lambda ids forms)) = Unit {0}
+IsOfForms (head_plans.Plan (plans.CaseLambda cs)) = Unit {0}
+IsOfForms (head_plans.Plan (plans.Letrec star bs forms)) = Unit {0}
+IsOfForms (head_plans.Plan (plans.Matching subject literals cs span)) = Unit {0}
+IsOfForms (head_plans.Plan (plans.Keywords recursive bs [])) = ⊥
+IsOfForms (head_plans.Plan (plans.Keywords recursive bs (x ∷ xs))) = Unit {0}
+IsOfForms (head_plans.Plan (plans.Quasi which template)) = Unit {0}
+IsOfForms (head_plans.Use l) = Unit {0}
+IsOfForms (head_plans.SetUse l id) = ⊥
 
 -- the plan of a template's instance
-abbrev pub Instances : (Plan → State → Type 0) → Span → ℕ → State → Type 0
+abbrev pub Instances : (HeadPlan → State → Type 0) → Span → ℕ → State → Type 0
 Instances P place level s = (t operand : Tree) → Gave P (operand_plan place level t core_forms.Syntax operand s)
 
 -- What holds of constants, references, assignments, instances of templates and plans of forms holds of each plan.
-module _ (P : Plan → State → Type 0) (place : Span) (level : ℕ) (s : State) (quotes : (d : PlainDatum) → P (plans.Done (quoted d)) s) (refers : (id : Tree) → Gave P (reference place level id s))
-    (assigns : (t id value : Tree) → Gave P (assign place level t id value s)) (instances : Instances P place level s) (forms : (p : Plan) → IsOfForms p → P p s) where
+module _ (P : HeadPlan → State → Type 0) (place : Span) (level : ℕ) (s : State) (quotes : (d : PlainDatum) → P (head_plans.Plan (plans.Done (quoted d))) s) (refers : (id : Tree) → Gave P (reference place level id s))
+    (assigns : (t id value : Tree) → Gave P (assign place level t id value s)) (instances : Instances P place level s) (forms : (p : HeadPlan) → IsOfForms p → P p s) where
   by-constant : (t : Tree) (is_nil : Bool) → Gave P (constant place t is_nil s)
   by-constant t true = tt
   by-constant t false = quotes (strip t)
@@ -71,37 +72,37 @@ module _ (P : Plan → State → Type 0) (place : Span) (level : ℕ) (s : State
     where
       by : (o : Option (List Tree)) → Gave P (call_of place t operator o s)
       by None = tt
-      by (Some operands) = forms (plans.Call operator operands) tt
+      by (Some operands) = forms (head_plans.Plan (plans.Call operator operands)) tt
 
   by-sequence : (t : Tree) (xs : List Tree) → Gave P (in_sequence place t xs s)
   by-sequence t [] = tt
-  by-sequence t (x ∷ xs) = forms (plans.Sequence (x ∷ xs)) tt
+  by-sequence t (x ∷ xs) = forms (head_plans.Plan (plans.Sequence (x ∷ xs))) tt
 
   by-keywords : (t : Tree) (f : CoreForm) (bs : List BindingSpec) (xs : List Tree) → Gave P (keywords_plan place t f bs xs s)
   by-keywords t f bs [] = tt
-  by-keywords t f bs (x ∷ xs) = forms (plans.Keywords (is_letrec_syntax f) bs (x ∷ xs)) tt
+  by-keywords t f bs (x ∷ xs) = forms (head_plans.Plan (plans.Keywords (is_letrec_syntax f) bs (x ∷ xs))) tt
 
   by-operand : (t : Tree) (f : CoreForm) (operand : Tree) → Gave P (operand_plan place level t f operand s)
   by-operand t core_forms.Syntax operand = instances t operand
-  by-operand t core_forms.Quasiquote operand = forms (plans.Quasi family.Quote operand) tt
-  by-operand t core_forms.Quasisyntax operand = forms (plans.Quasi family.Syntax operand) tt
+  by-operand t core_forms.Quasiquote operand = forms (head_plans.Plan (plans.Quasi family.Quote operand)) tt
+  by-operand t core_forms.Quasisyntax operand = forms (head_plans.Plan (plans.Quasi family.Syntax operand)) tt
   by-operand t _ operand = tt
 
   by-shape : (t : Tree) (f : CoreForm) (x : Shape) → Gave P (shape_plan place level t f x s)
   unfolding shape_plan
   by-shape t f (shapes.Quote datum) = quotes (strip datum)
-  by-shape t f (shapes.Lambda ids body) = forms (plans.Lambda ids body) tt
-  by-shape t f (shapes.CaseLambda cs) = forms (plans.CaseLambda cs) tt
-  by-shape t f (shapes.If test consequent other) = forms (plans.Conditional test consequent other) tt
+  by-shape t f (shapes.Lambda ids body) = forms (head_plans.Plan (plans.Lambda ids body)) tt
+  by-shape t f (shapes.CaseLambda cs) = forms (head_plans.Plan (plans.CaseLambda cs)) tt
+  by-shape t f (shapes.If test consequent other) = forms (head_plans.Plan (plans.Conditional test consequent other)) tt
   by-shape t f (shapes.Set id value) = assigns t id value
   by-shape t f (shapes.Begin xs) = by-sequence t xs
-  by-shape t f (shapes.Letrec bs body) = forms (plans.Letrec (is_star f) bs body) tt
+  by-shape t f (shapes.Letrec bs body) = forms (head_plans.Plan (plans.Letrec (is_star f) bs body)) tt
   by-shape t f (shapes.Define id value) = tt
   by-shape t f (shapes.DefineProcedure id ids body) = tt
   by-shape t f (shapes.DefineSyntax id value) = tt
   by-shape t f (shapes.LetSyntax bs body) = by-keywords t f bs body
   by-shape t f (shapes.Operand operand) = by-operand t f operand
-  by-shape t f (shapes.SyntaxCase subject literals clauses) = forms (plans.Matching subject literals clauses (place_of t place)) tt
+  by-shape t f (shapes.SyntaxCase subject literals clauses) = forms (head_plans.Plan (plans.Matching subject literals clauses (place_of t place))) tt
 
   by-shaped : (t : Tree) (f : CoreForm) (r : Result Shape Fault) → Gave P (with_shape place level t f r s)
   by-shaped t f (Err e) = tt
@@ -114,7 +115,7 @@ module _ (P : Plan → State → Type 0) (place : Span) (level : ℕ) (s : State
   by-role t head f role.Definition = by-shaped t f (shape f t place)
   by-role t head f role.Keywords = by-shaped t f (shape f t place)
   by-role t head f role.Record = tt
-  by-role t head f role.RecordValue = forms (plans.Use (keyword_use.Record f)) tt
+  by-role t head f role.RecordValue = forms (head_plans.Use (keyword_use.Record f)) tt
   by-role t head f role.Auxiliary = tt
 
   by-keyword : (t head : Tree) (f : CoreForm) → Gave P (keyword_plan place level t head f s)
@@ -127,7 +128,7 @@ module _ (P : Plan → State → Type 0) (place : Span) (level : ℕ) (s : State
   by-standing t head rest standing.PatternVariable = by-application t head rest
   by-standing t head rest (standing.Primitive op) = by-application t head rest
   by-standing t head rest (standing.Core f) = by-keyword t head f
-  by-standing t head rest (standing.Keyword l) = forms (plans.Use (keyword_use.Macro l)) tt
+  by-standing t head rest (standing.Keyword l) = forms (head_plans.Use (keyword_use.Macro l)) tt
 
   by-list : (t head rest : Tree) → Gave P (list_plan place level t head rest s)
   unfolding list_plan
@@ -164,7 +165,7 @@ module _ (own : LibName) (place : Span) (level : ℕ) (s : State) (next : s.name
   marked-later : (l : Label) → Later own s (marked l s)
   marked-later l = record { here = refl; next = next; up = omega arith; same = λ f o. refl; grows = grows-same own s (marked l s) refl refl refl (omega arith); scope = refl; tops = λ m v o b. b; keeps = keeps-same own s (marked l s) refl refl }
 
-  assigned-later : (id value : Tree) (st : Standing) (p : Plan) (u : State) → AssignsBy place level s id value st p u → Later own s u
+  assigned-later : (id value : Tree) (st : Standing) (p : HeadPlan) (u : State) → AssignsBy place level s id value st p u → Later own s u
   assigned-later id value standing.Nothing p u k = elim k [ ]
   assigned-later id value (standing.Variable v) p u k = subst (Later own s) (sym k.1.0) (marked-later v.label)
   assigned-later id value standing.PatternVariable p u k = elim k [ ]

@@ -34,6 +34,8 @@ use Rattle.expand_standing.specs.Patterns.{template_of}
 use Rattle.expand_standing.specs.State.{State, fresh_frame}
 use Rattle.expand_forms.specs.Inside.{Inside}
 use Rattle.expand_forms.specs.Quasi.{part_core, parts_in_order, quasi_made, quasi_form}
+use Rattle.expand_forms.specs.Site.{site_at}
+use Rattle.expand_forms.specs.Forms.{template_parts}
 use Rattle.law_expand.specs.States.{IsPattern, IsPrimitive, Later}
 use Rattle.law_expand.proofs.Acts.{Gave, gave-after, gave-within, gave-each}
 use Rattle.law_expand.proofs.Bodies.{starts-with}
@@ -188,10 +190,10 @@ module _ (own : LibName) (given : List Label) (place : Span) (level : ℕ) (t : 
         (λ p u v c k j. starts-later own given vs level ls u v k j.0)
         (λ p qs u v w c cs k j a. (later-then own u v w j.0 a.0, (v.names.number, (lifted own vs ls u.names.number v.names.number c v w a.0 j.1, a.1)))) ps s h
 
-    pub gives-quasi : (depth : ℕ) (which : Family) (template : Tree) (s : State) → S s → Gave (GivesGood own vs ls s) (quasi_form go place level depth t which template s)
+    pub gives-quasi : (depth : ℕ) (which : Family) (template : Tree) (s : State) → S s → Gave (GivesGood own vs ls s) (quasi_form go (site_at place level depth) (template_parts t which template) s)
     unfolding quasi_form
     gives-quasi depth which template s h =
-        gave-after (λ q u. u ≡ s) (GivesGood own vs ls s) (form_of place t which template s) (quasi_made go place level depth t) (form-same place t which template s)
-        (λ q u e. subst (λ (v : State). Gave (GivesGood own vs ls s) (quasi_made go place level depth t q v)) (sym e)
+        gave-after (λ q u. u ≡ s) (GivesGood own vs ls s) (form_of place t which template s) (quasi_made go (site_at place level depth) t) (form-same place t which template s)
+        (λ q u e. subst (λ (v : State). Gave (GivesGood own vs ls s) (quasi_made go (site_at place level depth) t q v)) (sym e)
         (gave-after (GivesAll s) (GivesGood own vs ls s) (parts_in_order go place level (parts_of t depth q) s) (code_of place level t q) (gives-parts (parts_of t depth q) s h)
         (λ cs v k. gives-code q cs s.names.number v (starts-later own given vs level ls s v h k.0) k.1)))

@@ -13,8 +13,9 @@ use Rattle.expand_standing.specs.State.{State}
 use Rattle.expand_standing.specs.declared.standing.Standing.{Standing}
 use Rattle.expand_standing.specs.declared.standing.Standing.TheVariants as standing
 use Rattle.expand_standing.specs.declared.standing.Variable.{Variable}
+use Rattle.expand_heads.specs.declared.plan.HeadPlan.{HeadPlan}
+use Rattle.expand_heads.specs.declared.plan.HeadPlan.TheVariants as head_plans
 use Rattle.expand_heads.specs.Plan.{variable_at, refer, reference, target_variable, target_by, assign_to, assign_by, assign}
-use Rattle.expand_heads.specs.declared.plan.Plan.{Plan}
 use Rattle.expand_heads.specs.declared.plan.Plan.TheVariants as plans
 use Rattle.expand_heads.specs.declared.plan.KeywordUse.TheVariants as keyword_use
 use Rattle.law_expand.proofs.Acts.{Gave, gave-after, gave-if}
@@ -24,13 +25,13 @@ abbrev pub MayRefer : ℕ → State → Variable → Type 0
 MayRefer level s v = ((v.own ≡ true) × ((v.level ≡ level) × (is_in_scope s v ≡ true))) ⊎ ((v.own ≡ false) × (v.top ≡ true))
 
 -- the plan of a reference, by what its identifier stands for
-abbrev pub RefersBy : ℕ → State → Standing → Plan → Type 0
+abbrev pub RefersBy : ℕ → State → Standing → HeadPlan → Type 0
 RefersBy level s standing.Nothing p = ⊥
-RefersBy level s (standing.Variable v) p = (p ≡ plans.Done (variable v.label)) × MayRefer level s v
+RefersBy level s (standing.Variable v) p = (p ≡ head_plans.Plan (plans.Done (variable v.label))) × MayRefer level s v
 RefersBy level s standing.PatternVariable p = ⊥
-RefersBy level s (standing.Primitive op) p = p ≡ plans.Done (primitive op)
+RefersBy level s (standing.Primitive op) p = p ≡ head_plans.Plan (plans.Done (primitive op))
 RefersBy level s (standing.Core f) p = ⊥
-RefersBy level s (standing.Keyword l) p = p ≡ plans.Use (keyword_use.Macro l)
+RefersBy level s (standing.Keyword l) p = p ≡ head_plans.Use (keyword_use.Macro l)
 
 abbrev pub TargetBy : ℕ → State → Standing → Label → Type 0
 TargetBy level s standing.Nothing l = ⊥
@@ -44,7 +45,7 @@ abbrev pub marked : Label → State → State
 marked l s = record s { assigned = with_label s.assigned l }
 
 module _ (place : Span) (level : ℕ) (s : State) where
-  abbrev pub Refers : Standing → Plan → State → Type 0
+  abbrev pub Refers : Standing → HeadPlan → State → Type 0
   Refers st p t = (t ≡ s) × RefersBy level s st p
 
   abbrev pub Targets : Standing → Label → State → Type 0
@@ -91,19 +92,19 @@ module _ (place : Span) (level : ℕ) (s : State) where
   target_by-is t id (standing.Keyword l) = tt
 
   -- the plan of an assignment
-  abbrev pub AssignsBy : Tree → Tree → Standing → Plan → State → Type 0
+  abbrev pub AssignsBy : Tree → Tree → Standing → HeadPlan → State → Type 0
   AssignsBy id value standing.Nothing p t = ⊥
-  AssignsBy id value (standing.Variable v) p t = (p ≡ plans.Assignment v.label value) × ((t ≡ marked v.label s) × MayRefer level s v)
+  AssignsBy id value (standing.Variable v) p t = (p ≡ head_plans.Plan (plans.Assignment v.label value)) × ((t ≡ marked v.label s) × MayRefer level s v)
   AssignsBy id value standing.PatternVariable p t = ⊥
   AssignsBy id value (standing.Primitive op) p t = ⊥
   AssignsBy id value (standing.Core f) p t = ⊥
-  AssignsBy id value (standing.Keyword l) p t = (p ≡ plans.SetUse l id) × (t ≡ s)
+  AssignsBy id value (standing.Keyword l) p t = (p ≡ head_plans.SetUse l id) × (t ≡ s)
 
   assign_by-is : (t id value : Tree) (st : Standing) → Gave (AssignsBy id value st) (assign_by place level t id value st s)
   assign_by-is t id value standing.Nothing = tt
   assign_by-is t id value (standing.Variable v) =
       gave-after (Targets (standing.Variable v)) (AssignsBy id value (standing.Variable v)) (target_variable place level t id v s) (assign_to value) (target_variable-is t id v)
-      (λ l u k. (ap (λ m. plans.Assignment m value) k.1.0, (k.0 ∙ ap (λ m. marked m s) k.1.0, k.1.1)))
+      (λ l u k. (ap (λ m. head_plans.Plan (plans.Assignment m value)) k.1.0, (k.0 ∙ ap (λ m. marked m s) k.1.0, k.1.1)))
   assign_by-is t id value standing.PatternVariable = tt
   assign_by-is t id value (standing.Primitive op) = tt
   assign_by-is t id value (standing.Core f) = tt

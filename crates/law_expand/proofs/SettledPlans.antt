@@ -10,9 +10,9 @@ use Rattle.law_core.specs.Templates.{Depths}
 use Rattle.core_shapes.specs.At.{place_of}
 use Rattle.expand_standing.specs.State.{State}
 use Rattle.expand_standing.specs.Uses.{asks_variable}
+use Rattle.expand_heads.specs.declared.plan.HeadPlan.{HeadPlan}
+use Rattle.expand_heads.specs.declared.plan.HeadPlan.TheVariants as head_plans
 use Rattle.expand_heads.specs.Plan.{plan_of}
-use Rattle.expand_heads.specs.declared.plan.Plan.{Plan}
-use Rattle.expand_heads.specs.declared.plan.Plan.TheVariants as plans
 use Rattle.expand_forms.specs.ExpandUses.{next_form, too_many, set_step, step_of, step, planned_by, expand_uses_to}
 use Rattle.expand_forms.specs.declared.expand_uses.PlannedForm.{PlannedForm}
 use Rattle.expand_forms.specs.declared.expand_uses.PlanOrUse.{PlanOrUse}
@@ -22,7 +22,7 @@ use Rattle.law_expand.specs.States.{Later}
 use Rattle.law_expand.proofs.Acts.{Gave, gave-after, gave-less, gave-both}
 use Rattle.law_expand.proofs.Expand.{Starts, starts-later}
 use Rattle.law_expand.proofs.Later.{later-links, later-then}
-use Rattle.law_expand.proofs.Meanings.{Planned, planned-of}
+use Rattle.law_expand.proofs.Meanings.{Planned, HeadPlanned, planned-of}
 use Rattle.law_expand.proofs.Plans.{plan-later}
 use Rattle.law_expand.proofs.Uses.{asks-later, next-later}
 
@@ -44,27 +44,17 @@ module _ (own : LibName) (given : List Label) (rs : List CompiledLibrary) (vs : 
   set-planned place t l id true s u h = (h, tt)
   set-planned place t l id false s u h = tt
 
-  steps-planned : (place : Span) (t : Tree) (p : Plan) (s u : State) → Later own s u → Planned own u.bindings vs ls u.names.number p → Gave (StepsTo s) (step_of rs place t p u)
-  steps-planned place t (plans.Done c) s u h k = (h, k)
-  steps-planned place t (plans.Call operator operands) s u h k = (h, k)
-  steps-planned place t (plans.Conditional test consequent other) s u h k = (h, k)
-  steps-planned place t (plans.Assignment l value) s u h k = (h, k)
-  steps-planned place t (plans.Sequence forms) s u h k = (h, k)
-  steps-planned place t (plans.Lambda ids forms) s u h k = (h, k)
-  steps-planned place t (plans.CaseLambda cs) s u h k = (h, k)
-  steps-planned place t (plans.Letrec star bs forms) s u h k = (h, k)
-  steps-planned place t (plans.Matching subject literals cs span) s u h k = (h, k)
-  steps-planned place t (plans.Keywords recursive bs forms) s u h k = (h, k)
-  steps-planned place t (plans.Quasi which template) s u h k = (h, k)
-  steps-planned place t (plans.Use l) s u h k = (h, tt)
-  steps-planned place t (plans.SetUse l id) s u h k =
+  steps-planned : (place : Span) (t : Tree) (p : HeadPlan) (s u : State) → Later own s u → HeadPlanned own u.bindings vs ls u.names.number p → Gave (StepsTo s) (step_of rs place t p u)
+  steps-planned place t (head_plans.Plan p) s u h k = (h, k)
+  steps-planned place t (head_plans.Use l) s u h k = (h, tt)
+  steps-planned place t (head_plans.SetUse l id) s u h k =
       gave-after (λ b v. Later own u v) (StepsTo s) (asks_variable rs (place_of t place) l u) (set_step place t l id) (asks-later own rs (place_of t place) l u h.next) (λ b v j. set-planned place t l id b s v (later-then own s u v h j))
 
   step-planned : (place : Span) (t : Tree) (s : State) → S s → Gave (StepsTo s) (step rs place level t s)
   unfolding step
   step-planned place t s h =
-      gave-after (λ p u. Later own s u × Planned own u.bindings vs ls u.names.number p) (StepsTo s) (plan_of place level t s) (step_of rs place t)
-      (gave-both (λ p u. Later own s u) (λ p u. Planned own u.bindings vs ls u.names.number p) (plan_of place level t s) (plan-later own place level s h.0.next t) (planned-of own given vs level ls s h.0 h.1 place t))
+      gave-after (λ p u. Later own s u × HeadPlanned own u.bindings vs ls u.names.number p) (StepsTo s) (plan_of place level t s) (step_of rs place t)
+      (gave-both (λ p u. Later own s u) (λ p u. HeadPlanned own u.bindings vs ls u.names.number p) (plan_of place level t s) (plan-later own place level s h.0.next t) (planned-of own given vs level ls s h.0 h.1 place t))
       (λ p u k. steps-planned place t p s u k.0 k.1)
 
   pub expand_uses-planned : (left : ℕ) (place : Span) (t : Tree) (s : State) → S s → Gave (SettlesTo s) (expand_uses_to rs left place level t s)

@@ -29,6 +29,8 @@ use Rattle.expand_forms.specs.Body.{sequence_of}
 use Rattle.expand_forms.specs.Expression.{in_order, application, alternate, conditional, set, in_sequence}
 use Rattle.expand_forms.specs.Inside.{Inside}
 use Rattle.expand_forms.specs.Keywords.{expand_transformer, seen_in, expand_transformer_in, expand_transformers, keywords, with_keywords}
+use Rattle.expand_forms.specs.Site.{site_at}
+use Rattle.expand_forms.specs.Forms.{if_parts, let_syntax_parts, procedure_parts}
 use Rattle.law_expand.specs.Shallow.{deepest, IsShallow}
 use Rattle.law_expand.specs.States.{IsOwn, ReachOfCode, Later}
 use Rattle.law_expand.proofs.Acts.{Gave, gave-after, gave-less, gave-both, gave-each, gave-within}
@@ -54,8 +56,8 @@ taken_labels d = kind_labels (wait_kinds d.waiting)
 -- what is done inside forms spares the names of keywords
 pub record Spares (own : LibName) (given : List Label) (go : Inside) : Type 0 where
   pub safe : Safe own given go
-  pub form : (place : Span) (level depth : ℕ) (t : Tree) (s : State) → IsGoodState own given s → Gave (λ c u. Onward own given s u × AwayCore own u c) (go.form place level depth t s)
-  pub procedure : (place : Span) (level depth : ℕ) (t : Tree) (ids : FormalIds) (forms : List Tree) (s : State) → IsGoodState own given s → Gave (λ c u. Onward own given s u × AwayCase own u c) (go.procedure place level depth t ids forms s)
+  pub form : (place : Span) (level depth : ℕ) (t : Tree) (s : State) → IsGoodState own given s → Gave (λ c u. Onward own given s u × AwayCore own u c) (go.form (site_at place level depth) t s)
+  pub procedure : (place : Span) (level depth : ℕ) (t : Tree) (ids : FormalIds) (forms : List Tree) (s : State) → IsGoodState own given s → Gave (λ c u. Onward own given s u × AwayCase own u c) (go.procedure (site_at place level depth) (procedure_parts t ids forms) s)
   pub item : (at : BodyAt) (depth : ℕ) (d : Taken) (t : Tree) (s : State) → (is_top at.kind ≡ true → at.level ≡ 0) → IsGoodState own given s → AreUnspent own s (taken_labels d)
       → Gave (λ e u. Onward own given s u × AreUnspent own u (taken_labels e)) (go.item at depth d t s)
 
@@ -92,39 +94,39 @@ module _ (own : LibName) (given : List Label) where
 
   module _ (go : Inside) (spares : Spares own given go) where
     module _ (place : Span) (level depth : ℕ) where
-      spares-order : (forms : List Tree) (s : State) → B s → Gave (Gives (λ u cs. Each (C u) cs) s) (in_order go place level depth forms s)
-      spares-order forms s b = goes-each (go.form place level depth) C core-lift (λ x t k. spares.form place level depth x t k) forms s b
+      spares-order : (forms : List Tree) (s : State) → B s → Gave (Gives (λ u cs. Each (C u) cs) s) (in_order go (site_at place level depth) forms s)
+      spares-order forms s b = goes-each (go.form (site_at place level depth)) C core-lift (λ x t k. spares.form place level depth x t k) forms s b
 
-      pub spares-application : (operator : Tree) (operands : List Tree) (s : State) → B s → Gave (Gives C s) (application go place level depth operator operands s)
+      pub spares-application : (operator : Tree) (operands : List Tree) (s : State) → B s → Gave (Gives C s) (application go (site_at place level depth) operator operands s)
       unfolding application
       spares-application operator operands s b =
-          goes C C s (go.form place level depth operator s) (λ c s'. after (in_order go place level depth operands s') (λ cs. give (call c (cores cs)))) (spares.form place level depth operator s b)
-          (λ c t o w. goes (λ u cs. Each (C u) cs) C t (in_order go place level depth operands t) (λ cs. give (call c (cores cs))) (spares-order operands t o.0)
+          goes C C s (go.form (site_at place level depth) operator s) (λ c s'. after (in_order go (site_at place level depth) operands s') (λ cs. give (call c (cores cs)))) (spares.form place level depth operator s b)
+          (λ c t o w. goes (λ u cs. Each (C u) cs) C t (in_order go (site_at place level depth) operands t) (λ cs. give (call c (cores cs))) (spares-order operands t o.0)
           (λ cs u j x. (
             onward-self own given u j.0,
             away-round own u (binders c ++ all_binders (cores cs)) (call c (cores cs)) (parts c ++ all_parts (cores cs)) refl (away-append own u (binders c) (all_binders (cores cs)) (parts c) (all_parts (cores cs)) (core-lift t u c j.1 w) (all-away own u cs x)),
           )))
 
-      spares-alternate : (c d : PlainCore) (o : Option Tree) (s : State) → B s → C s c → C s d → Gave (Gives C s) (alternate go place level depth c d o s)
+      spares-alternate : (c d : PlainCore) (o : Option Tree) (s : State) → B s → C s c → C s d → Gave (Gives C s) (alternate go (site_at place level depth) c d o s)
       spares-alternate c d None s b w x = (onward-self own given s b, away-round own s (binders c ++ binders d) (one_armed c d) (parts c ++ parts d) refl (away-append own s (binders c) (binders d) (parts c) (parts d) w x))
       spares-alternate c d (Some t) s b w x =
-          goes C C s (go.form place level depth t s) (λ e. give (two_armed c d e)) (spares.form place level depth t s b)
+          goes C C s (go.form (site_at place level depth) t s) (λ e. give (two_armed c d e)) (spares.form place level depth t s b)
           (λ e u o y. (
             onward-self own given u o.0,
             away-round own u (binders c ++ (binders d ++ binders e)) (two_armed c d e) (parts c ++ (parts d ++ parts e)) refl
                 (away-append own u (binders c) (binders d ++ binders e) (parts c) (parts d ++ parts e) (core-lift s u c o.1 w) (away-append own u (binders d) (binders e) (parts d) (parts e) (core-lift s u d o.1 x) y)),
           ))
 
-      pub spares-conditional : (test consequent : Tree) (other : Option Tree) (s : State) → B s → Gave (Gives C s) (conditional go place level depth test consequent other s)
+      pub spares-conditional : (test consequent : Tree) (other : Option Tree) (s : State) → B s → Gave (Gives C s) (conditional go (site_at place level depth) (if_parts test consequent other) s)
       unfolding conditional
       spares-conditional test consequent other s b =
-          goes C C s (go.form place level depth test s) (λ c s'. after (go.form place level depth consequent s') (λ d. alternate go place level depth c d other)) (spares.form place level depth test s b)
-          (λ c t o w. goes C C t (go.form place level depth consequent t) (λ d. alternate go place level depth c d other) (spares.form place level depth consequent t o.0)
+          goes C C s (go.form (site_at place level depth) test s) (λ c s'. after (go.form (site_at place level depth) consequent s') (λ d. alternate go (site_at place level depth) c d other)) (spares.form place level depth test s b)
+          (λ c t o w. goes C C t (go.form (site_at place level depth) consequent t) (λ d. alternate go (site_at place level depth) c d other) (spares.form place level depth consequent t o.0)
           (λ d u j x. spares-alternate c d other u j.0 (core-lift t u c j.1 w) x))
 
-      pub spares-set : (l : Label) (value : Tree) (s : State) → B s → Gave (Gives C s) (set go place level depth l value s)
+      pub spares-set : (l : Label) (value : Tree) (s : State) → B s → Gave (Gives C s) (set go (site_at place level depth) l value s)
       unfolding set
-      spares-set l value s b = goes C C s (go.form place level depth value s) (λ c. give (assignment l c)) (spares.form place level depth value s b)
+      spares-set l value s b = goes C C s (go.form (site_at place level depth) value s) (λ c. give (assignment l c)) (spares.form place level depth value s b)
           (λ c u o w. (onward-self own given u o.0, away-round own u (binders c) (assignment l c) (parts c) refl w))
 
       pub sequence-away : (u : State) (cs : List PlainCore) → Each (C u) cs → C u (sequence_of cs)
@@ -132,9 +134,9 @@ module _ (own : LibName) (given : List Label) where
       sequence-away u (c ∷ []) h = h.0
       sequence-away u (c ∷ (d ∷ cs)) h = away-round own u (all_binders (cores (c ∷ (d ∷ cs)))) (sequence (cores (c ∷ (d ∷ cs)))) (all_parts (cores (c ∷ (d ∷ cs)))) refl (all-away own u (c ∷ (d ∷ cs)) h)
 
-      pub spares-sequence : (forms : List Tree) (s : State) → B s → Gave (Gives C s) (in_sequence go place level depth forms s)
+      pub spares-sequence : (forms : List Tree) (s : State) → B s → Gave (Gives C s) (in_sequence go (site_at place level depth) forms s)
       unfolding in_sequence
-      spares-sequence forms s b = goes (λ u cs. Each (C u) cs) C s (in_order go place level depth forms s) (λ cs. give (sequence_of cs)) (spares-order forms s b)
+      spares-sequence forms s b = goes (λ u cs. Each (C u) cs) C s (in_order go (site_at place level depth) forms s) (λ cs. give (sequence_of cs)) (spares-order forms s b)
           (λ cs u o w. (onward-self own given u o.0, sequence-away u cs w))
 
     -- Keywords.
@@ -164,14 +166,14 @@ module _ (own : LibName) (given : List Label) where
       patterns = tt;
     }
 
-    pub expresses : (place : Span) (level depth : ℕ) (t : Tree) (s : State) → B s → Gave (Expressed s) (apart (go.form place (level + 1) depth t) s)
+    pub expresses : (place : Span) (level depth : ℕ) (t : Tree) (s : State) → B s → Gave (Expressed s) (apart (go.form (site_at place (level + 1) depth) t) s)
     expresses place level depth t s b =
         let z : State = record s { scope = [] } in
         let start = nothing-begins s b in
-        gave-after (λ c u. (Later own z u × Within u.bindings (level + 1) depth deepest c) × (GivesGood own [] given z c u × Gives C z c u)) (Expressed s) (go.form place (level + 1) depth t z) (restoring s.scope)
-        (gave-both (λ c u. Later own z u × Within u.bindings (level + 1) depth deepest c) (λ c u. GivesGood own [] given z c u × Gives C z c u) (go.form place (level + 1) depth t z)
-        (gave-both (λ c u. Later own z u) (λ c u. Within u.bindings (level + 1) depth deepest c) (go.form place (level + 1) depth t z) (spares.safe.moves.form place (level + 1) depth t z b.sound.next) (spares.safe.nests.form place (level + 1) depth t z (b.sound.next, b.sound.numbered)))
-        (gave-both (GivesGood own [] given z) (Gives C z) (go.form place (level + 1) depth t z) (spares.safe.form place (level + 1) depth t z [] given start.sound (nothing-reached level s b)) (spares.form place (level + 1) depth t z start)))
+        gave-after (λ c u. (Later own z u × Within u.bindings (level + 1) depth deepest c) × (GivesGood own [] given z c u × Gives C z c u)) (Expressed s) (go.form (site_at place (level + 1) depth) t z) (restoring s.scope)
+        (gave-both (λ c u. Later own z u × Within u.bindings (level + 1) depth deepest c) (λ c u. GivesGood own [] given z c u × Gives C z c u) (go.form (site_at place (level + 1) depth) t z)
+        (gave-both (λ c u. Later own z u) (λ c u. Within u.bindings (level + 1) depth deepest c) (go.form (site_at place (level + 1) depth) t z) (spares.safe.moves.form place (level + 1) depth t z b.sound.next) (spares.safe.nests.form place (level + 1) depth t z (b.sound.next, b.sound.numbered)))
+        (gave-both (GivesGood own [] given z) (Gives C z) (go.form (site_at place (level + 1) depth) t z) (spares.safe.form place (level + 1) depth t z [] given start.sound (nothing-reached level s b)) (spares.form place (level + 1) depth t z start)))
         (λ c u h.
         let w : State = record u { scope = s.scope } in
         let later : Later own s w = later-apart own s u h.0.0 in
@@ -230,34 +232,34 @@ module _ (own : LibName) (given : List Label) where
     abbrev pub N : {A : Type 0} → State → A → Type 0
     N u a = Unit {0}
 
-    pub spares-keyword : (place : Span) (level depth : ℕ) (b : BoundSpec) (s : State) → B s → Gave (Gives (N {A = Unit {0}}) s) (expand_transformer go place level depth b s)
+    pub spares-keyword : (place : Span) (level depth : ℕ) (b : BoundSpec) (s : State) → B s → Gave (Gives (N {A = Unit {0}}) s) (expand_transformer go (site_at place level depth) b s)
     unfolding expand_transformer
     spares-keyword place level depth b s h =
-        gave-after (Expressed s) (Gives (N {A = Unit {0}}) s) (apart (go.form place (level + 1) depth b.init) s) (evaluate_transformer go.earlier (place_of b.init place) b.label) (expresses place level depth b.init s h)
+        gave-after (Expressed s) (Gives (N {A = Unit {0}}) s) (apart (go.form (site_at place (level + 1) depth) b.init) s) (evaluate_transformer go.earlier (place_of b.init place) b.label) (expresses place level depth b.init s h)
         (λ c w x. gave-less (λ a v. Later own w v × TellsBut b.label c w.keywords v.keywords) (Gives (N {A = Unit {0}}) s) (evaluate_transformer go.earlier (place_of b.init place) b.label c w)
         (gave-both (λ a v. Later own w v) (λ a v. TellsBut b.label c w.keywords v.keywords) (evaluate_transformer go.earlier (place_of b.init place) b.label c w)
         (finish-later own go.earlier (place_of b.init place) b.label c w x.0.0.sound.next) (finish-told go.earlier (place_of b.init place) b.label c w))
         (λ a v k. (finished s w v b.label c x k.0 k.1, tt)))
 
-    spares-all : (place : Span) (level depth : ℕ) (recursive : Bool) (f : FrameNo) (bs : List BoundSpec) (s : State) → B s → Gave (Gives (N {A = Unit {0}}) s) (expand_transformers go place level depth recursive f bs s)
+    spares-all : (place : Span) (level depth : ℕ) (recursive : Bool) (f : FrameNo) (bs : List BoundSpec) (s : State) → B s → Gave (Gives (N {A = Unit {0}}) s) (expand_transformers go (site_at place level depth) recursive f bs s)
     unfolding gather
     spares-all place level depth recursive f [] s h = (onward-self own given s h, tt)
     spares-all place level depth recursive f (b ∷ bs) s h =
-        goes N N s (expand_transformer_in go place level depth recursive f tt b s) (λ e. gather (expand_transformer_in go place level depth recursive f) e bs) (spares-keyword place level depth (seen_in recursive f b) s h)
+        goes N N s (expand_transformer_in go (site_at place level depth) recursive f tt b s) (λ e. gather (expand_transformer_in go (site_at place level depth) recursive f) e bs) (spares-keyword place level depth (seen_in recursive f b) s h)
         (λ e u o w. spares-all place level depth recursive f bs u o.0)
 
-    pub spares-keywords : (place : Span) (level depth : ℕ) (recursive : Bool) (bs : List BindingSpec) (forms : List Tree) (s : State) → B s → Gave (Gives (N {A = List Tree}) s) (with_keywords go place level depth recursive bs forms s)
+    pub spares-keywords : (place : Span) (level depth : ℕ) (recursive : Bool) (bs : List BindingSpec) (forms : List Tree) (s : State) → B s → Gave (Gives (N {A = List Tree}) s) (with_keywords go (site_at place level depth) (let_syntax_parts recursive bs forms) s)
     unfolding fresh_frame keywords
     spares-keywords place level depth recursive bs forms s h =
         let f = as_frame s.names in
         let z = counted s in
         let start = onward-counted own given s h in
-        gave-less (Gives (N {A = List Tree}) z) (Gives (N {A = List Tree}) s) (after (keywords go place level depth recursive bs f z) (λ _. give (map (stamp f) forms)))
-        (goes (N {A = Unit {0}}) N z (keywords go place level depth recursive bs f z) (λ _. give (map (stamp f) forms))
-        (gave-after (λ xs u. BindsKeywords own f z xs u × Tells z.keywords u.keywords) (Gives N z) (bind_keywords f place level bs z) (expand_transformers go place level depth recursive f)
+        gave-less (Gives (N {A = List Tree}) z) (Gives (N {A = List Tree}) s) (after (keywords go (site_at place level depth) recursive bs f z) (λ _. give (map (stamp f) forms)))
+        (goes (N {A = Unit {0}}) N z (keywords go (site_at place level depth) recursive bs f z) (λ _. give (map (stamp f) forms))
+        (gave-after (λ xs u. BindsKeywords own f z xs u × Tells z.keywords u.keywords) (Gives N z) (bind_keywords f place level bs z) (expand_transformers go (site_at place level depth) recursive f)
         (gave-both (BindsKeywords own f z) (λ xs u. Tells z.keywords u.keywords) (bind_keywords f place level bs z) (binds-keywords own f place level bs z h.sound.next) (keywords-told f place level bs z))
         (λ xs u k.
         let o = onward-but own given f false [] [] z u k.0.later (k.0.adds false) k.1 start.0 in
-        gave-less (Gives N u) (Gives N z) (expand_transformers go place level depth recursive f xs u) (spares-all place level depth recursive f xs u o.0) (λ a v j. (onward-then own given z u v o j.0, tt))))
+        gave-less (Gives N u) (Gives N z) (expand_transformers go (site_at place level depth) recursive f xs u) (spares-all place level depth recursive f xs u o.0) (λ a v j. (onward-then own given z u v o j.0, tt))))
         (λ a u o w. (onward-self own given u o.0, tt)))
         (λ a u j. (onward-then own given s z u start j.0, tt))

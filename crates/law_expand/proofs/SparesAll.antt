@@ -16,6 +16,8 @@ use Rattle.expand_standing.specs.State.{State}
 use Rattle.expand_standing.specs.Uses.{asks_variable}
 use Rattle.expand_standing.specs.declared.standing.Standing.{Standing}
 use Rattle.expand_standing.specs.declared.standing.Standing.TheVariants as standing
+use Rattle.expand_heads.specs.declared.plan.HeadPlan.{HeadPlan}
+use Rattle.expand_heads.specs.declared.plan.HeadPlan.TheVariants as head_plans
 use Rattle.expand_heads.specs.Depth.{most_round}
 use Rattle.expand_heads.specs.Plan.{done, reference, assign, plan_of}
 use Rattle.expand_heads.specs.declared.plan.Plan.{Plan}
@@ -26,6 +28,7 @@ use Rattle.expand_forms.specs.ExpandUses.{next_form, too_many, set_step, step_of
 use Rattle.expand_forms.specs.declared.expand_uses.PlannedForm.{PlannedForm}
 use Rattle.expand_forms.specs.declared.expand_uses.PlanOrUse.{PlanOrUse}
 use Rattle.expand_forms.specs.declared.expand_uses.PlanOrUse.TheVariants as steps
+use Rattle.expand_forms.specs.Site.{site_at}
 use Rattle.expand_forms.proofs.Linked.{linked-keeps}
 use Rattle.law_expand.specs.States.{Later}
 use Rattle.law_expand.proofs.Acts.{Gave, gave-after, gave-less, gave-both, gave-if}
@@ -40,7 +43,7 @@ use Rattle.law_expand.proofs.SpentOnStage.{Tells, next-told, variable-told}
 use Rattle.law_expand.proofs.SpentBinding.{onward-self, onward-then, onward-later}
 use Rattle.law_expand.proofs.Spares.{Spares, Gives, goes, C, core-lift}
 use Rattle.law_expand.proofs.SparesItems.{spares-item}
-use Rattle.law_expand.proofs.SparesForms.{PlanAway, spares-case, spares-perform, same-told}
+use Rattle.law_expand.proofs.SparesForms.{PlanAway, HeadAway, spares-case, spares-perform, same-told}
 
 module _ (own : LibName) (given : List Label) (go : Inside) (spares : Spares own given go) where
   abbrev B : State → Type 0
@@ -52,40 +55,43 @@ module _ (own : LibName) (given : List Label) (go : Inside) (spares : Spares own
   abbrev W : State → Plan → Type 0
   W u p = PlanAway own given go spares u p
 
+  abbrev HW : State → HeadPlan → Type 0
+  HW u p = HeadAway own given go spares u p
+
   module _ (place : Span) (level : ℕ) (s : State) where
-    abbrev P : Plan → State → Type 0
-    P p u = (u.keywords ≡ s.keywords) × W u p
+    abbrev P : HeadPlan → State → Type 0
+    P p u = (u.keywords ≡ s.keywords) × HW u p
 
-    refers-away : (st : Standing) (p : Plan) → RefersBy level s st p → W s p
+    refers-away : (st : Standing) (p : HeadPlan) → RefersBy level s st p → HW s p
     refers-away standing.Nothing p k = elim k [ ]
-    refers-away (standing.Variable v) p k = subst (W s) (sym k.0) (record { labels = tt; codes = (tt, tt) })
+    refers-away (standing.Variable v) p k = subst (HW s) (sym k.0) (record { labels = tt; codes = (tt, tt) })
     refers-away standing.PatternVariable p k = elim k [ ]
-    refers-away (standing.Primitive op) p k = subst (W s) (sym k) (record { labels = tt; codes = (tt, tt) })
+    refers-away (standing.Primitive op) p k = subst (HW s) (sym k) (record { labels = tt; codes = (tt, tt) })
     refers-away (standing.Core f) p k = elim k [ ]
-    refers-away (standing.Keyword l) p k = subst (W s) (sym k) tt
+    refers-away (standing.Keyword l) p k = subst (HW s) (sym k) tt
 
-    assigns-away : (id value : Tree) (st : Standing) (p : Plan) (u : State) → AssignsBy place level s id value st p u → P p u
+    assigns-away : (id value : Tree) (st : Standing) (p : HeadPlan) (u : State) → AssignsBy place level s id value st p u → P p u
     assigns-away id value standing.Nothing p u k = elim k [ ]
-    assigns-away id value (standing.Variable v) p u k = (ap (λ (x : State). x.keywords) k.1.0, subst (W u) (sym k.0) tt)
+    assigns-away id value (standing.Variable v) p u k = (ap (λ (x : State). x.keywords) k.1.0, subst (HW u) (sym k.0) tt)
     assigns-away id value standing.PatternVariable p u k = elim k [ ]
     assigns-away id value (standing.Primitive op) p u k = elim k [ ]
     assigns-away id value (standing.Core f) p u k = elim k [ ]
-    assigns-away id value (standing.Keyword l) p u k = (ap (λ (x : State). x.keywords) k.1, subst (W u) (sym k.0) tt)
+    assigns-away id value (standing.Keyword l) p u k = (ap (λ (x : State). x.keywords) k.1, subst (HW u) (sym k.0) tt)
 
-    forms-away : (p : Plan) → IsOfForms p → W s p
-    forms-away (plans.Done c) h = elim h [ ]
-    forms-away (plans.Call operator operands) h = tt
-    forms-away (plans.Conditional test consequent other) h = tt
-    forms-away (plans.Assignment l value) h = tt
-    forms-away (plans.Sequence forms) h = tt
-    forms-away (plans.Lambda ids forms) h = tt
-    forms-away (plans.CaseLambda cs) h = tt
-    forms-away (plans.Letrec star bs forms) h = tt
-    forms-away (plans.Matching subject literals cs span) h = tt
-    forms-away (plans.Keywords recursive bs forms) h = tt
-    forms-away (plans.Quasi which template) h = tt
-    forms-away (plans.Use l) h = tt
-    forms-away (plans.SetUse l id) h = tt
+    forms-away : (p : HeadPlan) → IsOfForms p → HW s p
+    forms-away (head_plans.Plan (plans.Done c)) h = elim h [ ]
+    forms-away (head_plans.Plan (plans.Call operator operands)) h = tt
+    forms-away (head_plans.Plan (plans.Conditional test consequent other)) h = tt
+    forms-away (head_plans.Plan (plans.Assignment l value)) h = tt
+    forms-away (head_plans.Plan (plans.Sequence forms)) h = tt
+    forms-away (head_plans.Plan (plans.Lambda ids forms)) h = tt
+    forms-away (head_plans.Plan (plans.CaseLambda cs)) h = tt
+    forms-away (head_plans.Plan (plans.Letrec star bs forms)) h = tt
+    forms-away (head_plans.Plan (plans.Matching subject literals cs span)) h = tt
+    forms-away (head_plans.Plan (plans.Keywords recursive bs forms)) h = tt
+    forms-away (head_plans.Plan (plans.Quasi which template)) h = tt
+    forms-away (head_plans.Use l) h = tt
+    forms-away (head_plans.SetUse l id) h = tt
 
     plan-away : (t : Tree) → Gave P (plan_of place level t s)
     plan-away t = plan-cases P place level s (λ d. (refl, record { labels = tt; codes = (tt, tt) }))
@@ -94,9 +100,9 @@ module _ (own : LibName) (given : List Label) (go : Inside) (spares : Spares own
         (λ x operand. gave-after (IsTemplate place level operand s) P (template_of place level operand s) (λ y. done (instance y (place_of x place))) (template-is place level operand s) (λ y u k. (ap (λ (z : State). z.keywords) k.same, record { labels = tt; codes = (tt, tt) })))
         (λ p h. (refl, forms-away p h)) t
 
-  plan-goes : (place : Span) (level : ℕ) (t : Tree) (s : State) → B s → Gave (Gives own given W s) (plan_of place level t s)
+  plan-goes : (place : Span) (level : ℕ) (t : Tree) (s : State) → B s → Gave (Gives own given HW s) (plan_of place level t s)
   plan-goes place level t s b =
-      gave-less (λ p u. Later own s u × P place level s p u) (Gives own given W s) (plan_of place level t s)
+      gave-less (λ p u. Later own s u × P place level s p u) (Gives own given HW s) (plan_of place level t s)
       (gave-both (λ p u. Later own s u) (P place level s) (plan_of place level t s) (plan-later own place level s b.sound.next t) (plan-away place level s t))
       (λ p u k. (onward-later own given s u k.0 (same-told own given s u k.1.0) b, k.1.1))
 
@@ -111,20 +117,10 @@ module _ (own : LibName) (given : List Label) (go : Inside) (spares : Spares own
     set-spares place t l id true s b = (onward-self own given s b, tt)
     set-spares place t l id false s b = tt
 
-    steps-spare : (place : Span) (t : Tree) (p : Plan) (s : State) → B s → W s p → Gave (Gives own given StepAway s) (step_of rs place t p s)
-    steps-spare place t (plans.Done c) s b k = (onward-self own given s b, k)
-    steps-spare place t (plans.Call operator operands) s b k = (onward-self own given s b, k)
-    steps-spare place t (plans.Conditional test consequent other) s b k = (onward-self own given s b, k)
-    steps-spare place t (plans.Assignment l value) s b k = (onward-self own given s b, k)
-    steps-spare place t (plans.Sequence forms) s b k = (onward-self own given s b, k)
-    steps-spare place t (plans.Lambda ids forms) s b k = (onward-self own given s b, k)
-    steps-spare place t (plans.CaseLambda cs) s b k = (onward-self own given s b, k)
-    steps-spare place t (plans.Letrec star bs forms) s b k = (onward-self own given s b, k)
-    steps-spare place t (plans.Matching subject literals cs span) s b k = (onward-self own given s b, k)
-    steps-spare place t (plans.Keywords recursive bs forms) s b k = (onward-self own given s b, k)
-    steps-spare place t (plans.Quasi which template) s b k = (onward-self own given s b, k)
-    steps-spare place t (plans.Use l) s b k = (onward-self own given s b, tt)
-    steps-spare place t (plans.SetUse l id) s b k =
+    steps-spare : (place : Span) (t : Tree) (p : HeadPlan) (s : State) → B s → HW s p → Gave (Gives own given StepAway s) (step_of rs place t p s)
+    steps-spare place t (head_plans.Plan p) s b k = (onward-self own given s b, k)
+    steps-spare place t (head_plans.Use l) s b k = (onward-self own given s b, tt)
+    steps-spare place t (head_plans.SetUse l id) s b k =
         gave-after (λ x u. Later own s u × Tells s.keywords u.keywords) (Gives own given StepAway s) (asks_variable rs (place_of t place) l s) (set_step place t l id)
         (gave-both (λ x u. Later own s u) (λ x u. Tells s.keywords u.keywords) (asks_variable rs (place_of t place) l s) (asks-later own rs (place_of t place) l s b.sound.next) (variable-told rs (place_of t place) l s))
         (λ x u j. let o = onward-later own given s u j.0 j.1 b in
@@ -132,7 +128,7 @@ module _ (own : LibName) (given : List Label) (go : Inside) (spares : Spares own
 
     step-spares : (place : Span) (t : Tree) (s : State) → B s → Gave (Gives own given StepAway s) (step rs place level t s)
     unfolding step
-    step-spares place t s b = goes own given W StepAway s (plan_of place level t s) (step_of rs place t) (plan-goes place level t s b) (λ p u o w. steps-spare place t p u o.0 w)
+    step-spares place t s b = goes own given HW StepAway s (plan_of place level t s) (step_of rs place t) (plan-goes place level t s b) (λ p u o w. steps-spare place t p u o.0 w)
 
     abbrev SettledAway : State → PlannedForm → Type 0
     SettledAway u d = W u d.plan
@@ -149,8 +145,6 @@ module _ (own : LibName) (given : List Label) (go : Inside) (spares : Spares own
     plan-lift t u (plans.Matching subject literals cs span) k w = tt
     plan-lift t u (plans.Keywords recursive bs forms) k w = tt
     plan-lift t u (plans.Quasi which template) k w = tt
-    plan-lift t u (plans.Use l) k w = tt
-    plan-lift t u (plans.SetUse l id) k w = tt
 
     -- links are no part of what is spared
     links-spare : (u : State) (ls : List Link) (p : Plan) → B u → W u p → O u (record u { links = ls }) × W (record u { links = ls }) p
@@ -180,7 +174,7 @@ module _ (own : LibName) (given : List Label) (go : Inside) (spares : Spares own
 
   -- A form.
 
-  pub spares-form : (place : Span) (level depth : ℕ) (t : Tree) (s : State) → B s → Gave (Gives own given (C own given) s) (form_at go place level depth t s)
+  pub spares-form : (place : Span) (level depth : ℕ) (t : Tree) (s : State) → B s → Gave (Gives own given (C own given) s) (form_at go (site_at place level depth) t s)
   unfolding form_at
   spares-form place level depth t s b =
       gave-if (Gives own given (C own given) s) (nat_lt most_round depth) _ (after (expand_uses go.earlier place level t s) (perform_settled go level depth)) (λ e. tt)

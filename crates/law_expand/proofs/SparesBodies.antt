@@ -27,6 +27,8 @@ use Rattle.expand_heads.specs.declared.taken.Waits.TheVariants as waits
 use Rattle.expand_forms.specs.Body.{splice, no_value, value_of, finish_as, finish_one, finish_all, sequence_of, inits_in, values_in, with_inits, body_core, finish, lambda_at, body_in, body}
 use Rattle.expand_heads.specs.Depth.{deeper}
 use Rattle.expand_forms.specs.Inside.{Inside}
+use Rattle.expand_forms.specs.Site.{site_at}
+use Rattle.expand_forms.specs.Forms.{procedure_parts}
 use Rattle.law_expand.proofs.Acts.{Gave, gave-less, gave-if, gave-each, gave-gather}
 use Rattle.law_expand.proofs.Items.{wait_kind, wait_kinds}
 use Rattle.law_expand.proofs.LineLabels.{kind_labels}
@@ -94,24 +96,24 @@ module _ (own : LibName) (given : List Label) where
       no-value-away : (u : State) → C own given u no_value
       no-value-away u = record { labels = tt; codes = (tt, (tt, (tt, tt))) }
 
-      spares-value : (place : Span) (depth : ℕ) (o : Option Tree) (s : State) → B s → Gave (Gives own given (C own given) s) (value_of go place level depth o s)
+      spares-value : (place : Span) (depth : ℕ) (o : Option Tree) (s : State) → B s → Gave (Gives own given (C own given) s) (value_of go (site_at place level depth) o s)
       spares-value place depth None s b = (onward-self own given s b, no-value-away s)
       spares-value place depth (Some t) s b = spares.form place level depth t s b
 
-      spares-line : (place : Span) (depth : ℕ) (w : Waits) (s : State) → B s → Gave (Gives own given (Kind w) s) (finish_as go level place depth w s)
+      spares-line : (place : Span) (depth : ℕ) (w : Waits) (s : State) → B s → Gave (Gives own given (Kind w) s) (finish_as go (site_at place level depth) w s)
       unfolding finish_as fresh
       spares-line place depth (waits.Variable l value) s b =
-          goes own given (C own given) (Kind (waits.Variable l value)) s (value_of go place level (deeper depth) value s) (λ c. give (line.Define l c)) (spares-value place (deeper depth) value s b) (λ c t o x. (onward-self own given t o.0, (x, refl)))
+          goes own given (C own given) (Kind (waits.Variable l value)) s (value_of go (site_at place level (deeper depth)) value s) (λ c. give (line.Define l c)) (spares-value place (deeper depth) value s b) (λ c t o x. (onward-self own given t o.0, (x, refl)))
       spares-line place depth (waits.Procedure l t ids forms) s b =
           let start = onward-counted own given s b in
           let n : CodeNo = record { 0 = s.names } in
-          gave-less (Gives own given (Kind (waits.Procedure l t ids forms)) (counted s)) (Gives own given (Kind (waits.Procedure l t ids forms)) s) (after (go.procedure place level (deeper depth) t ids forms (counted s)) (λ c. give (line.Define l (procedure n (cases (c ∷ [])) true))))
-          (goes own given (AwayCase own) (Kind (waits.Procedure l t ids forms)) (counted s) (go.procedure place level (deeper depth) t ids forms (counted s)) (λ c. give (line.Define l (procedure n (cases (c ∷ [])) true)))
+          gave-less (Gives own given (Kind (waits.Procedure l t ids forms)) (counted s)) (Gives own given (Kind (waits.Procedure l t ids forms)) s) (after (go.procedure (site_at place level (deeper depth)) (procedure_parts t ids forms) (counted s)) (λ c. give (line.Define l (procedure n (cases (c ∷ [])) true))))
+          (goes own given (AwayCase own) (Kind (waits.Procedure l t ids forms)) (counted s) (go.procedure (site_at place level (deeper depth)) (procedure_parts t ids forms) (counted s)) (λ c. give (line.Define l (procedure n (cases (c ∷ [])) true)))
           (spares.procedure place level (deeper depth) t ids forms (counted s) start.0)
           (λ c u o x. (onward-self own given u o.0, (procedure-away u n (c ∷ []) true (unspent-later own (counted s) u s.names o.1 (counted-unspent own given s b.kept)) (x, tt), refl))))
           (λ x u j. (onward-then own given s (counted s) u start j.0, j.1))
       spares-line place depth (waits.Expression t) s b =
-          goes own given (C own given) (Kind (waits.Expression t)) s (go.form place level depth t s) (λ c. give (line.Expr c)) (spares.form place level depth t s b) (λ c u o x. (onward-self own given u o.0, (x, refl)))
+          goes own given (C own given) (Kind (waits.Expression t)) s (go.form (site_at place level depth) t s) (λ c. give (line.Expr c)) (spares.form place level depth t s b) (λ c u o x. (onward-self own given u o.0, (x, refl)))
 
       -- lines of the kinds that waited
       abbrev pub Lines : List Waiting → State → List Line → Type 0
@@ -138,14 +140,14 @@ module _ (own : LibName) (given : List Label) where
           (λ xs u o x. (onward-self own given u o.0, body-away u xs x.0 (subst (λ (ks : List (Option Label)). AreUnspent own u (kind_labels ks)) (sym x.1) (unspent-all own s u (taken_labels d) o.1 k)))))
           (λ e. tt)
 
-      pub spares-body : (forms : List Tree) (s : State) → B s → Gave (Gives own given (C own given) s) (body go place level depth t forms s)
+      pub spares-body : (forms : List Tree) (s : State) → B s → Gave (Gives own given (C own given) s) (body go (site_at place level depth) t forms s)
       unfolding body fresh_frame
       spares-body forms s b =
           let f = as_frame s.names in
           let z = counted s in
           let start = onward-counted own given s b in
           let first = splice go (lambda_at f place level) depth begun (map (stamp f) forms) z in
-          goes-within own given (C own given) (core-lift own given) (λ u. after (fresh_frame u) (body_in go place level depth t forms)) s
+          goes-within own given (C own given) (core-lift own given) (λ u. after (fresh_frame u) (body_in go (site_at place level depth) t forms)) s
           (gave-less (Gives own given (C own given) z) (Gives own given (C own given) s) (after first (finish go place level t))
           (goes own given T (C own given) z first (finish go place level t) (spares-splice (lambda_at f place level) depth begun (map (stamp f) forms) z (λ e. absurd (cc)) start.0 tt) (λ d u o k. spares-finish d u o.0 k))
           (λ c u j. (onward-then own given s z u start j.0, j.1)))

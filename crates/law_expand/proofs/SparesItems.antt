@@ -16,6 +16,8 @@ use Rattle.expand_standing.specs.Binders.{bind_variable}
 use Rattle.expand_standing.specs.State.{State, fault_word}
 use Rattle.expand_standing.specs.Uses.{asks_variable, bind_keyword}
 use Rattle.expand_standing.specs.declared.binders.BoundSpec.{BoundSpec}
+use Rattle.expand_heads.specs.declared.item.HeadItem.{HeadItem}
+use Rattle.expand_heads.specs.declared.item.HeadItem.TheVariants as head_items
 use Rattle.expand_heads.specs.Items.{is_top, is_mixed, any_changed, heads_like, with_waiting, waiting_at, in_time, keyword_in_time, define, define_keyword, define_item, item_plan}
 use Rattle.expand_heads.specs.declared.item.Item.{Item}
 use Rattle.expand_heads.specs.declared.item.Item.TheVariants as items
@@ -34,6 +36,8 @@ use Rattle.expand_forms.specs.ExpandUses as expand_uses
 use Rattle.expand_forms.specs.declared.expand_uses.ItemOrUse.{ItemOrUse}
 use Rattle.expand_forms.specs.declared.expand_uses.ItemOrUse.TheVariants as item_steps
 use Rattle.expand_forms.specs.declared.expand_uses.PlannedItem.{PlannedItem}
+use Rattle.expand_forms.specs.Site.{site_at}
+use Rattle.expand_forms.specs.Forms.{definition_parts, let_syntax_parts}
 use Rattle.law_expand.specs.States.{Later}
 use Rattle.law_expand.proofs.Acts.{Gave, gave-after, gave-less, gave-both, gave-if}
 use Rattle.law_expand.proofs.BindingKeywords.{BindsKeywords}
@@ -121,9 +125,9 @@ module _ (own : LibName) (given : List Label) where
     waits-so : (depth : ℕ) (d : Taken) (t : Tree) (s : State) → W s d → W s (with_expression at depth d t)
     waits-so depth d t s k = labels-more s d.waiting (waiting_at at depth (waits.Expression t)) k tt
 
-    pub spares-plan : (depth : ℕ) (d : Taken) (t : Tree) (s : State) → B s → W s d → Gave (Gives own given (P {A = Item}) s) (item_plan at depth d t s)
-    spares-plan depth d t s b k = item-cases (W s) (Gives own given (P {A = Item}) s) at depth s (λ e id j. j) (λ e x j. (onward-self own given s b, waits-so depth e x s j))
-        (λ e x y j. gave-after (Gives own given W s) (Gives own given (P {A = Item}) s) (define_item at depth e x y s) (λ z. give (z, items.Nothing)) (spares-definition depth e x y s b j) (λ z u l. l))
+    pub spares-plan : (depth : ℕ) (d : Taken) (t : Tree) (s : State) → B s → W s d → Gave (Gives own given (P {A = HeadItem}) s) (item_plan at depth d t s)
+    spares-plan depth d t s b k = item-cases (W s) (Gives own given (P {A = HeadItem}) s) at depth s (λ e id j. j) (λ e x j. (onward-self own given s b, waits-so depth e x s j))
+        (λ e x y j. gave-after (Gives own given W s) (Gives own given (P {A = HeadItem}) s) (define_item at depth e x y s) (λ z. give (z, head_items.Item items.Nothing)) (spares-definition depth e x y s b j) (λ z u l. l))
         (λ e i j. (onward-self own given s b, j)) d t k
 
     -- the definition of a keyword
@@ -142,15 +146,15 @@ module _ (own : LibName) (given : List Label) where
         (keyword-told at.frame at.place at.level b s) (keyword-in-time s done b.id))
 
     module _ (go : Inside) (spares : Spares own given go) where
-      spares-keyword-item : (depth : ℕ) (d : Taken) (t : Tree) (b : BindingSpec) (s : State) → B s → W s d → Gave (Gives own given W s) (after (define_syntax go at depth d t b s) (λ _. give d))
+      spares-keyword-item : (depth : ℕ) (d : Taken) (t : Tree) (b : BindingSpec) (s : State) → B s → W s d → Gave (Gives own given W s) (after (define_syntax go at depth d (definition_parts t b) s) (λ _. give d))
       unfolding define_syntax
       spares-keyword-item depth d t b s h k =
-          gave-after (λ x u. O s u) (Gives own given W s) (after (define_keyword at d t b s) (expand_transformer go at.place at.level depth)) (λ _. give d)
-          (gave-after (λ x u. BindsKeywords own at.frame s (x ∷ []) u × Tells s.keywords u.keywords) (λ x u. O s u) (define_keyword at d t b s) (expand_transformer go at.place at.level depth)
+          gave-after (λ x u. O s u) (Gives own given W s) (after (define_keyword at d t b s) (expand_transformer go (site_at at.place at.level depth))) (λ _. give d)
+          (gave-after (λ x u. BindsKeywords own at.frame s (x ∷ []) u × Tells s.keywords u.keywords) (λ x u. O s u) (define_keyword at d t b s) (expand_transformer go (site_at at.place at.level depth))
           (gave-both (λ x u. BindsKeywords own at.frame s (x ∷ []) u) (λ x u. Tells s.keywords u.keywords) (define_keyword at d t b s) (defines-keyword own s at s h.sound.next low d t b) (defined-told d t b s))
           (λ x u j.
           let o = onward-but own given at.frame (is_top at.kind) [] [] s u j.0.later (j.0.adds (is_top at.kind)) j.1 h in
-          gave-less (Gives own given (N own given go spares) u) (λ y v. O s v) (expand_transformer go at.place at.level depth x u) (spares-keyword own given go spares at.place at.level depth x u o.0) (λ y v g. onward-then own given s u v o g.0)))
+          gave-less (Gives own given (N own given go spares) u) (λ y v. O s v) (expand_transformer go (site_at at.place at.level depth) x u) (spares-keyword own given go spares at.place at.level depth x u o.0) (λ y v g. onward-then own given s u v o g.0)))
           (λ x u o. (o, unspent-all own s u (taken_labels d) o.1 k))
 
       spares-performs : (depth : ℕ) (d : Taken) (t : Tree) (i : Item) (s : State) → B s → W s d → Gave (Gives own given W s) (perform_item go at depth d t i s)
@@ -159,10 +163,8 @@ module _ (own : LibName) (given : List Label) where
       spares-performs depth d t (items.Forms forms) s h k = spares-splice own given go spares at (deeper depth) d forms s low h k
       spares-performs depth d t (items.Keyword b) s h k = spares-keyword-item (deeper depth) d t b s h k
       spares-performs depth d t (items.Keywords recursive bs forms) s h k =
-          goes own given (N own given go spares) W s (with_keywords go at.place at.level (deeper depth) recursive bs forms s) (splice go at (deeper depth) d) (spares-keywords own given go spares at.place at.level (deeper depth) recursive bs forms s h)
+          goes own given (N own given go spares) W s (with_keywords go (site_at at.place at.level (deeper depth)) (let_syntax_parts recursive bs forms) s) (splice go at (deeper depth) d) (spares-keywords own given go spares at.place at.level (deeper depth) recursive bs forms s h)
           (λ xs u o w. spares-splice own given go spares at (deeper depth) d xs u low o.0 (unspent-all own s u (taken_labels d) o.1 k))
-      spares-performs depth d t (items.Use l) s h k = tt
-      spares-performs depth d t (items.SetUse l) s h k = tt
 
   -- Uses in a body are expanded.
 
@@ -171,13 +173,10 @@ module _ (own : LibName) (given : List Label) where
     set-spares at d t l true s low h k = (onward-self own given s h, k)
     set-spares at d t l false s low h k = (onward-self own given s h, waits-so at low depth d t s k)
 
-    steps-spare : (at : BodyAt) (t : Tree) (d : Taken) (i : Item) (s : State) → (is_top at.kind ≡ true → at.level ≡ 0) → B s → W s d → Gave (Gives own given (λ u (p : Taken × ItemOrUse). W u p.0) s) (item_step_of rs at depth t d i s)
-    steps-spare at t d items.Nothing s low h k = (onward-self own given s h, k)
-    steps-spare at t d (items.Forms forms) s low h k = (onward-self own given s h, k)
-    steps-spare at t d (items.Keyword b) s low h k = (onward-self own given s h, k)
-    steps-spare at t d (items.Keywords recursive bs forms) s low h k = (onward-self own given s h, k)
-    steps-spare at t d (items.Use l) s low h k = (onward-self own given s h, k)
-    steps-spare at t d (items.SetUse l) s low h k =
+    steps-spare : (at : BodyAt) (t : Tree) (d : Taken) (i : HeadItem) (s : State) → (is_top at.kind ≡ true → at.level ≡ 0) → B s → W s d → Gave (Gives own given (λ u (p : Taken × ItemOrUse). W u p.0) s) (item_step_of rs at depth t d i s)
+    steps-spare at t d (head_items.Item i) s low h k = (onward-self own given s h, k)
+    steps-spare at t d (head_items.Use l) s low h k = (onward-self own given s h, k)
+    steps-spare at t d (head_items.SetUse l) s low h k =
         gave-after (λ b u. Later own s u × Tells s.keywords u.keywords) (Gives own given (λ u (p : Taken × ItemOrUse). W u p.0) s) (asks_variable rs (place_of t at.place) l s) (set_item_step at depth d t l)
         (gave-both (λ b u. Later own s u) (λ b u. Tells s.keywords u.keywords) (asks_variable rs (place_of t at.place) l s) (asks-later own rs (place_of t at.place) l s h.sound.next) (variable-told rs (place_of t at.place) l s))
         (λ b u j. let o = onward-later own given s u j.0 j.1 h in
@@ -187,7 +186,7 @@ module _ (own : LibName) (given : List Label) where
     pub step-spares : (at : BodyAt) (d : Taken) (t : Tree) (s : State) → (is_top at.kind ≡ true → at.level ≡ 0) → B s → W s d → Gave (Gives own given (λ u (p : Taken × ItemOrUse). W u p.0) s) (item_step rs at depth d t s)
     unfolding item_step
     step-spares at d t s low h k =
-        goes own given (λ u (p : Taken × Item). W u p.0) (λ u (p : Taken × ItemOrUse). W u p.0) s (item_plan at depth d t s) (λ p. item_step_of rs at depth t p.0 p.1) (spares-plan at low depth d t s h k)
+        goes own given (λ u (p : Taken × HeadItem). W u p.0) (λ u (p : Taken × ItemOrUse). W u p.0) s (item_plan at depth d t s) (λ p. item_step_of rs at depth t p.0 p.1) (spares-plan at low depth d t s h k)
         (λ p u o w. steps-spare at t p.0 p.1 u low o.0 w)
 
     -- where the form stands is the same body

@@ -34,6 +34,8 @@ use Rattle.expand_standing.specs.Patterns.{bind_pattern, template_of}
 use Rattle.expand_standing.specs.State.{State, fresh_frame}
 use Rattle.expand_forms.specs.Inside.{Inside}
 use Rattle.expand_forms.specs.Quasi.{part_core, parts_in_order, quasi_made, quasi_form}
+use Rattle.expand_forms.specs.Site.{site_at}
+use Rattle.expand_forms.specs.Forms.{template_parts}
 use Rattle.law_expand.proofs.Acts.{Gave, gave-after, gave-less, gave-both}
 use Rattle.law_expand.proofs.Compiled.{variable_label, variable_depth}
 use Rattle.law_expand.proofs.Fresh.{each-append, each-map}
@@ -143,11 +145,11 @@ module _ (own : LibName) (given : List Label) where
         by (i ∷ is) = spares-inserted q cs s b had
 
     module _ (go : Inside) (spares : Spares own given go) where
-      pub spares-quasi : (depth : ℕ) (which : Family) (template : Tree) (s : State) → B s → Gave (Gives own given D s) (quasi_form go place level depth t which template s)
+      pub spares-quasi : (depth : ℕ) (which : Family) (template : Tree) (s : State) → B s → Gave (Gives own given D s) (quasi_form go (site_at place level depth) (template_parts t which template) s)
       unfolding quasi_form
       spares-quasi depth which template s b =
-          gave-after (λ q u. u ≡ s) (Gives own given D s) (form_of place t which template s) (quasi_made go place level depth t) (form-same place t which template s)
-          (λ q u e. subst (λ (v : State). Gave (Gives own given D s) (quasi_made go place level depth t q v)) (sym e)
+          gave-after (λ q u. u ≡ s) (Gives own given D s) (form_of place t which template s) (quasi_made go (site_at place level depth) t) (form-same place t which template s)
+          (λ q u e. subst (λ (v : State). Gave (Gives own given D s) (quasi_made go (site_at place level depth) t q v)) (sym e)
           (goes own given (λ v cs. Each (D v) cs) D s (parts_in_order go place level (parts_of t depth q) s) (code_of place level t q)
           (goes-each own given (part_core go place level) D (core-lift own given) (λ p v k. spares.form place level p.depth p.form v k) (parts_of t depth q) s b)
           (λ cs v o x. spares-code q cs v o.0 x)))

@@ -17,6 +17,7 @@ use Rattle.expand_standing.specs.declared.standing.Standing.TheVariants as stand
 use Rattle.expand_heads.specs.Plan.{target_by}
 use Rattle.expand_forms.specs.Expression.{inside}
 use Rattle.expand_forms.specs.ExpandUses.{linked_code}
+use Rattle.expand_forms.specs.Site.{site_at}
 use Rattle.law_expand.specs.States.{IsOld}
 use Rattle.law_expand.specs.Trees.{LeavesAre}
 
@@ -32,7 +33,7 @@ IsUse s t = (l : Label) × (standing_of s t ≡ standing.Keyword l)
 -- The core code of a leaf refers to what the leaf stands for, and the state gains its link alone, unless the leaf is a use of a keyword.
 abbrev pub ReferencesNameBinders : Type 0
 ReferencesNameBinders = (records : List CompiledLibrary) (room : ℕ) (place : Span) (level depth : ℕ) (t : Tree) (s u : State) (c : PlainCore) → is_leaf t ≡ true
-    → (inside records room).form place level depth t s ≡ Ok (c, u) → (RefersTo s (stands s.frames t) c × (u ≡ linked_code t c s)) ⊎ IsUse s t
+    → (inside records room).form (site_at place level depth) t s ≡ Ok (c, u) → (RefersTo s (stands s.frames t) c × (u ≡ linked_code t c s)) ⊎ IsUse s t
 
 -- An assignment assigns what its target stands for.
 abbrev pub AssignmentsNameBinders : Type 0
@@ -47,5 +48,5 @@ BindersAreFound = (frame : FrameNo) (place : Span) (level : ℕ) (top : Bool) (i
 -- What an identifier stands for, whose stamps name frames that were made, stays as it is while a form is expanded.
 abbrev pub BindersStay : Type 0
 BindersStay = (records : List CompiledLibrary) (room : ℕ) (place : Span) (level depth : ℕ) (t : Tree) (s u : State) (c : PlainCore)
-    → (inside records room).form place level depth t s ≡ Ok (c, u)
+    → (inside records room).form (site_at place level depth) t s ≡ Ok (c, u)
     → (id : Tree) → LeavesAre (IsOld s.names.library s) id → stands u.frames id ≡ stands s.frames id

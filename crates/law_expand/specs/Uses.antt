@@ -22,6 +22,7 @@ use Rattle.expand_heads.specs.declared.taken.BodyAt.{BodyAt}
 use Rattle.expand_heads.specs.declared.taken.Taken.{Taken}
 use Rattle.expand_forms.specs.Expression.{inside}
 use Rattle.expand_forms.specs.ExpandUses.{next_form, at_use}
+use Rattle.expand_forms.specs.Site.{site_at}
 
 -- a form is a use of a keyword: it is an identifier that stands for the keyword, or a list that begins with one
 abbrev pub IsUseOf : State → Label → Tree → Type 0
@@ -34,8 +35,8 @@ IsUseOf s l (vector r d) = ⊥
 abbrev pub UsesAreReplaced : Type 0
 UsesAreReplaced = (records : List CompiledLibrary) (room left : ℕ) (place : Span) (level depth : ℕ) (t : Tree) (l : Label) (s : State)
     → IsUseOf s l t → s.uses_left ≡ suc left → depth ≤ most_round
-    → (inside records (suc room)).form place level depth t s
-    ≡ after (next_form records left place t (keyword_use.Macro l) None s) ((inside records (suc room)).form (place_of t place) level depth)
+    → (inside records (suc room)).form (site_at place level depth) t s
+    ≡ after (next_form records left place t (keyword_use.Macro l) None s) ((inside records (suc room)).form (site_at (place_of t place) level depth))
 
 -- the identifier of the keyword
 abbrev pub head_of : Tree → Tree
@@ -66,8 +67,8 @@ IsFormOf s f (vector r d) = ⊥
 abbrev pub RecordFormsAreReplaced : Type 0
 RecordFormsAreReplaced = (records : List CompiledLibrary) (room left : ℕ) (place : Span) (level depth : ℕ) (t : Tree) (f : CoreForm)
     (s : State) → IsFormOf s f t → role_of f ≡ role.RecordValue → s.uses_left ≡ suc left → depth ≤ most_round
-    → (inside records (suc room)).form place level depth t s
-    ≡ after (next_form records left place t (keyword_use.Record f) None s) ((inside records (suc room)).form (place_of t place) level depth)
+    → (inside records (suc room)).form (site_at place level depth) t s
+    ≡ after (next_form records left place t (keyword_use.Record f) None s) ((inside records (suc room)).form (site_at (place_of t place) level depth))
 
 abbrev pub IsOfRecords : Role → Type 0
 IsOfRecords role.Record = Unit {0}

@@ -28,8 +28,9 @@ use Rattle.expand_standing.specs.Uses.{asks_variable}
 use Rattle.expand_standing.specs.declared.standing.Standing.{Standing}
 use Rattle.expand_standing.specs.declared.standing.Standing.TheVariants as standing
 use Rattle.expand_standing.specs.declared.standing.Variable.{Variable}
+use Rattle.expand_heads.specs.declared.plan.HeadPlan.{HeadPlan}
+use Rattle.expand_heads.specs.declared.plan.HeadPlan.TheVariants as head_plans
 use Rattle.expand_heads.specs.Plan.{variable_at, refer, reference, target_variable, assign_to, assign_by, assign, application, with_shape, keyword_plan, by_head, list_plan, shape_plan, plan_of}
-use Rattle.expand_heads.specs.declared.plan.Plan.{Plan}
 use Rattle.expand_heads.specs.declared.plan.Plan.TheVariants as plans
 use Rattle.expand_forms.specs.ExpandUses.{set_step, step_of, step}
 use Rattle.expand_forms.specs.declared.expand_uses.PlanOrUse.{PlanOrUse}
@@ -131,10 +132,10 @@ module _ (rs : List CompiledLibrary) (place : Span) (level : ℕ) (id : Tree) (s
   abbrev Fault-of : kind.the_data → Fault
   Fault-of k = fault_at k id place (symbol_of id ∷ [])
 
-  abbrev Fine : Variable → Result (Plan × State) Fault
-  Fine v = Ok (plans.Done (variable v.label), s)
+  abbrev Fine : Variable → Result (HeadPlan × State) Fault
+  Fine v = Ok (head_plans.Plan (plans.Done (variable v.label)), s)
 
-  abbrev Tested : Variable → Bool → Bool → Bool → Bool → Bool → Result (Plan × State) Fault
+  abbrev Tested : Variable → Bool → Bool → Bool → Bool → Bool → Result (HeadPlan × State) Fault
   Tested v own same in_it top assigned = by_tests own same in_it top assigned (Fine v) (Err (Fault-of kind.AssignedElsewhere)) (Err (Fault-of kind.OutOfContext))
 
   tested : (v : Variable) → variable_at place level id v s ≡ Tested v v.own (nat_eq v.level level) (is_in_scope s v) v.top v.assigned

@@ -12,6 +12,8 @@ use Rattle.law_hygiene.specs.Marked.{Among}
 use Rattle.expand_forms.specs.Body.{item}
 use Rattle.expand_forms.specs.Expression.{lambda_case, form_at, inside}
 use Rattle.expand_forms.specs.Inside.{Inside}
+use Rattle.expand_forms.specs.Site.{site_at}
+use Rattle.expand_forms.specs.Forms.{procedure_parts}
 use Rattle.law_fresh_expansion.specs.Events.{HasKnownEvents}
 use Rattle.law_fresh_expansion.specs.Keeping.{KeepsFresh, around, MarksStayKnown, HistoriesStay}
 use Rattle.law_fresh_expansion.specs.Known.{IsKnown, IsKnownFrame, HasKnown, IsNewAmong}
@@ -41,9 +43,9 @@ module _ (own : LibName) (K : ℕ → Mark → Type 0) (J : ℕ → FrameNo → 
   from-one-name : (first : ℕ) (go : Inside) → KeepsFresh own K J P go → RecordsHold (P first) go.earlier → from_one.KeepsFresh own K J P lives first go
   from-one-name first go keeps rs = record {
     records = rs;
-    form = λ place level depth t s h g. gave first (C own K J P lives first) s (go.form place level depth t s)
+    form = λ place level depth t s h g. gave first (C own K J P lives first) s (go.form (site_at place level depth) t s)
         (λ c u e. keeps.form place level depth t s u c (state-self own K J P lives first s h) (records-at s h) g e);
-    procedure = λ place level depth t ids forms s h k g. gave first (CaseAt own K J P lives first) s (go.procedure place level depth t ids forms s)
+    procedure = λ place level depth t ids forms s h k g. gave first (CaseAt own K J P lives first) s (go.procedure (site_at place level depth) (procedure_parts t ids forms) s)
         (λ c u e. keeps.procedure place level depth t ids forms s u c (state-self own K J P lives first s h) (records-at s h) k g e);
     item = λ at depth d t s h k g q. gave first (TakenAt own K J P lives first) s (go.item at depth d t s)
         (λ d' u e. keeps.item at depth d d' t s u (state-self own K J P lives first s h) (records-at s h) k g q e);
@@ -55,9 +57,9 @@ module _ (own : LibName) (K : ℕ → Mark → Type 0) (J : ℕ → FrameNo → 
   pub around-keeps : (go : Inside) → KeepsFresh own K J P go → KeepsFresh own K J P (around go)
   around-keeps go keeps = record {
     form = λ place level depth t s u c h rs g e.
-        told (C own K J P lives s.names.number) s u c (form_at go place level depth t s) (form-at-holds own K J P lives s.names.number go (from-one-name s.names.number go keeps rs) place level depth t s h g) e;
+        told (C own K J P lives s.names.number) s u c (form_at go (site_at place level depth) t s) (form-at-holds own K J P lives s.names.number go (from-one-name s.names.number go keeps rs) place level depth t s h g) e;
     procedure = λ place level depth t ids forms s u c h rs k g e.
-        told (CaseAt own K J P lives s.names.number) s u c (lambda_case go place level depth t ids forms s) (case-holds own K J P lives s.names.number go (from-one-name s.names.number go keeps rs) place level depth t ids forms s h k g) e;
+        told (CaseAt own K J P lives s.names.number) s u c (lambda_case go (site_at place level depth) (procedure_parts t ids forms) s) (case-holds own K J P lives s.names.number go (from-one-name s.names.number go keeps rs) place level depth t ids forms s h k g) e;
     item = λ at depth d d' t s u h rs k g q e.
         told (TakenAt own K J P lives s.names.number) s u d' (item go at depth d t s) (item-holds own K J P lives s.names.number go (from-one-name s.names.number go keeps rs) at depth d t s h k g q) e;
   }
@@ -70,9 +72,9 @@ module _ (own : LibName) (K : ℕ → Mark → Type 0) (J : ℕ → FrameNo → 
   pub each-inside : (records : List CompiledLibrary) (room : ℕ) → KeepsFresh own K J P (inside records room)
   each-inside records room = record {
     form = λ place level depth t s u c h rs g e.
-        told (C own K J P lives s.names.number) s u c ((inside records room).form place level depth t s) ((inside-keeps own K J P lives s.names.number records room (earlier records room s rs)).form place level depth t s h g) e;
+        told (C own K J P lives s.names.number) s u c ((inside records room).form (site_at place level depth) t s) ((inside-keeps own K J P lives s.names.number records room (earlier records room s rs)).form place level depth t s h g) e;
     procedure = λ place level depth t ids forms s u c h rs k g e.
-        told (CaseAt own K J P lives s.names.number) s u c ((inside records room).procedure place level depth t ids forms s) ((inside-keeps own K J P lives s.names.number records room (earlier records room s rs)).procedure place level depth t ids forms s h k g) e;
+        told (CaseAt own K J P lives s.names.number) s u c ((inside records room).procedure (site_at place level depth) (procedure_parts t ids forms) s) ((inside-keeps own K J P lives s.names.number records room (earlier records room s rs)).procedure place level depth t ids forms s h k g) e;
     item = λ at depth d d' t s u h rs k g q e.
         told (TakenAt own K J P lives s.names.number) s u d' ((inside records room).item at depth d t s) ((inside-keeps own K J P lives s.names.number records room (earlier records room s rs)).item at depth d t s h k g q) e;
   }

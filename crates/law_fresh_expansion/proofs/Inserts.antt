@@ -38,6 +38,8 @@ use Rattle.expand_standing.specs.State.{State, fresh, fresh_frame}
 use Rattle.expand_heads.specs.Depth.{deeper, most_round}
 use Rattle.expand_forms.specs.Inside.{Inside}
 use Rattle.expand_forms.specs.Quasi.{part_core, parts_in_order, quasi_made, quasi_form}
+use Rattle.expand_forms.specs.Site.{site_at}
+use Rattle.expand_forms.specs.Forms.{template_parts}
 use Rattle.eval_value.specs.Cells.{Each}
 use Rattle.law_fresh.specs.Leaves.{CoresHold, TemplateHolds, PatternHolds, PatternsHold}
 use Rattle.law_fresh.proofs.Eachs.{each_and, each_mapped}
@@ -224,10 +226,10 @@ module _ (own : LibName) (K : ℕ → Mark → Type 0) (J : ℕ → FrameNo → 
         by (i ∷ is) = inserted-holds q cs s h k.0 k.1 j
 
     module _ (go : Inside) (keeps : (KeepsFresh own K J P lives first) go) where
-      pub quasi-form-holds : (depth : ℕ) (which : Family) (template : Tree) (s : State) → (F own K J P lives first) s → (T own K J P lives first) s.names.number t → (T own K J P lives first) s.names.number template → (Gave own K J P lives first) (C own K J P lives first) s (quasi_form go place level depth t which template s)
+      pub quasi-form-holds : (depth : ℕ) (which : Family) (template : Tree) (s : State) → (F own K J P lives first) s → (T own K J P lives first) s.names.number t → (T own K J P lives first) s.names.number template → (Gave own K J P lives first) (C own K J P lives first) s (quasi_form go (site_at place level depth) (template_parts t which template) s)
       unfolding quasi_form
       quasi-form-holds depth which template s h k g =
-          (gave-after own K J P lives first) FormAt (C own K J P lives first) s (form_of place t which template s) (quasi_made go place level depth t) (form-of-holds place t which template s h g)
+          (gave-after own K J P lives first) FormAt (C own K J P lives first) s (form_of place t which template s) (quasi_made go (site_at place level depth) t) (form-of-holds place t which template s h g)
           (λ q u i y. let hu = (state-then own K J P lives first) s u h i in
           (gave-after own K J P lives first) Cs (C own K J P lives first) u (parts_in_order go place level (parts_of t depth q) u) (code_of place level t q)
           ((gave-each own K J P lives first) PartAt (C own K J P lives first) part-up (core-up own K J P lives first) (part_core go place level) (λ p v j z. keeps.form place level p.depth p.form v j z) [] (parts_of t depth q) u hu tt (parts-of-hold u.names.number t depth q ((tree-up own K J P lives first) s.names.number u.names.number i.stage.up t k) y))

@@ -25,6 +25,8 @@ use Rattle.expand_standing.specs.declared.standing.Role.{Role}
 use Rattle.expand_standing.specs.declared.standing.Role.TheVariants as role
 use Rattle.expand_standing.specs.declared.standing.Standing.{Standing}
 use Rattle.expand_standing.specs.declared.standing.Standing.TheVariants as standing
+use Rattle.expand_heads.specs.declared.item.HeadItem.{HeadItem}
+use Rattle.expand_heads.specs.declared.item.HeadItem.TheVariants as head_items
 use Rattle.expand_heads.specs.Items.{waiting_at, wait, keep, any_changed, is_mixed, is_top, with_waiting, heads_like, in_time, keyword_in_time, define, define_keyword, define_item, alone, target_item, set_item, begin_item, keywords_item, with_shape, item_by, core_item, headed_item, list_item, leaf_by, leaf_item, item_plan}
 use Rattle.expand_heads.specs.declared.item.Item.{Item}
 use Rattle.expand_heads.specs.declared.item.Item.TheVariants as items
@@ -57,11 +59,14 @@ module _ (own : LibName) (K : ℕ → Mark → Type 0) (J : ℕ → FrameNo → 
   ItemAt n (items.Forms forms) = (Ts own K J P lives first) n forms
   ItemAt n (items.Keyword b) = (SpecAt own K J P lives first) n b
   ItemAt n (items.Keywords recursive bs forms) = Each ((SpecAt own K J P lives first) n) bs × (Ts own K J P lives first) n forms
-  ItemAt n (items.Use k) = Unit {0}
-  ItemAt n (items.SetUse l) = Unit {0}
 
-  abbrev pub BothAt : ℕ → Taken × Item → Type 0
-  BothAt n p = TakenAt n p.0 × ItemAt n p.1
+  abbrev pub HeadItemAt : ℕ → HeadItem → Type 0
+  HeadItemAt n (head_items.Item i) = ItemAt n i
+  HeadItemAt n (head_items.Use k) = Unit {0}
+  HeadItemAt n (head_items.SetUse l) = Unit {0}
+
+  abbrev pub BothAt : ℕ → Taken × HeadItem → Type 0
+  BothAt n p = TakenAt n p.0 × HeadItemAt n p.1
 
   pub formals-up : (m n : ℕ) → m ≤ n → (ids : _) → FormalsHold (P m) ids → FormalsHold (P n) ids
   formals-up m n le ids h = ((trees-up own K J P lives first) m n le ids.required h.0, (option-up own K J P lives first) m n le ids.rest h.1)
@@ -181,7 +186,7 @@ module _ (own : LibName) (K : ℕ → Mark → Type 0) (J : ℕ → FrameNo → 
     keywords-item-holds d t f (shapes.LetSyntax bs forms) s h k g = ((state-self own K J P lives first) s h, (k, g))
     keywords-item-holds d t f _ s h k g = tt
 
-    shaped : (t : Tree) (r : Result Shape Fault) (go : Shape → State → Result ((Taken × Item) × State) Fault) (s : State) → OkHolds (ShapeHolds (P s.names.number)) r → ((x : Shape) → ShapeHolds (P s.names.number) x → (Gave own K J P lives first) BothAt s (go x s))
+    shaped : (t : Tree) (r : Result Shape Fault) (go : Shape → State → Result ((Taken × HeadItem) × State) Fault) (s : State) → OkHolds (ShapeHolds (P s.names.number)) r → ((x : Shape) → ShapeHolds (P s.names.number) x → (Gave own K J P lives first) BothAt s (go x s))
         → (Gave own K J P lives first) BothAt s (with_shape r go s)
     shaped t (Err e) go s j k = tt
     shaped t (Ok x) go s j k = k x j

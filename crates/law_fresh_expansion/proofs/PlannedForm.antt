@@ -14,6 +14,10 @@ use Rattle.core_shapes.specs.At.{place_of}
 use Rattle.core_shapes.specs.declared.shape.BindingSpec.{BindingSpec}
 use Rattle.expand_standing.specs.State.{State}
 use Rattle.expand_standing.specs.Uses.{asks_variable}
+use Rattle.expand_heads.specs.declared.item.HeadItem.{HeadItem}
+use Rattle.expand_heads.specs.declared.item.HeadItem.TheVariants as head_items
+use Rattle.expand_heads.specs.declared.plan.HeadPlan.{HeadPlan}
+use Rattle.expand_heads.specs.declared.plan.HeadPlan.TheVariants as head_plans
 use Rattle.expand_heads.specs.Depth.{deeper, most_round}
 use Rattle.expand_heads.specs.Items.{waiting_at, define_keyword, item_plan}
 use Rattle.expand_heads.specs.Plan.{plan_of}
@@ -38,6 +42,8 @@ use Rattle.expand_forms.specs.declared.expand_uses.PlannedForm.{PlannedForm}
 use Rattle.expand_forms.specs.declared.expand_uses.PlannedItem.{PlannedItem}
 use Rattle.expand_forms.specs.declared.expand_uses.PlanOrUse.{PlanOrUse}
 use Rattle.expand_forms.specs.declared.expand_uses.PlanOrUse.TheVariants as steps
+use Rattle.expand_forms.specs.Site.{site_at}
+use Rattle.expand_forms.specs.Forms.{definition_parts, let_syntax_parts}
 use Rattle.expand_forms.proofs.Linked.{linked-keeps}
 use Rattle.law_fresh.specs.Leaves.{OptionHolds}
 use Rattle.law_fresh.proofs.Eachs.{each_and}
@@ -45,8 +51,8 @@ use Rattle.law_fresh_expansion.specs.Living.{Lives}
 use Rattle.law_fresh_expansion.specs.States.{RecordsHold}
 use Rattle.law_fresh_expansion.proofs.Forms.{KeepsFresh, splice-holds, case-holds, lambda-holds, case-lambda-holds, letrec-holds, application-holds, conditional-holds, set-holds, in-sequence-holds, syntax-case-holds, keyword-holds, with-keywords-holds, keywords-form-holds}
 use Rattle.law_fresh_expansion.proofs.Inserts.{quasi-form-holds}
-use Rattle.law_fresh_expansion.proofs.Items.{WaitingAt, TakenAt, ItemAt, BothAt, taken-up, define-keyword-holds, item-plan-holds}
-use Rattle.law_fresh_expansion.proofs.Plans.{PlanAt, plan-holds}
+use Rattle.law_fresh_expansion.proofs.Items.{WaitingAt, TakenAt, ItemAt, HeadItemAt, BothAt, taken-up, define-keyword-holds, item-plan-holds}
+use Rattle.law_fresh_expansion.proofs.Plans.{PlanAt, HeadAt, plan-holds}
 use Rattle.law_fresh_expansion.proofs.Standing.{F, From, T, Ts, C, tree-up, state-self, state-links, state-then, Gave, gave-from, gave-after, gave-if, SpecAt, BoundHolds, asks-variable-holds, use-keyword-holds, use-record-holds}
 
 module _ (own : LibName) (K : ℕ → Mark → Type 0) (J : ℕ → FrameNo → Type 0) (P : ℕ → LeafContext → Type 0) (lives : Lives own K J P) (first : ℕ) where
@@ -77,24 +83,14 @@ module _ (own : LibName) (K : ℕ → Mark → Type 0) (J : ℕ → FrameNo → 
     set-step-holds place t l id true s h = ((state-self own K J P lives first) s h, tt)
     set-step-holds place t l id false s h = tt
 
-    step-of-holds : (place : Span) (t : Tree) (p : Plan) (s : State) → (F own K J P lives first) s → (PlanAt own K J P lives first) s.names.number p → (Gave own K J P lives first) StepAt s (step_of rs place t p s)
-    step-of-holds place t (plans.Use k) s h g = ((state-self own K J P lives first) s h, tt)
-    step-of-holds place t (plans.SetUse l id) s h g = (gave-after own K J P lives first) Any StepAt s (asks_variable rs (place_of t place) l s) (set_step place t l id) ((asks-variable-holds own K J P lives first) rs records (place_of t place) l s h) (λ b u i y. set-step-holds place t l id b u ((state-then own K J P lives first) s u h i))
-    step-of-holds place t (plans.Done c) s h g = ((state-self own K J P lives first) s h, g)
-    step-of-holds place t (plans.Call operator operands) s h g = ((state-self own K J P lives first) s h, g)
-    step-of-holds place t (plans.Conditional test consequent other) s h g = ((state-self own K J P lives first) s h, g)
-    step-of-holds place t (plans.Assignment l value) s h g = ((state-self own K J P lives first) s h, g)
-    step-of-holds place t (plans.Sequence forms) s h g = ((state-self own K J P lives first) s h, g)
-    step-of-holds place t (plans.Lambda ids forms) s h g = ((state-self own K J P lives first) s h, g)
-    step-of-holds place t (plans.CaseLambda cs) s h g = ((state-self own K J P lives first) s h, g)
-    step-of-holds place t (plans.Letrec star bs forms) s h g = ((state-self own K J P lives first) s h, g)
-    step-of-holds place t (plans.Matching subject literals cs span) s h g = ((state-self own K J P lives first) s h, g)
-    step-of-holds place t (plans.Keywords recursive bs forms) s h g = ((state-self own K J P lives first) s h, g)
-    step-of-holds place t (plans.Quasi which template) s h g = ((state-self own K J P lives first) s h, g)
+    step-of-holds : (place : Span) (t : Tree) (p : HeadPlan) (s : State) → (F own K J P lives first) s → (HeadAt own K J P lives first) s.names.number p → (Gave own K J P lives first) StepAt s (step_of rs place t p s)
+    step-of-holds place t (head_plans.Use k) s h g = ((state-self own K J P lives first) s h, tt)
+    step-of-holds place t (head_plans.SetUse l id) s h g = (gave-after own K J P lives first) Any StepAt s (asks_variable rs (place_of t place) l s) (set_step place t l id) ((asks-variable-holds own K J P lives first) rs records (place_of t place) l s h) (λ b u i y. set-step-holds place t l id b u ((state-then own K J P lives first) s u h i))
+    step-of-holds place t (head_plans.Plan p) s h g = ((state-self own K J P lives first) s h, g)
 
     step-holds : (place : Span) (level : ℕ) (t : Tree) (s : State) → (F own K J P lives first) s → (T own K J P lives first) s.names.number t → (Gave own K J P lives first) StepAt s (step rs place level t s)
     unfolding step
-    step-holds place level t s h g = (gave-after own K J P lives first) (PlanAt own K J P lives first) StepAt s (plan_of place level t s) (step_of rs place t) ((plan-holds own K J P lives first) place level s h t g) (λ p u i y. step-of-holds place t p u ((state-then own K J P lives first) s u h i) y)
+    step-holds place level t s h g = (gave-after own K J P lives first) (HeadAt own K J P lives first) StepAt s (plan_of place level t s) (step_of rs place t) ((plan-holds own K J P lives first) place level s h t g) (λ p u i y. step-of-holds place t p u ((state-then own K J P lives first) s u h i) y)
 
     abbrev pub SettledAt : ℕ → PlannedForm → Type 0
     SettledAt n d = (T own K J P lives first) n d.form × (PlanAt own K J P lives first) n d.plan
@@ -130,15 +126,12 @@ module _ (own : LibName) (K : ℕ → Mark → Type 0) (J : ℕ → FrameNo → 
     set-item-holds at depth d t l true s h k g = ((state-self own K J P lives first) s h, k)
     set-item-holds at depth d t l false s h k g = ((state-self own K J P lives first) s h, (each_and ((WaitingAt own K J P lives first) s.names.number) d.waiting (waiting_at at depth (waits.Expression t)) k g, tt))
 
-    item-step-of-holds : (at : BodyAt) (depth : ℕ) (t : Tree) (d : Taken) (i : Item) (s : State) → (F own K J P lives first) s → (TakenAt own K J P lives first) s.names.number d → (T own K J P lives first) s.names.number t → (ItemAt own K J P lives first) s.names.number i → (Gave own K J P lives first) ItemStepAt s (item_step_of rs at depth t d i s)
-    item-step-of-holds at depth t d (items.Use k) s h j g y = ((state-self own K J P lives first) s h, j)
-    item-step-of-holds at depth t d (items.SetUse l) s h j g y =
+    item-step-of-holds : (at : BodyAt) (depth : ℕ) (t : Tree) (d : Taken) (i : HeadItem) (s : State) → (F own K J P lives first) s → (TakenAt own K J P lives first) s.names.number d → (T own K J P lives first) s.names.number t → (HeadItemAt own K J P lives first) s.names.number i → (Gave own K J P lives first) ItemStepAt s (item_step_of rs at depth t d i s)
+    item-step-of-holds at depth t d (head_items.Use k) s h j g y = ((state-self own K J P lives first) s h, j)
+    item-step-of-holds at depth t d (head_items.SetUse l) s h j g y =
         (gave-after own K J P lives first) Any ItemStepAt s (asks_variable rs (place_of t at.place) l s) (set_item_step at depth d t l) ((asks-variable-holds own K J P lives first) rs records (place_of t at.place) l s h)
         (λ b u i z. set-item-holds at depth d t l b u ((state-then own K J P lives first) s u h i) ((taken-up own K J P lives first) s.names.number u.names.number i.stage.up d j) ((tree-up own K J P lives first) s.names.number u.names.number i.stage.up t g))
-    item-step-of-holds at depth t d items.Nothing s h j g y = ((state-self own K J P lives first) s h, (j, tt))
-    item-step-of-holds at depth t d (items.Forms forms) s h j g y = ((state-self own K J P lives first) s h, (j, y))
-    item-step-of-holds at depth t d (items.Keyword b) s h j g y = ((state-self own K J P lives first) s h, (j, y))
-    item-step-of-holds at depth t d (items.Keywords recursive bs forms) s h j g y = ((state-self own K J P lives first) s h, (j, y))
+    item-step-of-holds at depth t d (head_items.Item i) s h j g y = ((state-self own K J P lives first) s h, (j, y))
 
     item-step-holds : (at : BodyAt) (depth : ℕ) (d : Taken) (t : Tree) (s : State) → (F own K J P lives first) s → (TakenAt own K J P lives first) s.names.number d → (T own K J P lives first) s.names.number t → (Gave own K J P lives first) ItemStepAt s (item_step rs at depth d t s)
     unfolding item_step
@@ -172,7 +165,7 @@ module _ (own : LibName) (K : ℕ → Mark → Type 0) (J : ℕ → FrameNo → 
   -- What is done with a form.
 
   module _ (go : Inside) (keeps : (KeepsFresh own K J P lives first) go) where
-    perform-holds : (place : Span) (level depth : ℕ) (t : Tree) (p : Plan) (s : State) → (F own K J P lives first) s → (T own K J P lives first) s.names.number t → (PlanAt own K J P lives first) s.names.number p → (Gave own K J P lives first) (C own K J P lives first) s (perform go place level depth t p s)
+    perform-holds : (place : Span) (level depth : ℕ) (t : Tree) (p : Plan) (s : State) → (F own K J P lives first) s → (T own K J P lives first) s.names.number t → (PlanAt own K J P lives first) s.names.number p → (Gave own K J P lives first) (C own K J P lives first) s (perform go (site_at place level depth) t p s)
     unfolding perform
     perform-holds place level depth t (plans.Done c) s h g k = ((state-self own K J P lives first) s h, k)
     perform-holds place level depth t (plans.Call operator operands) s h g k = (application-holds own K J P lives first) go keeps place level (deeper depth) operator operands s h k.0 k.1
@@ -185,21 +178,19 @@ module _ (own : LibName) (K : ℕ → Mark → Type 0) (J : ℕ → FrameNo → 
     perform-holds place level depth t (plans.Matching subject literals cs span) s h g k = (syntax-case-holds own K J P lives first) go keeps place level (deeper depth) subject literals cs span s h k.0 k.1.1
     perform-holds place level depth t (plans.Keywords recursive bs forms) s h g k = (keywords-form-holds own K J P lives first) go keeps place level (deeper depth) recursive bs forms s h k.0 k.1
     perform-holds place level depth t (plans.Quasi which template) s h g k = (quasi-form-holds own K J P lives first) place level t go keeps (deeper depth) which template s h g k
-    perform-holds place level depth t (plans.Use k) s h g y = tt
-    perform-holds place level depth t (plans.SetUse l id) s h g y = tt
 
-    pub form-at-holds : (place : Span) (level depth : ℕ) (t : Tree) (s : State) → (F own K J P lives first) s → (T own K J P lives first) s.names.number t → (Gave own K J P lives first) (C own K J P lives first) s (form_at go place level depth t s)
+    pub form-at-holds : (place : Span) (level depth : ℕ) (t : Tree) (s : State) → (F own K J P lives first) s → (T own K J P lives first) s.names.number t → (Gave own K J P lives first) (C own K J P lives first) s (form_at go (site_at place level depth) t s)
     unfolding form_at
     form-at-holds place level depth t s h g =
         (gave-if own K J P lives first) (C own K J P lives first) s (nat_lt most_round depth) _ (after (expand_uses go.earlier place level t s) (perform_settled go level depth)) tt
         ((gave-after own K J P lives first) (SettledAt go.earlier keeps.records) (C own K J P lives first) s (expand_uses go.earlier place level t s) (perform_settled go level depth) (expand_uses-to-holds go.earlier keeps.records s.uses_left place level t s h g)
         (λ d u i y. perform-holds d.place level depth d.form d.plan u ((state-then own K J P lives first) s u h i) y.0 y.1))
 
-    keyword-item-holds : (at : BodyAt) (depth : ℕ) (d : Taken) (t : Tree) (b : BindingSpec) (s : State) → (F own K J P lives first) s → (TakenAt own K J P lives first) s.names.number d → (SpecAt own K J P lives first) s.names.number b → (Gave own K J P lives first) (TakenAt own K J P lives first) s (after (define_syntax go at depth d t b s) (λ _. give d))
+    keyword-item-holds : (at : BodyAt) (depth : ℕ) (d : Taken) (t : Tree) (b : BindingSpec) (s : State) → (F own K J P lives first) s → (TakenAt own K J P lives first) s.names.number d → (SpecAt own K J P lives first) s.names.number b → (Gave own K J P lives first) (TakenAt own K J P lives first) s (after (define_syntax go at depth d (definition_parts t b) s) (λ _. give d))
     unfolding define_syntax
     keyword-item-holds at depth d t b s h k g =
-        (gave-after own K J P lives first) Any (TakenAt own K J P lives first) s (after (define_keyword at d t b s) (expand_transformer go at.place at.level depth)) (λ _. give d)
-        ((gave-after own K J P lives first) (BoundHolds own K J P lives first) Any s (define_keyword at d t b s) (expand_transformer go at.place at.level depth) ((define-keyword-holds own K J P lives first) at depth d t b s h g) (λ x u i y. (keyword-holds own K J P lives first) go keeps at.place at.level depth x u ((state-then own K J P lives first) s u h i) y))
+        (gave-after own K J P lives first) Any (TakenAt own K J P lives first) s (after (define_keyword at d t b s) (expand_transformer go (site_at at.place at.level depth))) (λ _. give d)
+        ((gave-after own K J P lives first) (BoundHolds own K J P lives first) Any s (define_keyword at d t b s) (expand_transformer go (site_at at.place at.level depth)) ((define-keyword-holds own K J P lives first) at depth d t b s h g) (λ x u i y. (keyword-holds own K J P lives first) go keeps at.place at.level depth x u ((state-then own K J P lives first) s u h i) y))
         (λ x u i y. ((state-self own K J P lives first) u ((state-then own K J P lives first) s u h i), (taken-up own K J P lives first) s.names.number u.names.number i.stage.up d k))
 
     perform-item-holds : (at : BodyAt) (depth : ℕ) (d : Taken) (t : Tree) (i : Item) (s : State) → (F own K J P lives first) s → (TakenAt own K J P lives first) s.names.number d → (T own K J P lives first) s.names.number t → (ItemAt own K J P lives first) s.names.number i → J s.names.number at.frame → (Gave own K J P lives first) (TakenAt own K J P lives first) s (perform_item go at depth d t i s)
@@ -208,10 +199,8 @@ module _ (own : LibName) (K : ℕ → Mark → Type 0) (J : ℕ → FrameNo → 
     perform-item-holds at depth d t (items.Forms forms) s h k g y q = (splice-holds own K J P lives first) go keeps at (deeper depth) d forms s h k y q
     perform-item-holds at depth d t (items.Keyword b) s h k g y q = keyword-item-holds at (deeper depth) d t b s h k y
     perform-item-holds at depth d t (items.Keywords recursive bs forms) s h k g y q =
-        (gave-after own K J P lives first) (Ts own K J P lives first) (TakenAt own K J P lives first) s (with_keywords go at.place at.level (deeper depth) recursive bs forms s) (splice go at (deeper depth) d) ((with-keywords-holds own K J P lives first) go keeps at.place at.level (deeper depth) recursive bs forms s h y.0 y.1)
+        (gave-after own K J P lives first) (Ts own K J P lives first) (TakenAt own K J P lives first) s (with_keywords go (site_at at.place at.level (deeper depth)) (let_syntax_parts recursive bs forms) s) (splice go at (deeper depth) d) ((with-keywords-holds own K J P lives first) go keeps at.place at.level (deeper depth) recursive bs forms s h y.0 y.1)
         (λ xs u i z. (splice-holds own K J P lives first) go keeps at (deeper depth) d xs u ((state-then own K J P lives first) s u h i) ((taken-up own K J P lives first) s.names.number u.names.number i.stage.up d k) z (lives.frames s.names.number u.names.number at.frame i.stage.up q))
-    perform-item-holds at depth d t (items.Use l) s h k g y q = tt
-    perform-item-holds at depth d t (items.SetUse l) s h k g y q = tt
 
     pub item-holds : (at : BodyAt) (depth : ℕ) (d : Taken) (t : Tree) (s : State) → (F own K J P lives first) s → (TakenAt own K J P lives first) s.names.number d → (T own K J P lives first) s.names.number t → J s.names.number at.frame → (Gave own K J P lives first) (TakenAt own K J P lives first) s (item go at depth d t s)
     unfolding item

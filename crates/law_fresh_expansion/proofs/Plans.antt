@@ -30,6 +30,8 @@ use Rattle.expand_standing.specs.declared.standing.Role.TheVariants as role
 use Rattle.expand_standing.specs.declared.standing.Standing.{Standing}
 use Rattle.expand_standing.specs.declared.standing.Standing.TheVariants as standing
 use Rattle.expand_standing.specs.declared.standing.Variable.{Variable}
+use Rattle.expand_heads.specs.declared.plan.HeadPlan.{HeadPlan}
+use Rattle.expand_heads.specs.declared.plan.HeadPlan.TheVariants as head_plans
 use Rattle.expand_heads.specs.Plan.{done, variable_at, refer, reference, constant, target_variable, target_by, assign_to, assign_by, assign, keywords_plan, operand_plan, call_of, application, in_sequence, shape_plan, with_shape, by_role, keyword_plan, by_head, list_plan, plan_of}
 use Rattle.expand_heads.specs.declared.plan.Plan.{Plan}
 use Rattle.expand_heads.specs.declared.plan.Plan.TheVariants as plans
@@ -54,15 +56,18 @@ module _ (own : LibName) (K : ℕ → Mark → Type 0) (J : ℕ → FrameNo → 
   PlanAt n (plans.Matching subject literals cs span) = (T own K J P lives first) n subject × ((Ts own K J P lives first) n literals × Each (PatternCaseHolds (P n)) cs)
   PlanAt n (plans.Keywords recursive bs forms) = Each ((SpecAt own K J P lives first) n) bs × (Ts own K J P lives first) n forms
   PlanAt n (plans.Quasi which template) = (T own K J P lives first) n template
-  PlanAt n (plans.Use k) = Unit {0}
-  PlanAt n (plans.SetUse l id) = Unit {0}
+
+  abbrev pub HeadAt : ℕ → HeadPlan → Type 0
+  HeadAt n (head_plans.Plan p) = PlanAt n p
+  HeadAt n (head_plans.Use k) = Unit {0}
+  HeadAt n (head_plans.SetUse l id) = Unit {0}
 
   module _ (place : Span) (level : ℕ) (s : State) (h : (F own K J P lives first) s) where
-    abbrev Planned : Result (Plan × State) Fault → Type 0
-    Planned r = (Gave own K J P lives first) PlanAt s r
+    abbrev Planned : Result (HeadPlan × State) Fault → Type 0
+    Planned r = (Gave own K J P lives first) HeadAt s r
 
-    planned-if : (b : Bool) (r q : Result (Plan × State) Fault) → Planned r → Planned q → Planned (if b then r else q)
-    planned-if b r q x y = (gave-if own K J P lives first) PlanAt s b r q x y
+    planned-if : (b : Bool) (r q : Result (HeadPlan × State) Fault) → Planned r → Planned q → Planned (if b then r else q)
+    planned-if b r q x y = (gave-if own K J P lives first) HeadAt s b r q x y
 
     as-it-is : (From own K J P lives first) s s
     as-it-is = (state-self own K J P lives first) s h
@@ -116,7 +121,7 @@ module _ (own : LibName) (K : ℕ → Mark → Type 0) (J : ℕ → FrameNo → 
 
     assigned-holds : (t id value : Tree) (st : Standing) → (T own K J P lives first) s.names.number value → Planned (after (target_by place level t id st s) (assign_to value))
     assigned-holds t id value st k =
-        (gave-after own K J P lives first) (λ n l. Unit {0}) PlanAt s (target_by place level t id st s) (assign_to value) (target-holds t id st)
+        (gave-after own K J P lives first) (λ n l. Unit {0}) HeadAt s (target_by place level t id st s) (assign_to value) (target-holds t id st)
         (λ l u i y. ((state-self own K J P lives first) u ((state-then own K J P lives first) s u h i), tree-later u i value k))
       where
         tree-later : (u : State) → (From own K J P lives first) s u → (v : Tree) → (T own K J P lives first) s.names.number v → (T own K J P lives first) u.names.number v
@@ -152,7 +157,7 @@ module _ (own : LibName) (K : ℕ → Mark → Type 0) (J : ℕ → FrameNo → 
 
     operand-holds : (t : Tree) (f : CoreForm) (operand : Tree) → (T own K J P lives first) s.names.number operand → Planned (operand_plan place level t f operand s)
     operand-holds t core_forms.Syntax operand k =
-        (gave-after own K J P lives first) (λ n x. TemplateHolds (P n) x) PlanAt s (template_of place level operand s) (λ x. done (instance x (place_of t place))) ((template-holds own K J P lives first) place level operand s h k) (λ x u i y. ((state-self own K J P lives first) u ((state-then own K J P lives first) s u h i), y))
+        (gave-after own K J P lives first) (λ n x. TemplateHolds (P n) x) HeadAt s (template_of place level operand s) (λ x. done (instance x (place_of t place))) ((template-holds own K J P lives first) place level operand s h k) (λ x u i y. ((state-self own K J P lives first) u ((state-then own K J P lives first) s u h i), y))
     operand-holds t core_forms.Quasiquote operand k = (as-it-is, k)
     operand-holds t core_forms.Quasisyntax operand k = (as-it-is, k)
     operand-holds t _ operand k = tt

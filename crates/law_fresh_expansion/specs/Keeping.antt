@@ -18,6 +18,8 @@ use Rattle.law_hygiene.specs.Marked.{Among}
 use Rattle.expand_forms.specs.Body.{item}
 use Rattle.expand_forms.specs.Expression.{lambda_case, form_at, inside}
 use Rattle.expand_forms.specs.Inside.{Inside}
+use Rattle.expand_forms.specs.Site.{site_at}
+use Rattle.expand_forms.specs.Forms.{procedure_parts}
 use Rattle.law_fresh.specs.Leaves.{TreeHolds, CoreHolds}
 use Rattle.law_fresh_expansion.specs.Forms.{TreesHold, FormalsHold, TakenHolds}
 use Rattle.law_fresh_expansion.specs.Known.{IsKnown, IsKnownFrame, HasKnown}
@@ -29,10 +31,11 @@ use Rattle.law_fresh_expansion.specs.States.{RecordsHold, FreshStateHolds}
 pub record KeepsFresh (own : LibName) (K : ℕ → Mark → Type 0) (J : ℕ → FrameNo → Type 0) (P : ℕ → LeafContext → Type 0) (go : Inside) : Type 0 where
   pub form : (place : Span) (level depth : ℕ) (t : Tree) (s u : State) (c : PlainCore) → FreshStateHolds own K P s.names.number s
       → RecordsHold (P s.names.number) go.earlier → TreeHolds (P s.names.number) t
-      → go.form place level depth t s ≡ Ok (c, u) → FreshStateHolds own K P s.names.number u × CoreHolds (P u.names.number) c
+      → go.form (site_at place level depth) t s ≡ Ok (c, u) → FreshStateHolds own K P s.names.number u × CoreHolds (P u.names.number) c
   pub procedure : (place : Span) (level depth : ℕ) (t : Tree) (ids : FormalIds) (forms : List Tree) (s u : State) (c : Lambda)
       → FreshStateHolds own K P s.names.number s → RecordsHold (P s.names.number) go.earlier
-      → FormalsHold (P s.names.number) ids → TreesHold (P s.names.number) forms → go.procedure place level depth t ids forms s ≡ Ok (c, u)
+      → FormalsHold (P s.names.number) ids → TreesHold (P s.names.number) forms
+      → go.procedure (site_at place level depth) (procedure_parts t ids forms) s ≡ Ok (c, u)
       → FreshStateHolds own K P s.names.number u × CoreHolds (P u.names.number) c.body
   pub item : (at : BodyAt) (depth : ℕ) (d e : Taken) (t : Tree) (s u : State) → FreshStateHolds own K P s.names.number s
       → RecordsHold (P s.names.number) go.earlier → TakenHolds (P s.names.number) d → TreeHolds (P s.names.number) t → J s.names.number at.frame

@@ -10,6 +10,7 @@ use Rattle.core_shapes.specs.Lists.{is_leaf}
 use Rattle.expand_standing.specs.State.{State}
 use Rattle.expand_forms.specs.Expression.{inside}
 use Rattle.expand_forms.specs.ExpandUses.{linked_code}
+use Rattle.expand_forms.specs.Site.{site_at}
 use Rattle.law_expand.specs.Named.{RefersTo, IsUse}
 use Rattle.law_fresh.specs.Leaves.{TreeHolds}
 use Rattle.law_fresh_expansion.specs.Known.{IsKnown, HasKnown, IsNewAmong}
@@ -20,14 +21,15 @@ use Rattle.law_fresh_expansion.specs.States.{FreshStateHolds}
 abbrev pub IdentifiersStay : Type 0
 IdentifiersStay = (libs : List LibName) (own : LibName) (records : List CompiledLibrary) (room : ℕ) (place : Span) (level depth : ℕ)
     (t : Tree) (s u : State) (c : PlainCore) → IsNewAmong libs own
-    → FreshStateHolds own (IsKnown libs own) (HasKnown libs own) s.names.number s → (inside records room).form place level depth t s ≡ Ok (c, u)
+    → FreshStateHolds own (IsKnown libs own) (HasKnown libs own) s.names.number s → (inside records room).form (site_at place level depth) t s ≡ Ok (c, u)
     → (id : Tree) → TreeHolds (HasKnown libs own s.names.number) id → stands u.frames id ≡ stands s.frames id
 
 -- So where it is expanded after that form, and no use of a keyword, it becomes a reference to what it stood for before that form.
 abbrev pub ReferencesStay : Type 0
 ReferencesStay = (libs : List LibName) (own : LibName) (records : List CompiledLibrary) (room : ℕ) (place : Span) (level depth : ℕ)
     (t : Tree) (s u : State) (c : PlainCore) → IsNewAmong libs own
-    → FreshStateHolds own (IsKnown libs own) (HasKnown libs own) s.names.number s → (inside records room).form place level depth t s ≡ Ok (c, u)
+    → FreshStateHolds own (IsKnown libs own) (HasKnown libs own) s.names.number s → (inside records room).form (site_at place level depth) t s ≡ Ok (c, u)
     → (id : Tree) → TreeHolds (HasKnown libs own s.names.number) id → is_leaf id ≡ true
-    → (more : ℕ) (spot : Span) (high deep : ℕ) (v : State) (d : PlainCore) → (inside records more).form spot high deep id u ≡ Ok (d, v)
+    → (more : ℕ) (spot : Span) (high deep : ℕ) (v : State) (d : PlainCore)
+    → (inside records more).form (site_at spot high deep) id u ≡ Ok (d, v)
     → (RefersTo u (stands s.frames id) d × (v ≡ linked_code id d u)) ⊎ IsUse u id

@@ -34,6 +34,8 @@ use Rattle.expand_standing.specs.State.{State, fresh, fresh_frame}
 use Rattle.expand_heads.specs.Depth.{deeper, most_round}
 use Rattle.expand_forms.specs.Inside.{Inside}
 use Rattle.expand_forms.specs.Quasi.{part_core, parts_in_order, quasi_made, quasi_form}
+use Rattle.expand_forms.specs.Site.{site_at}
+use Rattle.expand_forms.specs.Forms.{template_parts}
 use Rattle.eval_value.specs.Cells.{Each}
 use Rattle.law_invariants.specs.Holds.{CoresHold}
 use Rattle.law_invariants.proofs.Eachs.{each_and}
@@ -190,10 +192,10 @@ module _ (I : Invariant) (kept : IsKeptByExpansion I) where
         by (i ∷ is) = inserted-holds q cs s h k.0 k.1 j
 
     module _ (go : Inside) (keeps : Keeps I kept go) where
-      pub quasi-form-holds : (depth : ℕ) (which : Family) (template : Tree) (s : State) → F I kept s → I.trees t → I.trees template → Gave I kept (C I kept) (quasi_form go place level depth t which template s)
+      pub quasi-form-holds : (depth : ℕ) (which : Family) (template : Tree) (s : State) → F I kept s → I.trees t → I.trees template → Gave I kept (C I kept) (quasi_form go (site_at place level depth) (template_parts t which template) s)
       unfolding quasi_form
       quasi-form-holds depth which template s h k g =
-          gave-after I kept FormAt (C I kept) (form_of place t which template s) (quasi_made go place level depth t) (form-of-holds place t which template s h g)
+          gave-after I kept FormAt (C I kept) (form_of place t which template s) (quasi_made go (site_at place level depth) t) (form-of-holds place t which template s h g)
           (λ q u i y. let hu = i in
           gave-after I kept Cs (C I kept) (parts_in_order go place level (parts_of t depth q) u) (code_of place level t q)
           (gave-each I kept PartAt (C I kept) (part_core go place level) (λ p v j z. keeps.form place level p.depth p.form v j z) [] (parts_of t depth q) u hu tt (parts-of-hold t depth q k y))

@@ -21,6 +21,8 @@ use Rattle.expand_standing.specs.declared.standing.Role.{Role}
 use Rattle.expand_standing.specs.declared.standing.Role.TheVariants as role
 use Rattle.expand_standing.specs.declared.standing.Standing.{Standing}
 use Rattle.expand_standing.specs.declared.standing.Standing.TheVariants as standing
+use Rattle.expand_heads.specs.declared.item.HeadItem.{HeadItem}
+use Rattle.expand_heads.specs.declared.item.HeadItem.TheVariants as head_items
 use Rattle.expand_heads.specs.Items.{waiting_at, wait, keep, any_changed, is_mixed, is_top, with_waiting, heads_like, in_time, keyword_in_time, define, define_keyword, define_item, alone, target_item, set_item, begin_item, keywords_item, with_shape, item_by, core_item, headed_item, list_item, leaf_by, leaf_item, item_plan}
 use Rattle.expand_heads.specs.declared.item.Item.{Item}
 use Rattle.expand_heads.specs.declared.item.Item.TheVariants as items
@@ -54,11 +56,14 @@ module _ (I : Invariant) (kept : IsKeptByExpansion I) where
   ItemAt (items.Forms forms) = Ts I kept forms
   ItemAt (items.Keyword b) = SpecAt I kept b
   ItemAt (items.Keywords recursive bs forms) = Each (SpecAt I kept) bs × Ts I kept forms
-  ItemAt (items.Use k) = Unit {0}
-  ItemAt (items.SetUse l) = Unit {0}
 
-  abbrev pub BothAt : Taken × Item → Type 0
-  BothAt p = TakenAt p.0 × ItemAt p.1
+  abbrev pub HeadItemAt : HeadItem → Type 0
+  HeadItemAt (head_items.Item i) = ItemAt i
+  HeadItemAt (head_items.Use k) = Unit {0}
+  HeadItemAt (head_items.SetUse l) = Unit {0}
+
+  abbrev pub BothAt : Taken × HeadItem → Type 0
+  BothAt p = TakenAt p.0 × HeadItemAt p.1
 
   more-waits : (at : BodyAt) (depth : ℕ) (d : Taken) (w : Waits) → TakenAt d → WaitsAt w → TakenAt (with_waiting at depth d w)
   more-waits at depth d w h k = each_and WaitingAt d.waiting (waiting_at at depth w) h k
@@ -164,7 +169,7 @@ module _ (I : Invariant) (kept : IsKeptByExpansion I) where
     keywords-item-holds d t f (shapes.LetSyntax bs forms) s h k g = (h, (k, g))
     keywords-item-holds d t f _ s h k g = tt
 
-    shaped : (t : Tree) (r : Result Shape Fault) (go : Shape → State → Result ((Taken × Item) × State) Fault) (s : State) → OkHolds (ShapeHolds I kept.built.closed) r → ((x : Shape) → ShapeHolds I kept.built.closed x → Gave I kept BothAt (go x s))
+    shaped : (t : Tree) (r : Result Shape Fault) (go : Shape → State → Result ((Taken × HeadItem) × State) Fault) (s : State) → OkHolds (ShapeHolds I kept.built.closed) r → ((x : Shape) → ShapeHolds I kept.built.closed x → Gave I kept BothAt (go x s))
         → Gave I kept BothAt (with_shape r go s)
     shaped t (Err e) go s j k = tt
     shaped t (Ok x) go s j k = k x j

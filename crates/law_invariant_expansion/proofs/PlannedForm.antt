@@ -11,6 +11,10 @@ use Rattle.core_shapes.specs.At.{place_of}
 use Rattle.core_shapes.specs.declared.shape.BindingSpec.{BindingSpec}
 use Rattle.expand_standing.specs.State.{State}
 use Rattle.expand_standing.specs.Uses.{asks_variable}
+use Rattle.expand_heads.specs.declared.item.HeadItem.{HeadItem}
+use Rattle.expand_heads.specs.declared.item.HeadItem.TheVariants as head_items
+use Rattle.expand_heads.specs.declared.plan.HeadPlan.{HeadPlan}
+use Rattle.expand_heads.specs.declared.plan.HeadPlan.TheVariants as head_plans
 use Rattle.expand_heads.specs.Depth.{deeper, most_round}
 use Rattle.expand_heads.specs.Items.{waiting_at, define_keyword, item_plan}
 use Rattle.expand_heads.specs.Plan.{plan_of}
@@ -35,13 +39,15 @@ use Rattle.expand_forms.specs.declared.expand_uses.PlannedForm.{PlannedForm}
 use Rattle.expand_forms.specs.declared.expand_uses.PlannedItem.{PlannedItem}
 use Rattle.expand_forms.specs.declared.expand_uses.PlanOrUse.{PlanOrUse}
 use Rattle.expand_forms.specs.declared.expand_uses.PlanOrUse.TheVariants as steps
+use Rattle.expand_forms.specs.Site.{site_at}
+use Rattle.expand_forms.specs.Forms.{definition_parts, let_syntax_parts}
 use Rattle.expand_forms.proofs.Linked.{linked-keeps}
 use Rattle.law_invariants.proofs.Eachs.{each_and}
 use Rattle.law_invariants.specs.Stages.{RecordsHold}
 use Rattle.law_invariant_expansion.proofs.Forms.{Keeps, splice-holds, case-holds, lambda-holds, case-lambda-holds, letrec-holds, application-holds, conditional-holds, set-holds, in-sequence-holds, syntax-case-holds, keyword-holds, with-keywords-holds, keywords-form-holds}
 use Rattle.law_invariant_expansion.proofs.Inserts.{quasi-form-holds}
-use Rattle.law_invariant_expansion.proofs.Items.{WaitingAt, TakenAt, ItemAt, BothAt, define-keyword-holds, item-plan-holds}
-use Rattle.law_invariant_expansion.proofs.Plans.{PlanAt, plan-holds}
+use Rattle.law_invariant_expansion.proofs.Items.{WaitingAt, TakenAt, ItemAt, HeadItemAt, BothAt, define-keyword-holds, item-plan-holds}
+use Rattle.law_invariant_expansion.proofs.Plans.{PlanAt, HeadAt, plan-holds}
 use Rattle.law_invariant_expansion.proofs.Standing.{F, Ts, C, state-links, Gave, gave-after, gave-if, SpecAt, BoundHolds, asks-variable-holds, use-keyword-holds, use-record-holds}
 use Rattle.law_invariants.specs.Invariant.{Invariant}
 use Rattle.law_invariant_expansion.specs.Kept.{IsKeptByExpansion}
@@ -74,24 +80,14 @@ module _ (I : Invariant) (kept : IsKeptByExpansion I) where
     set-step-holds place t l id true s h = (h, tt)
     set-step-holds place t l id false s h = tt
 
-    step-of-holds : (place : Span) (t : Tree) (p : Plan) (s : State) → F I kept s → PlanAt I kept p → Gave I kept StepAt (step_of rs place t p s)
-    step-of-holds place t (plans.Use k) s h g = (h, tt)
-    step-of-holds place t (plans.SetUse l id) s h g = gave-after I kept Any StepAt (asks_variable rs (place_of t place) l s) (set_step place t l id) (asks-variable-holds I kept rs records (place_of t place) l s h) (λ b u i y. set-step-holds place t l id b u i)
-    step-of-holds place t (plans.Done c) s h g = (h, g)
-    step-of-holds place t (plans.Call operator operands) s h g = (h, g)
-    step-of-holds place t (plans.Conditional test consequent other) s h g = (h, g)
-    step-of-holds place t (plans.Assignment l value) s h g = (h, g)
-    step-of-holds place t (plans.Sequence forms) s h g = (h, g)
-    step-of-holds place t (plans.Lambda ids forms) s h g = (h, g)
-    step-of-holds place t (plans.CaseLambda cs) s h g = (h, g)
-    step-of-holds place t (plans.Letrec star bs forms) s h g = (h, g)
-    step-of-holds place t (plans.Matching subject literals cs span) s h g = (h, g)
-    step-of-holds place t (plans.Keywords recursive bs forms) s h g = (h, g)
-    step-of-holds place t (plans.Quasi which template) s h g = (h, g)
+    step-of-holds : (place : Span) (t : Tree) (p : HeadPlan) (s : State) → F I kept s → HeadAt I kept p → Gave I kept StepAt (step_of rs place t p s)
+    step-of-holds place t (head_plans.Use k) s h g = (h, tt)
+    step-of-holds place t (head_plans.SetUse l id) s h g = gave-after I kept Any StepAt (asks_variable rs (place_of t place) l s) (set_step place t l id) (asks-variable-holds I kept rs records (place_of t place) l s h) (λ b u i y. set-step-holds place t l id b u i)
+    step-of-holds place t (head_plans.Plan p) s h g = (h, g)
 
     step-holds : (place : Span) (level : ℕ) (t : Tree) (s : State) → F I kept s → I.trees t → Gave I kept StepAt (step rs place level t s)
     unfolding step
-    step-holds place level t s h g = gave-after I kept (PlanAt I kept) StepAt (plan_of place level t s) (step_of rs place t) (plan-holds I kept place level s h t g) (λ p u i y. step-of-holds place t p u i y)
+    step-holds place level t s h g = gave-after I kept (HeadAt I kept) StepAt (plan_of place level t s) (step_of rs place t) (plan-holds I kept place level s h t g) (λ p u i y. step-of-holds place t p u i y)
 
     abbrev pub SettledAt : PlannedForm → Type 0
     SettledAt d = I.trees d.form × PlanAt I kept d.plan
@@ -125,15 +121,12 @@ module _ (I : Invariant) (kept : IsKeptByExpansion I) where
     set-item-holds at depth d t l true s h k g = (h, k)
     set-item-holds at depth d t l false s h k g = (h, (each_and (WaitingAt I kept) d.waiting (waiting_at at depth (waits.Expression t)) k g, tt))
 
-    item-step-of-holds : (at : BodyAt) (depth : ℕ) (t : Tree) (d : Taken) (i : Item) (s : State) → F I kept s → TakenAt I kept d → I.trees t → ItemAt I kept i → Gave I kept ItemStepAt (item_step_of rs at depth t d i s)
-    item-step-of-holds at depth t d (items.Use k) s h j g y = (h, j)
-    item-step-of-holds at depth t d (items.SetUse l) s h j g y =
+    item-step-of-holds : (at : BodyAt) (depth : ℕ) (t : Tree) (d : Taken) (i : HeadItem) (s : State) → F I kept s → TakenAt I kept d → I.trees t → HeadItemAt I kept i → Gave I kept ItemStepAt (item_step_of rs at depth t d i s)
+    item-step-of-holds at depth t d (head_items.Use k) s h j g y = (h, j)
+    item-step-of-holds at depth t d (head_items.SetUse l) s h j g y =
         gave-after I kept Any ItemStepAt (asks_variable rs (place_of t at.place) l s) (set_item_step at depth d t l) (asks-variable-holds I kept rs records (place_of t at.place) l s h)
         (λ b u i z. set-item-holds at depth d t l b u i j g)
-    item-step-of-holds at depth t d items.Nothing s h j g y = (h, (j, tt))
-    item-step-of-holds at depth t d (items.Forms forms) s h j g y = (h, (j, y))
-    item-step-of-holds at depth t d (items.Keyword b) s h j g y = (h, (j, y))
-    item-step-of-holds at depth t d (items.Keywords recursive bs forms) s h j g y = (h, (j, y))
+    item-step-of-holds at depth t d (head_items.Item i) s h j g y = (h, (j, y))
 
     item-step-holds : (at : BodyAt) (depth : ℕ) (d : Taken) (t : Tree) (s : State) → F I kept s → TakenAt I kept d → I.trees t → Gave I kept ItemStepAt (item_step rs at depth d t s)
     unfolding item_step
@@ -167,7 +160,7 @@ module _ (I : Invariant) (kept : IsKeptByExpansion I) where
   -- What is done with a form.
 
   module _ (go : Inside) (keeps : Keeps I kept go) where
-    perform-holds : (place : Span) (level depth : ℕ) (t : Tree) (p : Plan) (s : State) → F I kept s → I.trees t → PlanAt I kept p → Gave I kept (C I kept) (perform go place level depth t p s)
+    perform-holds : (place : Span) (level depth : ℕ) (t : Tree) (p : Plan) (s : State) → F I kept s → I.trees t → PlanAt I kept p → Gave I kept (C I kept) (perform go (site_at place level depth) t p s)
     unfolding perform
     perform-holds place level depth t (plans.Done c) s h g k = (h, k)
     perform-holds place level depth t (plans.Call operator operands) s h g k = application-holds I kept go keeps place level (deeper depth) operator operands s h k.0 k.1
@@ -180,21 +173,19 @@ module _ (I : Invariant) (kept : IsKeptByExpansion I) where
     perform-holds place level depth t (plans.Matching subject literals cs span) s h g k = syntax-case-holds I kept go keeps place level (deeper depth) subject literals cs span s h k.0 k.1.1
     perform-holds place level depth t (plans.Keywords recursive bs forms) s h g k = keywords-form-holds I kept go keeps place level (deeper depth) recursive bs forms s h k.0 k.1
     perform-holds place level depth t (plans.Quasi which template) s h g k = quasi-form-holds I kept place level t go keeps (deeper depth) which template s h g k
-    perform-holds place level depth t (plans.Use k) s h g y = tt
-    perform-holds place level depth t (plans.SetUse l id) s h g y = tt
 
-    pub form-at-holds : (place : Span) (level depth : ℕ) (t : Tree) (s : State) → F I kept s → I.trees t → Gave I kept (C I kept) (form_at go place level depth t s)
+    pub form-at-holds : (place : Span) (level depth : ℕ) (t : Tree) (s : State) → F I kept s → I.trees t → Gave I kept (C I kept) (form_at go (site_at place level depth) t s)
     unfolding form_at
     form-at-holds place level depth t s h g =
         gave-if I kept (C I kept) (nat_lt most_round depth) _ (after (expand_uses go.earlier place level t s) (perform_settled go level depth)) tt
         (gave-after I kept (SettledAt go.earlier keeps.records) (C I kept) (expand_uses go.earlier place level t s) (perform_settled go level depth) (expand_uses-to-holds go.earlier keeps.records s.uses_left place level t s h g)
         (λ d u i y. perform-holds d.place level depth d.form d.plan u i y.0 y.1))
 
-    keyword-item-holds : (at : BodyAt) (depth : ℕ) (d : Taken) (t : Tree) (b : BindingSpec) (s : State) → F I kept s → TakenAt I kept d → SpecAt I kept b → Gave I kept (TakenAt I kept) (after (define_syntax go at depth d t b s) (λ _. give d))
+    keyword-item-holds : (at : BodyAt) (depth : ℕ) (d : Taken) (t : Tree) (b : BindingSpec) (s : State) → F I kept s → TakenAt I kept d → SpecAt I kept b → Gave I kept (TakenAt I kept) (after (define_syntax go at depth d (definition_parts t b) s) (λ _. give d))
     unfolding define_syntax
     keyword-item-holds at depth d t b s h k g =
-        gave-after I kept Any (TakenAt I kept) (after (define_keyword at d t b s) (expand_transformer go at.place at.level depth)) (λ _. give d)
-        (gave-after I kept (BoundHolds I kept) Any (define_keyword at d t b s) (expand_transformer go at.place at.level depth) (define-keyword-holds I kept at depth d t b s h g) (λ x u i y. keyword-holds I kept go keeps at.place at.level depth x u i y))
+        gave-after I kept Any (TakenAt I kept) (after (define_keyword at d t b s) (expand_transformer go (site_at at.place at.level depth))) (λ _. give d)
+        (gave-after I kept (BoundHolds I kept) Any (define_keyword at d t b s) (expand_transformer go (site_at at.place at.level depth)) (define-keyword-holds I kept at depth d t b s h g) (λ x u i y. keyword-holds I kept go keeps at.place at.level depth x u i y))
         (λ x u i y. (i, k))
 
     perform-item-holds : (at : BodyAt) (depth : ℕ) (d : Taken) (t : Tree) (i : Item) (s : State) → F I kept s → TakenAt I kept d → I.trees t → ItemAt I kept i → Gave I kept (TakenAt I kept) (perform_item go at depth d t i s)
@@ -203,10 +194,8 @@ module _ (I : Invariant) (kept : IsKeptByExpansion I) where
     perform-item-holds at depth d t (items.Forms forms) s h k g y = splice-holds I kept go keeps at (deeper depth) d forms s h k y
     perform-item-holds at depth d t (items.Keyword b) s h k g y = keyword-item-holds at (deeper depth) d t b s h k y
     perform-item-holds at depth d t (items.Keywords recursive bs forms) s h k g y =
-        gave-after I kept (Ts I kept) (TakenAt I kept) (with_keywords go at.place at.level (deeper depth) recursive bs forms s) (splice go at (deeper depth) d) (with-keywords-holds I kept go keeps at.place at.level (deeper depth) recursive bs forms s h y.0 y.1)
+        gave-after I kept (Ts I kept) (TakenAt I kept) (with_keywords go (site_at at.place at.level (deeper depth)) (let_syntax_parts recursive bs forms) s) (splice go at (deeper depth) d) (with-keywords-holds I kept go keeps at.place at.level (deeper depth) recursive bs forms s h y.0 y.1)
         (λ xs u i z. splice-holds I kept go keeps at (deeper depth) d xs u i k z)
-    perform-item-holds at depth d t (items.Use l) s h k g y = tt
-    perform-item-holds at depth d t (items.SetUse l) s h k g y = tt
 
     pub item-holds : (at : BodyAt) (depth : ℕ) (d : Taken) (t : Tree) (s : State) → F I kept s → TakenAt I kept d → I.trees t → Gave I kept (TakenAt I kept) (item go at depth d t s)
     unfolding item

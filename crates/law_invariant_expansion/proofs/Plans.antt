@@ -26,6 +26,8 @@ use Rattle.expand_standing.specs.declared.standing.Role.TheVariants as role
 use Rattle.expand_standing.specs.declared.standing.Standing.{Standing}
 use Rattle.expand_standing.specs.declared.standing.Standing.TheVariants as standing
 use Rattle.expand_standing.specs.declared.standing.Variable.{Variable}
+use Rattle.expand_heads.specs.declared.plan.HeadPlan.{HeadPlan}
+use Rattle.expand_heads.specs.declared.plan.HeadPlan.TheVariants as head_plans
 use Rattle.expand_heads.specs.Plan.{done, variable_at, refer, reference, constant, target_variable, target_by, assign_to, assign_by, assign, keywords_plan, operand_plan, call_of, application, in_sequence, shape_plan, with_shape, by_role, keyword_plan, by_head, list_plan, plan_of}
 use Rattle.expand_heads.specs.declared.plan.Plan.{Plan}
 use Rattle.expand_heads.specs.declared.plan.Plan.TheVariants as plans
@@ -50,15 +52,18 @@ module _ (I : Invariant) (kept : IsKeptByExpansion I) where
   PlanAt (plans.Matching subject literals cs span) = I.trees subject × (Ts I kept literals × Each (PatternCaseHolds I kept.built.closed) cs)
   PlanAt (plans.Keywords recursive bs forms) = Each (SpecAt I kept) bs × Ts I kept forms
   PlanAt (plans.Quasi which template) = I.trees template
-  PlanAt (plans.Use k) = Unit {0}
-  PlanAt (plans.SetUse l id) = Unit {0}
+
+  abbrev pub HeadAt : HeadPlan → Type 0
+  HeadAt (head_plans.Plan p) = PlanAt p
+  HeadAt (head_plans.Use k) = Unit {0}
+  HeadAt (head_plans.SetUse l id) = Unit {0}
 
   module _ (place : Span) (level : ℕ) (s : State) (h : F I kept s) where
-    abbrev Planned : Result (Plan × State) Fault → Type 0
-    Planned r = Gave I kept PlanAt r
+    abbrev Planned : Result (HeadPlan × State) Fault → Type 0
+    Planned r = Gave I kept HeadAt r
 
-    planned-if : (b : Bool) (r q : Result (Plan × State) Fault) → Planned r → Planned q → Planned (if b then r else q)
-    planned-if b r q x y = gave-if I kept PlanAt b r q x y
+    planned-if : (b : Bool) (r q : Result (HeadPlan × State) Fault) → Planned r → Planned q → Planned (if b then r else q)
+    planned-if b r q x y = gave-if I kept HeadAt b r q x y
 
     as-it-is : F I kept s
     as-it-is = h
@@ -112,7 +117,7 @@ module _ (I : Invariant) (kept : IsKeptByExpansion I) where
 
     assigned-holds : (t id value : Tree) (st : Standing) → I.trees value → Planned (after (target_by place level t id st s) (assign_to value))
     assigned-holds t id value st k =
-        gave-after I kept (λ l. Unit {0}) PlanAt (target_by place level t id st s) (assign_to value) (target-holds t id st)
+        gave-after I kept (λ l. Unit {0}) HeadAt (target_by place level t id st s) (assign_to value) (target-holds t id st)
         (λ l u i y. (i, k))
 
     assign-by-holds : (t id value : Tree) (st : Standing) → I.trees value → Planned (assign_by place level t id value st s)
@@ -145,7 +150,7 @@ module _ (I : Invariant) (kept : IsKeptByExpansion I) where
 
     operand-holds : (t : Tree) (f : CoreForm) (operand : Tree) → I.trees operand → Planned (operand_plan place level t f operand s)
     operand-holds t core_forms.Syntax operand k =
-        gave-after I kept (TemplateAt I kept) PlanAt (template_of place level operand s) (λ x. done (instance x (place_of t place))) (template-holds I kept place level operand s h k) (λ x u i y. (i, y))
+        gave-after I kept (TemplateAt I kept) HeadAt (template_of place level operand s) (λ x. done (instance x (place_of t place))) (template-holds I kept place level operand s h k) (λ x u i y. (i, y))
     operand-holds t core_forms.Quasiquote operand k = (as-it-is, k)
     operand-holds t core_forms.Quasisyntax operand k = (as-it-is, k)
     operand-holds t _ operand k = tt

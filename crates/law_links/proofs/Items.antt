@@ -21,8 +21,9 @@ use Rattle.expand_standing.specs.declared.standing.Role.{Role}
 use Rattle.expand_standing.specs.declared.standing.Role.TheVariants as role
 use Rattle.expand_standing.specs.declared.standing.Standing.{Standing}
 use Rattle.expand_standing.specs.declared.standing.Standing.TheVariants as standing
+use Rattle.expand_heads.specs.declared.item.HeadItem.{HeadItem}
+use Rattle.expand_heads.specs.declared.item.HeadItem.TheVariants as head_items
 use Rattle.expand_heads.specs.Items.{wait, keep, any_changed, is_mixed, is_top, heads_like, with_waiting, in_time, keyword_in_time, define, define_keyword, define_item, alone, target_item, set_item, begin_item, keywords_item, with_shape, item_by, core_item, headed_item, list_item, leaf_by, leaf_item, item_plan}
-use Rattle.expand_heads.specs.declared.item.Item.{Item}
 use Rattle.expand_heads.specs.declared.item.Item.TheVariants as items
 use Rattle.expand_heads.specs.declared.taken.BodyAt.{BodyAt}
 use Rattle.expand_heads.specs.declared.taken.Taken.{Taken}
@@ -115,7 +116,7 @@ module _ (at : BodyAt) where
 
     define-shape-grew : (d : Taken) (t : Tree) (r : Result Shape Fault) (s : State) → Grew s (with_shape r (λ x. alone (define_item at depth d t x)) s)
     define-shape-grew d t (Err e) s = tt
-    define-shape-grew d t (Ok x) s = grew-after s (define_item at depth d t x s) (λ done. give (done, items.Nothing)) (define-item-grew d t x s) (λ y u. grows-same u u refl)
+    define-shape-grew d t (Ok x) s = grew-after s (define_item at depth d t x s) (λ done. give (done, head_items.Item items.Nothing)) (define-item-grew d t x s) (λ y u. grows-same u u refl)
 
     keywords-shape-grew : (d : Taken) (t : Tree) (f : CoreForm) (r : Result Shape Fault) (s : State) → Grew s (with_shape r (keywords_item at d t f) s)
     keywords-shape-grew d t f (Err e) s = tt
@@ -171,14 +172,11 @@ module _ (rs : List CompiledLibrary) where
   set-step-grew at depth d t l true s = grows-same s s refl
   set-step-grew at depth d t l false s = grows-same s s refl
 
-  step-of-grew : (at : BodyAt) (depth : ℕ) (t : Tree) (d : Taken) (i : Item) (s : State) → Grew s (item_step_of rs at depth t d i s)
-  step-of-grew at depth t d (items.Use k) s = grows-same s s refl
-  step-of-grew at depth t d (items.SetUse l) s =
+  step-of-grew : (at : BodyAt) (depth : ℕ) (t : Tree) (d : Taken) (i : HeadItem) (s : State) → Grew s (item_step_of rs at depth t d i s)
+  step-of-grew at depth t d (head_items.Use k) s = grows-same s s refl
+  step-of-grew at depth t d (head_items.SetUse l) s =
       grew-after s (asks_variable rs (place_of t at.place) l s) (set_item_step at depth d t l) (asks-variable-grew rs (place_of t at.place) l s) (λ b u. set-step-grew at depth d t l b u)
-  step-of-grew at depth t d items.Nothing s = grows-same s s refl
-  step-of-grew at depth t d (items.Forms forms) s = grows-same s s refl
-  step-of-grew at depth t d (items.Keyword b) s = grows-same s s refl
-  step-of-grew at depth t d (items.Keywords recursive bs forms) s = grows-same s s refl
+  step-of-grew at depth t d (head_items.Item i) s = grows-same s s refl
 
   step-grew : (at : BodyAt) (depth : ℕ) (d : Taken) (t : Tree) (s : State) → Grew s (item_step rs at depth d t s)
   unfolding item_step

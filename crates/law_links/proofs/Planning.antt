@@ -28,6 +28,8 @@ use Rattle.expand_standing.specs.declared.standing.Standing.{Standing}
 use Rattle.expand_standing.specs.declared.standing.Standing.TheVariants as standing
 use Rattle.expand_standing.specs.declared.standing.Variable.{Variable}
 use Rattle.eval_template.specs.Compile as templates
+use Rattle.expand_heads.specs.declared.plan.HeadPlan.{HeadPlan}
+use Rattle.expand_heads.specs.declared.plan.HeadPlan.TheVariants as head_plans
 use Rattle.expand_heads.specs.Plan.{variable_at, refer, reference, constant, target_variable, target_by, assign_to, assign_by, assign, call_of, application, in_sequence, keywords_plan, operand_plan, shape_plan, with_shape, by_role, keyword_plan, by_head, list_plan, plan_of}
 use Rattle.expand_heads.specs.declared.plan.Plan.{Plan}
 use Rattle.expand_heads.specs.declared.plan.Plan.TheVariants as plans
@@ -93,6 +95,10 @@ abbrev pub PlanQuiet : Plan → Type 0
 PlanQuiet (plans.Done c) = IsQuiet c
 PlanQuiet _ = Unit {0}
 
+abbrev pub HeadQuiet : HeadPlan → Type 0
+HeadQuiet (head_plans.Plan p) = PlanQuiet p
+HeadQuiet _ = Unit {0}
+
 template-alike : (place : Span) (level : ℕ) (t : Tree) (s : State) → Gave (λ x u. Alike s u) (template_of place level t s)
 unfolding template_of
 template-alike place level t s = by (templates.compiled (record { frames = s.frames; bindings = s.bindings; level = level; place = place }) t)
@@ -109,17 +115,17 @@ module _ (place : Span) (level : ℕ) (s : State) where
   abbrev Same : {A : Type 0} → A → State → Type 0
   Same x u = Alike s u
 
-  abbrev Quiet : Plan → State → Type 0
-  Quiet p u = Alike s u × PlanQuiet p
+  abbrev Quiet : HeadPlan → State → Type 0
+  Quiet p u = Alike s u × HeadQuiet p
 
-  variable-alike : (id : Tree) (v : Variable) → Gave (Same {A = Plan}) (variable_at place level id v s)
+  variable-alike : (id : Tree) (v : Variable) → Gave (Same {A = HeadPlan}) (variable_at place level id v s)
   unfolding variable_at
   variable-alike id v =
       gave-if Same v.own _ _
       (λ a. gave-if Same (nat_eq v.level level) _ _ (λ b. gave-if Same (is_in_scope s v) _ _ (λ c. refl) (λ c. tt)) (λ b. tt))
       (λ a. gave-if Same v.top _ _ (λ b. gave-if Same v.assigned _ _ (λ c. tt) (λ c. refl)) (λ b. tt))
 
-  refer-alike : (id : Tree) (st : Standing) → Gave (Same {A = Plan}) (refer place level id st s)
+  refer-alike : (id : Tree) (st : Standing) → Gave (Same {A = HeadPlan}) (refer place level id st s)
   refer-alike id standing.Nothing = tt
   refer-alike id (standing.Variable v) = variable-alike id v
   refer-alike id standing.PatternVariable = tt
@@ -127,7 +133,7 @@ module _ (place : Span) (level : ℕ) (s : State) where
   refer-alike id (standing.Core f) = tt
   refer-alike id (standing.Keyword l) = refl
 
-  reference-alike : (id : Tree) → Gave (Same {A = Plan}) (reference place level id s)
+  reference-alike : (id : Tree) → Gave (Same {A = HeadPlan}) (reference place level id s)
   unfolding reference
   reference-alike id = refer-alike id (standing_of s id)
 
@@ -162,7 +168,7 @@ module _ (place : Span) (level : ℕ) (s : State) where
   module _ (t : Tree) where
     operand-quiet : (f : CoreForm) (operand : Tree) → Gave Quiet (operand_plan place level t f operand s)
     operand-quiet core_forms.Syntax operand =
-        gave-after Same Quiet (template_of place level operand s) (λ x. give (plans.Done (instance x (place_of t place)))) (template-alike place level operand s) (λ x u k. (k, tt))
+        gave-after Same Quiet (template_of place level operand s) (λ x. give (head_plans.Plan (plans.Done (instance x (place_of t place))))) (template-alike place level operand s) (λ x u k. (k, tt))
     operand-quiet core_forms.Quasiquote operand = (refl, tt)
     operand-quiet core_forms.Quasisyntax operand = (refl, tt)
     operand-quiet _ operand = tt
@@ -230,18 +236,18 @@ module _ (place : Span) (level : ℕ) (s : State) where
     list-quiet head rest = gave-if Quiet (is_leaf head) _ _ (λ e. head-quiet head rest (standing_of s head)) (λ e. application-quiet head rest)
 
   -- whatever the form is
-  abbrev pub Planned : Tree → Plan → State → Type 0
-  Planned t p u = Alike s u × (is_leaf t ≡ false → PlanQuiet p)
+  abbrev pub Planned : Tree → HeadPlan → State → Type 0
+  Planned t p u = Alike s u × (is_leaf t ≡ false → HeadQuiet p)
 
   constant-planned : (t : Tree) (b : Bool) → Gave (Planned t) (constant place t b s)
   constant-planned t true = tt
   constant-planned t false = (refl, λ e. tt)
 
-  planned-of : (t : Tree) (r : Result (Plan × State) Fault) → Gave Quiet r → Gave (Planned t) r
+  planned-of : (t : Tree) (r : Result (HeadPlan × State) Fault) → Gave Quiet r → Gave (Planned t) r
   planned-of t (Ok p) h = (h.0, λ e. h.1)
   planned-of t (Err f) h = tt
 
-  planned-leaf : (t : Tree) → is_leaf t ≡ true → (r : Result (Plan × State) Fault) → Gave (Same {A = Plan}) r → Gave (Planned t) r
+  planned-leaf : (t : Tree) → is_leaf t ≡ true → (r : Result (HeadPlan × State) Fault) → Gave (Same {A = HeadPlan}) r → Gave (Planned t) r
   planned-leaf t leafy (Ok p) h = (h, λ e. absurd (differs (sym leafy ∙ e)))
     where
       differs : true ≡ false → ⊥

@@ -17,6 +17,8 @@ use Rattle.core_shapes.specs.Lists.{is_leaf}
 use Rattle.expand_standing.specs.State.{State, noted}
 use Rattle.expand_standing.specs.Uses.{asks_variable}
 use Rattle.expand_standing.specs.declared.standing.Standing.TheVariants as standing
+use Rattle.expand_heads.specs.declared.plan.HeadPlan.{HeadPlan}
+use Rattle.expand_heads.specs.declared.plan.HeadPlan.TheVariants as head_plans
 use Rattle.expand_heads.specs.Plan.{plan_of}
 use Rattle.expand_heads.specs.declared.plan.KeywordUse.{KeywordUse}
 use Rattle.expand_heads.specs.declared.plan.KeywordUse.TheVariants as keyword_use
@@ -33,7 +35,7 @@ use Rattle.law_references.proofs.Performing.{leaf-stands}
 use Rattle.law_references.proofs.Settling as settling
 use Rattle.law_links.specs.Links.{link_to, primitive_label, IsLink, refers, is_primitive, CodeLinked}
 use Rattle.law_links.proofs.Grown.{Grows, grows-same, grows-then, grows-noted, Grew, grew-from, among-last}
-use Rattle.law_links.proofs.Planning.{target-is, IsQuiet, PlanQuiet, Planned, plan-planned}
+use Rattle.law_links.proofs.Planning.{target-is, IsQuiet, PlanQuiet, HeadQuiet, Planned, plan-planned}
 use Rattle.law_links.proofs.Standing.{asks-variable-grew, use-keyword-grew, use-record-grew}
 
 -- A link behind others.
@@ -140,12 +142,12 @@ module _ (rs : List CompiledLibrary) where
   asks-so place t l s u g (Ok p) h = grows-then s u p.1 g h
   asks-so place t l s u g (Err f) h = tt
 
-  step-of-so : (place : Span) (t : Tree) (p : Plan) (s u : State) → Grows s u → (is_leaf t ≡ false → PlanQuiet p) → Gave (Steps t s) (step_of rs place t p u)
-  step-of-so place t (plans.Use k) s u g q = g
-  step-of-so place t (plans.SetUse l id) s u g q =
+  step-of-so : (place : Span) (t : Tree) (p : HeadPlan) (s u : State) → Grows s u → (is_leaf t ≡ false → HeadQuiet p) → Gave (Steps t s) (step_of rs place t p u)
+  step-of-so place t (head_plans.Use k) s u g q = g
+  step-of-so place t (head_plans.SetUse l id) s u g q =
       gave-after (λ b v. Grows s v) (Steps t s) (asks_variable rs (place_of t place) l u) (set_step place t l id) (asks-so place t l s u g (asks_variable rs (place_of t place) l u) (asks-variable-grew rs (place_of t place) l u))
       (λ b v k. set-so place t l id b s v k)
-  step-of-so place t _ s u g q = (g, q)
+  step-of-so place t (head_plans.Plan p) s u g q = (g, q)
 
   step-so : (place : Span) (level : ℕ) (t : Tree) (s : State) → Gave (Steps t s) (step rs place level t s)
   unfolding step

@@ -25,6 +25,8 @@ use Rattle.expand_heads.specs.declared.taken.Waits.{Waits}
 use Rattle.expand_heads.specs.declared.taken.Waits.TheVariants as waits
 use Rattle.expand_forms.specs.Body.{splice, no_value, value_of, finish_as, finish_one, finish_all, sequence_of, inits_in, values_in, with_inits, body_core, finish, lambda_at, body_in, body}
 use Rattle.expand_forms.specs.Inside.{Inside}
+use Rattle.expand_forms.specs.Site.{site_at}
+use Rattle.expand_forms.specs.Forms.{procedure_parts}
 use Rattle.law_expand.proofs.Acts.{Gave, gave-after, gave-each, gave-gather, gave-if, gave-less, gave-within}
 use Rattle.law_expand.proofs.Naming.{as_frame, counted}
 use Rattle.law_expand.proofs.Nesting.{deeper-next}
@@ -51,8 +53,8 @@ AreDeep base d = Each (IsDeep base) d.waiting
 module _ (between : Between) (few : IsAtMostText between) where
   -- what is done inside forms nests so
   pub record Nests (go : Inside) : Type 0 where
-    pub form : (place : Span) (level depth : ℕ) (t : Tree) (s : State) → Gave (λ c u. Low between few depth deepest c) (go.form place level depth t s)
-    pub procedure : (place : Span) (level depth : ℕ) (t : Tree) (ids : FormalIds) (forms : List Tree) (s : State) → depth ≤ most_round + 1 → Gave (λ c u. LowCase between few depth (deepest + 2) c) (go.procedure place level depth t ids forms s)
+    pub form : (place : Span) (level depth : ℕ) (t : Tree) (s : State) → Gave (λ c u. Low between few depth deepest c) (go.form (site_at place level depth) t s)
+    pub procedure : (place : Span) (level depth : ℕ) (t : Tree) (ids : FormalIds) (forms : List Tree) (s : State) → depth ≤ most_round + 1 → Gave (λ c u. LowCase between few depth (deepest + 2) c) (go.procedure (site_at place level depth) (procedure_parts t ids forms) s)
     pub item : (at : BodyAt) (base depth : ℕ) (d : Taken) (t : Tree) (s : State) → base ≤ depth → AreDeep base d → Gave (λ e u. AreDeep base e) (go.item at depth d t s)
 
   -- The lines that a body comes to. What a definition binds is one lower, since three lists stand round it.
@@ -98,31 +100,31 @@ module _ (between : Between) (few : IsAtMostText between) where
         let f = datum.atom None (atoms.Bool false) in
         one_armed-low between few depth (deepest + 1) (deepest + 2) (omega arith) (quoted f) (quoted f) (omega (arith, le)) (omega (arith, le))
 
-    value-low : (place : Span) (level depth : ℕ) (o : Option Tree) (s : State) → depth ≤ most_round + 1 → Gave (λ c u. Low between few depth (deepest + 2) c) (value_of go place level depth o s)
+    value-low : (place : Span) (level depth : ℕ) (o : Option Tree) (s : State) → depth ≤ most_round + 1 → Gave (λ c u. Low between few depth (deepest + 2) c) (value_of go (site_at place level depth) o s)
     value-low place level depth None s le = no-value-low depth le
     value-low place level depth (Some t) s le =
-        gave-less (λ c u. Low between few depth deepest c) (λ c u. Low between few depth (deepest + 2) c) (go.form place level depth t s) (nests.form place level depth t s) (λ c u k. low-at between few depth deepest depth (deepest + 2) c (omega arith) k)
+        gave-less (λ c u. Low between few depth deepest c) (λ c u. Low between few depth (deepest + 2) c) (go.form (site_at place level depth) t s) (nests.form place level depth t s) (λ c u k. low-at between few depth deepest depth (deepest + 2) c (omega arith) k)
 
     -- what stands one deeper, nearer
     nearer : (base depth : ℕ) (c : PlainCore) → base ≤ depth → depth ≤ most_round → Low between few (deeper depth) (deepest + 3) c → Low between few base below c
     nearer base depth c le room h =
         low-at between few (depth + 1) (deepest + 3) base below c (omega (arith, le)) (subst (λ d. Low between few d (deepest + 3) c) (deeper-next depth room) h)
 
-    line-nests : (level base depth : ℕ) (place : Span) (w : Waits) (s : State) → base ≤ depth → depth ≤ most_round → Gave (λ x u. LowLine base x) (finish_as go level place depth w s)
+    line-nests : (level base depth : ℕ) (place : Span) (w : Waits) (s : State) → base ≤ depth → depth ≤ most_round → Gave (λ x u. LowLine base x) (finish_as go (site_at place level depth) w s)
     unfolding finish_as fresh
     line-nests level base depth place (waits.Variable l value) s le room =
-        gave-after (λ c u. Low between few (deeper depth) (deepest + 2) c) (λ x u. LowLine base x) (value_of go place level (deeper depth) value s) (λ c. give (line.Define l c))
+        gave-after (λ c u. Low between few (deeper depth) (deepest + 2) c) (λ x u. LowLine base x) (value_of go (site_at place level (deeper depth)) value s) (λ c. give (line.Define l c))
         (value-low place level (deeper depth) value s (let e = deeper-next depth room in omega (arith, e, room)))
         (λ c u k. nearer base depth c le room (low-at between few (deeper depth) (deepest + 2) (deeper depth) (deepest + 3) c (omega arith) k))
     line-nests level base depth place (waits.Procedure l x ids forms) s le room =
         let n = s.names in
         let up : deeper depth ≤ most_round + 1 = let e = deeper-next depth room in omega (arith, e, room) in
-        gave-after (λ c u. LowCase between few (deeper depth) (deepest + 2) c) (λ y u. LowLine base y) (go.procedure place level (deeper depth) x ids forms (counted s))
+        gave-after (λ c u. LowCase between few (deeper depth) (deepest + 2) c) (λ y u. LowLine base y) (go.procedure (site_at place level (deeper depth)) (procedure_parts x ids forms) (counted s))
         (λ c. give (line.Define l (procedure (record { 0 = n }) (cases (c ∷ [])) true)))
         (nests.procedure place level (deeper depth) x ids forms (counted s) up)
         (λ c u k. nearer base depth (procedure (record { 0 = n }) (cases (c ∷ [])) true) le room (lambda-low between few (deeper depth) (deepest + 2) (deepest + 3) (omega arith) (omega (arith, up)) (record { 0 = n }) (c ∷ []) (k, tt)))
     line-nests level base depth place (waits.Expression x) s le room =
-        gave-after (λ c u. Low between few depth deepest c) (λ y u. LowLine base y) (go.form place level depth x s) (λ c. give (line.Expr c)) (nests.form place level depth x s)
+        gave-after (λ c u. Low between few depth deepest c) (λ y u. LowLine base y) (go.form (site_at place level depth) x s) (λ c. give (line.Expr c)) (nests.form place level depth x s)
         (λ c u k. low-at between few depth deepest base deepest c (omega (arith, le)) k)
 
     pub lines-nest : (level base : ℕ) (ws : List Waiting) (s : State) → Each (IsDeep base) ws → Gave (λ xs u. Each (LowLine base) xs) (finish_all go level ws s)
@@ -152,12 +154,12 @@ module _ (between : Between) (few : IsAtMostText between) where
     pub splice-nests : (at : BodyAt) (base depth : ℕ) (d : Taken) (forms : List Tree) (s : State) → base ≤ depth → AreDeep base d → Gave (λ e u. AreDeep base e) (splice go at depth d forms s)
     splice-nests at base depth d forms s le deep = gave-gather (go.item at depth) (λ e u. AreDeep base e) (λ e x u k. nests.item at base depth e x u le k) d forms s deep
 
-    pub body-nests : (place : Span) (level depth : ℕ) (t : Tree) (forms : List Tree) (s : State) → depth ≤ most_round + 1 → Gave (λ c u. Low between few depth (deepest + 2) c) (body go place level depth t forms s)
+    pub body-nests : (place : Span) (level depth : ℕ) (t : Tree) (forms : List Tree) (s : State) → depth ≤ most_round + 1 → Gave (λ c u. Low between few depth (deepest + 2) c) (body go (site_at place level depth) t forms s)
     unfolding body fresh_frame
     body-nests place level depth t forms s room =
         let at = lambda_at (as_frame s.names) place level in
         let some = map (stamp (as_frame s.names)) forms in
-        gave-within (λ c u. Low between few depth (deepest + 2) c) (λ u. after (fresh_frame u) (body_in go place level depth t forms)) s
+        gave-within (λ c u. Low between few depth (deepest + 2) c) (λ u. after (fresh_frame u) (body_in go (site_at place level depth) t forms)) s
         (gave-after (λ d u. AreDeep depth d) (λ c u. Low between few depth (deepest + 2) c) (splice go at depth begun some (counted s)) (finish go place level t)
         (splice-nests at depth depth begun some (counted s) (omega arith) tt)
         (λ d u k. finish-nests place level depth t d u room k))

@@ -13,9 +13,10 @@ use Rattle.core_shapes.specs.declared.shape.Shape.TheVariants as shapes
 use Rattle.expand_standing.specs.Binders.{bind_variable}
 use Rattle.expand_standing.specs.State.{State, fault_word}
 use Rattle.expand_standing.specs.Uses.{asks_variable}
+use Rattle.expand_heads.specs.declared.item.HeadItem.{HeadItem}
+use Rattle.expand_heads.specs.declared.item.HeadItem.TheVariants as head_items
 use Rattle.expand_heads.specs.Depth.{most_round}
 use Rattle.expand_heads.specs.Items.{waiting_at, any_changed, is_mixed, is_top, with_waiting, heads_like, in_time, define, define_item, item_plan}
-use Rattle.expand_heads.specs.declared.item.Item.{Item}
 use Rattle.expand_heads.specs.declared.item.Item.TheVariants as items
 use Rattle.expand_heads.specs.declared.taken.BodyAt.{BodyAt}
 use Rattle.expand_heads.specs.declared.taken.Taken.{Taken}
@@ -67,10 +68,10 @@ module _ (base depth : ℕ) (deep : base ≤ depth) (room : depth ≤ most_round
       gave-after (Deep {A = Label}) (λ e u. AreDeep base e) (define at d t id s) (λ e. give (with_waiting at depth e.0 (waits.Procedure e.1 t ids forms))) (defines at d t id s h) (λ e u k. waits-deep at e.0 (waits.Procedure e.1 t ids forms) k)
   definition-deep at d t _ s h = tt
 
-  item-deep : (at : BodyAt) (d : Taken) (t : Tree) (s : State) → AreDeep base d → Gave (Deep {A = Item}) (item_plan at depth d t s)
-  item-deep at d t s h = item-cases (AreDeep base) (Deep {A = Item}) at depth s (λ e id j. j)
+  item-deep : (at : BodyAt) (d : Taken) (t : Tree) (s : State) → AreDeep base d → Gave (Deep {A = HeadItem}) (item_plan at depth d t s)
+  item-deep at d t s h = item-cases (AreDeep base) (Deep {A = HeadItem}) at depth s (λ e id j. j)
       (λ e x j. waits-deep at e (waits.Expression x) j)
-      (λ e x y j. gave-after (λ z u. AreDeep base z) (Deep {A = Item}) (define_item at depth e x y s) (λ z. give (z, items.Nothing)) (definition-deep at e x y s j) (λ z u k. k))
+      (λ e x y j. gave-after (λ z u. AreDeep base z) (Deep {A = HeadItem}) (define_item at depth e x y s) (λ z. give (z, head_items.Item items.Nothing)) (definition-deep at e x y s j) (λ z u k. k))
       (λ e i j. j) d t h
 
   module _ (rs : List CompiledLibrary) where
@@ -78,18 +79,15 @@ module _ (base depth : ℕ) (deep : base ≤ depth) (room : depth ≤ most_round
     set-deep at d t l true u h = h
     set-deep at d t l false u h = waits-deep at d (waits.Expression t) h
 
-    steps-deep : (at : BodyAt) (t : Tree) (d : Taken) (i : Item) (u : State) → AreDeep base d → Gave (Deep {A = ItemOrUse}) (item_step_of rs at depth t d i u)
-    steps-deep at t d items.Nothing u h = h
-    steps-deep at t d (items.Forms forms) u h = h
-    steps-deep at t d (items.Keyword b) u h = h
-    steps-deep at t d (items.Keywords recursive bs forms) u h = h
-    steps-deep at t d (items.Use l) u h = h
-    steps-deep at t d (items.SetUse l) u h =
+    steps-deep : (at : BodyAt) (t : Tree) (d : Taken) (i : HeadItem) (u : State) → AreDeep base d → Gave (Deep {A = ItemOrUse}) (item_step_of rs at depth t d i u)
+    steps-deep at t d (head_items.Item i) u h = h
+    steps-deep at t d (head_items.Use l) u h = h
+    steps-deep at t d (head_items.SetUse l) u h =
         gave-after (λ b v. Unit {0}) (Deep {A = ItemOrUse}) (asks_variable rs (place_of t at.place) l u) (set_item_step at depth d t l) (gave-any (λ b v. Unit {0}) (asks_variable rs (place_of t at.place) l u) (λ b v. tt)) (λ b v k. set-deep at d t l b v h)
 
     step-deep : (at : BodyAt) (d : Taken) (t : Tree) (s : State) → AreDeep base d → Gave (Deep {A = ItemOrUse}) (item_step rs at depth d t s)
     unfolding item_step
-    step-deep at d t s h = gave-after (Deep {A = Item}) (Deep {A = ItemOrUse}) (item_plan at depth d t s) (λ p. item_step_of rs at depth t p.0 p.1) (item-deep at d t s h) (λ p u j. steps-deep at t p.0 p.1 u j)
+    step-deep at d t s h = gave-after (Deep {A = HeadItem}) (Deep {A = ItemOrUse}) (item_plan at depth d t s) (λ p. item_step_of rs at depth t p.0 p.1) (item-deep at d t s h) (λ p u j. steps-deep at t p.0 p.1 u j)
 
     -- uses in a body are expanded
     pub expand_uses-deep : (left : ℕ) (at : BodyAt) (d : Taken) (t : Tree) (s : State) → AreDeep base d → Gave (Deep {A = PlannedItem}) (expand_item_uses_to rs left at depth d t s)

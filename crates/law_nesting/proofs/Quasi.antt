@@ -29,6 +29,8 @@ use Rattle.expand_standing.specs.State.{State, fresh_frame}
 use Rattle.expand_heads.specs.Depth.{deeper, most_round}
 use Rattle.expand_forms.specs.Inside.{Inside}
 use Rattle.expand_forms.specs.Quasi.{part_core, parts_in_order, quasi_made, quasi_form}
+use Rattle.expand_forms.specs.Site.{site_at}
+use Rattle.expand_forms.specs.Forms.{template_parts}
 use Rattle.law_expand.proofs.Acts.{Gave, gave-after, gave-any, gave-less, gave-within}
 use Rattle.law_expand.proofs.Fresh.{each-append}
 use Rattle.law_expand.proofs.Naming.{as_frame, counted}
@@ -163,9 +165,9 @@ module _ (between : Between) (few : IsAtMostText between) where
         (filled-nests t q depth [] cs (subst (λ (ps : List PartForm). Codes ps cs) (sym (append-nil (quasi_parts t depth [] q))) (pairs-codes (quasi_parts t depth [] q) cs k))).0
     code-nests (forms.Syntax q) depth cs s k = syntax-nests q q.inserts depth cs s k
 
-    pub quasi-nests : (depth : ℕ) (which : Family) (template : Tree) (s : State) → Gave (λ c u. Low between few depth deepest c) (quasi_form go place level depth t which template s)
+    pub quasi-nests : (depth : ℕ) (which : Family) (template : Tree) (s : State) → Gave (λ c u. Low between few depth deepest c) (quasi_form go (site_at place level depth) (template_parts t which template) s)
     unfolding quasi_form
     quasi-nests depth which template s =
-        gave-after (λ q u. Unit {0}) (λ c u. Low between few depth deepest c) (form_of place t which template s) (quasi_made go place level depth t) (gave-any (λ q u. Unit {0}) (form_of place t which template s) (λ q u. tt))
+        gave-after (λ q u. Unit {0}) (λ c u. Low between few depth deepest c) (form_of place t which template s) (quasi_made go (site_at place level depth) t) (gave-any (λ q u. Unit {0}) (form_of place t which template s) (λ q u. tt))
         (λ q u e. gave-after (λ cs v. Pairs LowPart (parts_of t depth q) cs) (λ c v. Low between few depth deepest c) (parts_in_order go place level (parts_of t depth q) u) (code_of place level t q) (parts-nest (parts_of t depth q) u)
         (λ cs v k. code-nests q depth cs v k))

@@ -12,6 +12,8 @@ use Rattle.expand_heads.specs.declared.taken.Taken.{Taken}
 use Rattle.expand_forms.specs.Body.{item}
 use Rattle.expand_forms.specs.Expression.{lambda_case, form_at, inside}
 use Rattle.expand_forms.specs.Inside.{Inside}
+use Rattle.expand_forms.specs.Site.{site_at}
+use Rattle.expand_forms.specs.Forms.{procedure_parts}
 use Rattle.law_readable.specs.Readable.{ReadableTree, ReadableCore}
 use Rattle.law_readable.specs.Stages.{ReadableRecords}
 use Rattle.law_readable_expansion.specs.Forms.{ReadableTrees, ReadableFormals, ReadableTaken}
@@ -21,10 +23,10 @@ use Rattle.law_readable_expansion.specs.States.{ReadableIn}
 -- records and the forms that it begins with.
 pub record KeepsReadable (go : Inside) : Type 0 where
   pub form : (place : Span) (level depth : ℕ) (t : Tree) (s u : State) (c : PlainCore) → ReadableIn s → ReadableRecords go.earlier
-      → ReadableTree t → go.form place level depth t s ≡ Ok (c, u) → ReadableIn u × ReadableCore c
+      → ReadableTree t → go.form (site_at place level depth) t s ≡ Ok (c, u) → ReadableIn u × ReadableCore c
   pub procedure : (place : Span) (level depth : ℕ) (t : Tree) (ids : FormalIds) (forms : List Tree) (s u : State) (c : Lambda)
       → ReadableIn s → ReadableRecords go.earlier → ReadableFormals ids → ReadableTrees forms
-      → go.procedure place level depth t ids forms s ≡ Ok (c, u) → ReadableIn u × ReadableCore c.body
+      → go.procedure (site_at place level depth) (procedure_parts t ids forms) s ≡ Ok (c, u) → ReadableIn u × ReadableCore c.body
   pub item : (at : BodyAt) (depth : ℕ) (d e : Taken) (t : Tree) (s u : State) → ReadableIn s → ReadableRecords go.earlier → ReadableTaken d
       → ReadableTree t → go.item at depth d t s ≡ Ok (e, u) → ReadableIn u × ReadableTaken e
 

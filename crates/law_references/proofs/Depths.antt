@@ -22,9 +22,10 @@ use Rattle.expand_standing.specs.declared.standing.Role.{Role}
 use Rattle.expand_standing.specs.declared.standing.Role.TheVariants as role
 use Rattle.expand_standing.specs.declared.standing.Standing.{Standing}
 use Rattle.expand_standing.specs.declared.standing.Standing.TheVariants as standing
+use Rattle.expand_heads.specs.declared.item.HeadItem.{HeadItem}
+use Rattle.expand_heads.specs.declared.item.HeadItem.TheVariants as head_items
 use Rattle.expand_heads.specs.Kept.{with_head}
 use Rattle.expand_heads.specs.Items.{kept_head, is_top, is_mixed, any_changed, heads_like, waiting_at, wait, keep, in_time, define, define_item, define_keyword, keyword_in_time, alone, target_item, set_item, begin_item, keywords_item, with_shape, item_by, core_item, headed_item, list_item, leaf_by, leaf_item, item_plan}
-use Rattle.expand_heads.specs.declared.item.Item.{Item}
 use Rattle.expand_heads.specs.declared.item.Item.TheVariants as items
 use Rattle.expand_heads.specs.declared.plan.KeywordUse.{KeywordUse}
 use Rattle.expand_heads.specs.declared.taken.BodyAt.{BodyAt}
@@ -75,9 +76,9 @@ shallow-any (Err e) k m h = refl
 shallow-both : {A B : Type 0} (r q : Result ((Taken × A) × State) Fault) (k m : Taken × A → Does (Taken × B)) → shallow_with r ≡ q → ((p : Taken × A) (u : State) → shallow_with (k p u) ≡ m (shallow p.0, p.1) u) → shallow_with (after r k) ≡ after q m
 shallow-both r q k m e h = shallow-after r k m h ∙ ap (λ x. after x m) e
 
-shallow-alone : (r q : Result (Taken × State) Fault) → shallow_in r ≡ q → shallow_with (after r (λ d. give (d, items.Nothing))) ≡ after q (λ d. give (d, items.Nothing))
-shallow-alone (Ok p) q e = ap (λ (x : Result (Taken × State) Fault). after x (λ d. give (d, items.Nothing))) e
-shallow-alone (Err f) q e = ap (λ (x : Result (Taken × State) Fault). after x (λ d. give (d, items.Nothing))) e
+shallow-alone : (r q : Result (Taken × State) Fault) → shallow_in r ≡ q → shallow_with (after r (λ d. give (d, head_items.Item items.Nothing))) ≡ after q (λ d. give (d, head_items.Item items.Nothing))
+shallow-alone (Ok p) q e = ap (λ (x : Result (Taken × State) Fault). after x (λ d. give (d, head_items.Item items.Nothing))) e
+shallow-alone (Err f) q e = ap (λ (x : Result (Taken × State) Fault). after x (λ d. give (d, head_items.Item items.Nothing))) e
 
 shallow-if : {A : Type 0} (b : Bool) (r q v w : Result ((Taken × A) × State) Fault) → shallow_with r ≡ v → shallow_with q ≡ w → shallow_with (if b then r else q) ≡ (if b then v else w)
 shallow-if true r q v w h k = h
@@ -133,7 +134,7 @@ module _ (depth : ℕ) where
     shallow-definition done t _ s = refl
 
     shallow-wait : (done : Taken) (t : Tree) (s : State) → shallow_with (alone (wait at depth done t) s) ≡ alone (wait at 0 (shallow done) t) s
-    shallow-wait done t s = ap (λ (d : Taken). Ok ((d, items.Nothing), s)) (shallow-more done (waits.Expression t) true)
+    shallow-wait done t s = ap (λ (d : Taken). Ok ((d, head_items.Item items.Nothing), s)) (shallow-more done (waits.Expression t) true)
 
     shallow-target : (done : Taken) (t : Tree) (x : Standing) (s : State) → shallow_with (target_item at depth done t x s) ≡ target_item at 0 (shallow done) t x s
     shallow-target done t (standing.Keyword l) s = refl
@@ -149,7 +150,7 @@ module _ (depth : ℕ) where
     shallow-set done t (Ok _) s = shallow-wait done t s
     shallow-set done t (Err e) s = shallow-wait done t s
 
-    shallow-shape : (r : Result Shape Fault) (k m : Shape → Does (Taken × Item)) (s : State) → ((x : Shape) → shallow_with (k x s) ≡ m x s) → shallow_with (with_shape r k s) ≡ with_shape r m s
+    shallow-shape : (r : Result Shape Fault) (k m : Shape → Does (Taken × HeadItem)) (s : State) → ((x : Shape) → shallow_with (k x s) ≡ m x s) → shallow_with (with_shape r k s) ≡ with_shape r m s
     shallow-shape (Ok x) k m s h = h x
     shallow-shape (Err e) k m s h = refl
 
@@ -205,21 +206,18 @@ module _ (depth : ℕ) where
 
     -- Uses.
 
-    shallow-waited : (done : Taken) (t : Tree) (s : State) → shallow_with (after (wait at depth done t s) (expand_uses.item_done items.Nothing)) ≡ after (wait at 0 (shallow done) t s) (expand_uses.item_done items.Nothing)
-    shallow-waited done t s = ap (λ (d : Taken). Ok ((d, item_steps.Item items.Nothing), s)) (shallow-more done (waits.Expression t) true)
+    shallow-waited : (done : Taken) (t : Tree) (s : State) → shallow_with (after (wait at depth done t s) (expand_uses.item_done (head_items.Item items.Nothing))) ≡ after (wait at 0 (shallow done) t s) (expand_uses.item_done (head_items.Item items.Nothing))
+    shallow-waited done t s = ap (λ (d : Taken). Ok ((d, item_steps.Item (head_items.Item items.Nothing)), s)) (shallow-more done (waits.Expression t) true)
 
     shallow-asked : (done : Taken) (t : Tree) (l : Label) (b : Bool) (s : State) → shallow_with (set_item_step at depth done t l b s) ≡ set_item_step at 0 (shallow done) t l b s
     shallow-asked done t l true s = refl
     shallow-asked done t l false s = shallow-waited done t s
 
-    shallow-step-of : (rs : List CompiledLibrary) (t : Tree) (done : Taken) (i : Item) (s : State) → shallow_with (item_step_of rs at depth t done i s) ≡ item_step_of rs at 0 t (shallow done) i s
-    shallow-step-of rs t done (items.Use k) s = refl
-    shallow-step-of rs t done (items.SetUse l) s =
+    shallow-step-of : (rs : List CompiledLibrary) (t : Tree) (done : Taken) (i : HeadItem) (s : State) → shallow_with (item_step_of rs at depth t done i s) ≡ item_step_of rs at 0 t (shallow done) i s
+    shallow-step-of rs t done (head_items.Use k) s = refl
+    shallow-step-of rs t done (head_items.SetUse l) s =
         shallow-any (asks_variable rs (place_of t at.place) l s) (set_item_step at depth done t l) (set_item_step at 0 (shallow done) t l) (λ b u. shallow-asked done t l b u)
-    shallow-step-of rs t done items.Nothing s = refl
-    shallow-step-of rs t done (items.Forms forms) s = refl
-    shallow-step-of rs t done (items.Keyword b) s = refl
-    shallow-step-of rs t done (items.Keywords recursive bs forms) s = refl
+    shallow-step-of rs t done (head_items.Item i) s = refl
 
     shallow-step : (rs : List CompiledLibrary) (done : Taken) (t : Tree) (s : State) → shallow_with (item_step rs at depth done t s) ≡ item_step rs at 0 (shallow done) t s
     unfolding item_step

@@ -52,6 +52,8 @@ use Rattle.expand_forms.specs.Quasi.{part_core, parts_in_order, quasi_made, quas
 use Rattle.expand_forms.specs.ExpandUses.{expand_uses, expand_item_uses}
 use Rattle.expand_forms.specs.declared.expand_uses.PlannedForm.{PlannedForm}
 use Rattle.expand_forms.proofs.Steps.{earlier_inside}
+use Rattle.expand_forms.specs.Site.{site_at}
+use Rattle.expand_forms.specs.Forms.{definition_parts, if_parts, let_syntax_parts, procedure_parts, syntax_case_parts, template_parts}
 use Rattle.law_expand.specs.States.{Later}
 use Rattle.law_expand.proofs.Acts.{Gave, gave-any, gave-both, gave-after, gave-less, gave-if, told, each-nil, each-cons}
 use Rattle.law_expand.proofs.Later.{later-then}
@@ -176,43 +178,43 @@ module _ (libs : List LibName) (own : LibName) (core : Among libs library.Core) 
       abbrev Goes : {A : Type 0} → (A → State → Type 0) → State → A → State → Type 0
       Goes M s a u = Went s u × M a u
 
-      form-went : (place : Span) (level depth : ℕ) (t : Tree) (s : State) → F s → T s.names.number t → Gave (Goes (FormMade place level t s) s) (go.form place level depth t s)
+      form-went : (place : Span) (level depth : ℕ) (t : Tree) (s : State) → F s → T s.names.number t → Gave (Goes (FormMade place level t s) s) (go.form (site_at place level depth) t s)
       form-went place level depth t s h k = walking.form-went libs own core new rs first held room traced place level depth t s h k
 
-      order-went : (place : Span) (level depth : ℕ) (ts : List Tree) (s : State) → F s → Ts s.names.number ts → Gave (Goes (walking.FormsMade libs own core new rs place level ts s) s) (in_order go place level depth ts s)
+      order-went : (place : Span) (level depth : ℕ) (ts : List Tree) (s : State) → F s → Ts s.names.number ts → Gave (Goes (walking.FormsMade libs own core new rs place level ts s) s) (in_order go (site_at place level depth) ts s)
       order-went place level depth ts s h k = walking.order-went libs own core new rs first held room traced place level depth ts s h k
 
       tree-up : (m n : ℕ) → m ≤ n → (t : Tree) → T m t → T n t
       tree-up m n le t h = standing.tree-up own K J P lives first m n le t h
 
       module _ (place : Span) (level depth : ℕ) (t : Tree) where
-        application-made : (operator : Tree) (operands : List Tree) (s : State) → F s → T s.names.number operator → Ts s.names.number operands → Gave (PlanMade place level t (plans.Call operator operands) s) (application go place level depth operator operands s)
+        application-made : (operator : Tree) (operands : List Tree) (s : State) → F s → T s.names.number operator → Ts s.names.number operands → Gave (PlanMade place level t (plans.Call operator operands) s) (application go (site_at place level depth) operator operands s)
         unfolding application
         application-made operator operands s h k g =
-            gave-after (Goes (FormMade place level operator s) s) (PlanMade place level t (plans.Call operator operands) s) (go.form place level depth operator s) _ (form-went place level depth operator s h k)
-            (λ c v w. gave-after (Goes (walking.FormsMade libs own core new rs place level operands v) v) (PlanMade place level t (plans.Call operator operands) s) (in_order go place level depth operands v) (λ cs. give (call c (cores cs)))
+            gave-after (Goes (FormMade place level operator s) s) (PlanMade place level t (plans.Call operator operands) s) (go.form (site_at place level depth) operator s) _ (form-went place level depth operator s h k)
+            (λ c v w. gave-after (Goes (walking.FormsMade libs own core new rs place level operands v) v) (PlanMade place level t (plans.Call operator operands) s) (in_order go (site_at place level depth) operands v) (λ cs. give (call c (cores cs)))
             (order-went place level depth operands v (goes s v h w.0) (standing.trees-up own K J P lives first s.names.number v.names.number w.0.from.stage.up operands g))
             (λ cs u z. staying.made-joined libs own core new (λ refs. Expands rs place level operator s c v refs) (λ refs. Expand rs place level operands v cs u refs) (λ refs. Performs rs place level t (plans.Call operator operands) s (call c (cores cs)) u refs)
             (namings c) (all_namings (cores cs)) s v u z.0.later w.1 z.1 (λ refs others i j. calls i j)))
 
         conditional-made : (test consequent : Tree) (o : Option Tree) (s : State) → F s → T s.names.number test → T s.names.number consequent → OptionHolds (T s.names.number) o
-            → Gave (PlanMade place level t (plans.Conditional test consequent o) s) (conditional go place level depth test consequent o s)
+            → Gave (PlanMade place level t (plans.Conditional test consequent o) s) (conditional go (site_at place level depth) (if_parts test consequent o) s)
         unfolding conditional
         conditional-made test consequent o s h k g q =
-            gave-after (Goes (FormMade place level test s) s) (PlanMade place level t (plans.Conditional test consequent o) s) (go.form place level depth test s) _ (form-went place level depth test s h k)
-            (λ c v w. gave-after (Goes (FormMade place level consequent v) v) (PlanMade place level t (plans.Conditional test consequent o) s) (go.form place level depth consequent v) (λ d. alternate go place level depth c d o)
+            gave-after (Goes (FormMade place level test s) s) (PlanMade place level t (plans.Conditional test consequent o) s) (go.form (site_at place level depth) test s) _ (form-went place level depth test s h k)
+            (λ c v w. gave-after (Goes (FormMade place level consequent v) v) (PlanMade place level t (plans.Conditional test consequent o) s) (go.form (site_at place level depth) consequent v) (λ d. alternate go (site_at place level depth) c d o)
             (form-went place level depth consequent v (goes s v h w.0) (tree-up s.names.number v.names.number w.0.from.stage.up consequent g))
             (λ d y z. by o q c v w d y z))
           where
             by : (o : Option Tree) → OptionHolds (T s.names.number) o → (c : PlainCore) (v : State) → Goes (FormMade place level test s) s c v → (d : PlainCore) (y : State) → Goes (FormMade place level consequent v) v d y
-                → Gave (PlanMade place level t (plans.Conditional test consequent o) s) (alternate go place level depth c d o y)
+                → Gave (PlanMade place level t (plans.Conditional test consequent o) s) (alternate go (site_at place level depth) c d o y)
             by None q c v w d y z =
                 staying.made-joined libs own core new (λ refs. Expands rs place level test s c v refs) (λ refs. Expands rs place level consequent v d y refs) (λ refs. Performs rs place level t (plans.Conditional test consequent None) s (one_armed c d) y refs)
                 (namings c) (namings d) s v y z.0.later w.1 z.1 (λ refs others i j. tests i j)
             by (Some other) q c v w d y z =
                 let up = w.0.from.stage.up in
                 let up-more = z.0.from.stage.up in
-                gave-after (Goes (FormMade place level other y) y) (PlanMade place level t (plans.Conditional test consequent (Some other)) s) (go.form place level depth other y) (λ e. give (two_armed c d e))
+                gave-after (Goes (FormMade place level other y) y) (PlanMade place level t (plans.Conditional test consequent (Some other)) s) (go.form (site_at place level depth) other y) (λ e. give (two_armed c d e))
                 (form-went place level depth other y (goes v y (goes s v h w.0) z.0) (tree-up s.names.number y.names.number (omega (arith, up, up-more)) other q))
                 (λ e u x.
                 let Two : Noted → Type 0 = λ refs. (early : Noted) × ((late : Noted) × ((refs ≡ both early late) × (Expands rs place level consequent v d y early × Expands rs place level other y e u late))) in
@@ -221,10 +223,10 @@ module _ (libs : List LibName) (own : LibName) (core : Among libs library.Core) 
                 (staying.made-joined libs own core new (λ refs. Expands rs place level consequent v d y refs) (λ refs. Expands rs place level other y e u refs) Two (namings d) (namings e) v y u x.0.later z.1 x.1 (λ refs others i j. (refs, (others, (refl, (i, j))))))
                 (λ refs others i j. subst (λ (ls : Noted). All (both refs ls)) (sym j.1.1.0) (chooses i j.1.1.1.0 j.1.1.1.1)))
 
-        set-made : (l : Label) (value : Tree) (s : State) → F s → T s.names.number t → T s.names.number value → IsTarget place t l value s → Gave (PlanMade place level t (plans.Assignment l value) s) (set go place level depth l value s)
+        set-made : (l : Label) (value : Tree) (s : State) → F s → T s.names.number t → T s.names.number value → IsTarget place t l value s → Gave (PlanMade place level t (plans.Assignment l value) s) (set go (site_at place level depth) l value s)
         unfolding set
         set-made l value s h g k q =
-            gave-after (Goes (FormMade place level value s) s) (PlanMade place level t (plans.Assignment l value) s) (go.form place level depth value s) (λ c. give (assignment l c)) (form-went place level depth value s h k)
+            gave-after (Goes (FormMade place level value s) s) (PlanMade place level t (plans.Assignment l value) s) (go.form (site_at place level depth) value s) (λ c. give (assignment l c)) (form-went place level depth value s h k)
             (λ c u z.
             let r : Reference = record { leaf = q.0; state = s; label = l; code = variable l } in
             record {
@@ -239,38 +241,38 @@ module _ (libs : List LibName) (own : LibName) (core : Among libs library.Core) 
         abbrev SequenceMade : List Tree → State → PlainCore → State → Type 0
         SequenceMade ts s c u = (cs : List PlainCore) × ((c ≡ sequence_of cs) × Made (λ refs. Expand rs place level ts s cs u refs) (namings c) s u)
 
-        sequence-made : (ts : List Tree) (s : State) → F s → Ts s.names.number ts → Gave (SequenceMade ts s) (in_sequence go place level depth ts s)
+        sequence-made : (ts : List Tree) (s : State) → F s → Ts s.names.number ts → Gave (SequenceMade ts s) (in_sequence go (site_at place level depth) ts s)
         unfolding in_sequence
         sequence-made ts s h k =
-            gave-after (Goes (walking.FormsMade libs own core new rs place level ts s) s) (SequenceMade ts s) (in_order go place level depth ts s) (λ cs. give (sequence_of cs)) (order-went place level depth ts s h k)
+            gave-after (Goes (walking.FormsMade libs own core new rs place level ts s) s) (SequenceMade ts s) (in_order go (site_at place level depth) ts s) (λ cs. give (sequence_of cs)) (order-went place level depth ts s h k)
             (λ cs u z. (cs, (refl, staying.made-so libs own core new (λ refs. Expand rs place level ts s cs u refs) (λ refs. Expand rs place level ts s cs u refs) (all_namings (cores cs)) (namings (sequence_of cs)) s u z.1 (λ refs i. i) (sequence-said cs))))
 
-        in-sequence-made : (ts : List Tree) (s : State) → F s → Ts s.names.number ts → Gave (PlanMade place level t (plans.Sequence ts) s) (in_sequence go place level depth ts s)
+        in-sequence-made : (ts : List Tree) (s : State) → F s → Ts s.names.number ts → Gave (PlanMade place level t (plans.Sequence ts) s) (in_sequence go (site_at place level depth) ts s)
         in-sequence-made ts s h k =
-            gave-less (SequenceMade ts s) (PlanMade place level t (plans.Sequence ts) s) (in_sequence go place level depth ts s) (sequence-made ts s h k)
+            gave-less (SequenceMade ts s) (PlanMade place level t (plans.Sequence ts) s) (in_sequence go (site_at place level depth) ts s) (sequence-made ts s h k)
             (λ c u z. subst (λ (x : PlainCore). PlanMade place level t (plans.Sequence ts) s x u) (sym z.1.0)
             (staying.made-so libs own core new (λ refs. Expand rs place level ts s z.0 u refs) (λ refs. Performs rs place level t (plans.Sequence ts) s (sequence_of z.0) u refs) (namings c) (namings (sequence_of z.0)) s u z.1.1 (λ refs i. follows i) (ap namings (sym z.1.0))))
 
-        lambda-made : (ids : FormalIds) (fs : List Tree) (s : State) → F s → FormalsHold (P s.names.number) ids → Ts s.names.number fs → Gave (PlanMade place level t (plans.Lambda ids fs) s) (lambda go place level depth t ids fs s)
+        lambda-made : (ids : FormalIds) (fs : List Tree) (s : State) → F s → FormalsHold (P s.names.number) ids → Ts s.names.number fs → Gave (PlanMade place level t (plans.Lambda ids fs) s) (lambda go (site_at place level depth) (procedure_parts t ids fs) s)
         unfolding lambda fresh
         lambda-made ids fs s h k g =
-            gave-after (walking.CaseMade libs own core new rs place level t ids fs (counted s)) (PlanMade place level t (plans.Lambda ids fs) s) (lambda_case go place level depth t ids fs (counted s)) _
+            gave-after (walking.CaseMade libs own core new rs place level t ids fs (counted s)) (PlanMade place level t (plans.Lambda ids fs) s) (lambda_case go (site_at place level depth) (procedure_parts t ids fs) (counted s)) _
             (walking.case-made libs own core new rs first held room traced place level depth t ids fs (counted s) (counted-at s h) (items.formals-up own K J P lives first s.names.number (s.names.number + 1) (one-more s) ids k) (standing.trees-up own K J P lives first s.names.number (s.names.number + 1) (one-more s) fs g))
             (λ c u z. staying.made-from libs own core new (λ refs. CaseBinds rs place level t ids fs (counted s) c u refs) (λ refs. Performs rs place level t (plans.Lambda ids fs) s (procedure (record { 0 = s.names }) (cases (c ∷ [])) true) u refs) (namings c.body) (namings c.body ++ []) s (counted s) u (told-self s) z (λ refs i. makes i) (append-nil (namings c.body)))
 
-        case-lambda-made : (xs : List LambdaCase) (s : State) → F s → Each (LambdaHolds (P s.names.number)) xs → Gave (PlanMade place level t (plans.CaseLambda xs) s) (case_lambda go place level depth t xs s)
+        case-lambda-made : (xs : List LambdaCase) (s : State) → F s → Each (LambdaHolds (P s.names.number)) xs → Gave (PlanMade place level t (plans.CaseLambda xs) s) (case_lambda go (site_at place level depth) t xs s)
         unfolding case_lambda fresh
         case-lambda-made xs s h k =
-            gave-after (λ cs u. Went (counted s) u × Made (ExpandedBind rs place level t xs (counted s) cs u) (case_namings (cases cs)) (counted s) u) (PlanMade place level t (plans.CaseLambda xs) s) (all_cases go place level depth t xs (counted s)) _
+            gave-after (λ cs u. Went (counted s) u × Made (ExpandedBind rs place level t xs (counted s) cs u) (case_namings (cases cs)) (counted s) u) (PlanMade place level t (plans.CaseLambda xs) s) (all_cases go (site_at place level depth) t xs (counted s)) _
             (walking.cases-went libs own core new rs first held room traced place level depth t xs (counted s) (counted-at s h)
             (each_mapped (LambdaHolds (P s.names.number)) (LambdaHolds (P (s.names.number + 1))) (walking.lambda-case-up libs own core new rs first held room traced s.names.number (s.names.number + 1) (one-more s)) xs k))
             (λ cs u z. staying.made-from libs own core new (λ refs. ExpandedBind rs place level t xs (counted s) cs u refs) (λ refs. Performs rs place level t (plans.CaseLambda xs) s (procedure (record { 0 = s.names }) (cases cs) false) u refs) (case_namings (cases cs)) (case_namings (cases cs)) s (counted s) u (told-self s) z.1 (λ refs i. makes_cases i) refl)
 
         matching-made : (subject : Tree) (literals : List Tree) (xs : List PatternCase) (span : Span) (s : State) → F s → T s.names.number subject → Each (PatternCaseHolds (P s.names.number)) xs
-            → Gave (PlanMade place level t (plans.Matching subject literals xs span) s) (syntax_case go place level depth subject literals xs span s)
+            → Gave (PlanMade place level t (plans.Matching subject literals xs span) s) (syntax_case go (site_at place level depth) (syntax_case_parts subject literals xs span) s)
         unfolding syntax_case
         matching-made subject literals xs span s h k g =
-            gave-after (Goes (FormMade place level subject s) s) (PlanMade place level t (plans.Matching subject literals xs span) s) (go.form place level depth subject s) _ (form-went place level depth subject s h k)
+            gave-after (Goes (FormMade place level subject s) s) (PlanMade place level t (plans.Matching subject literals xs span) s) (go.form (site_at place level depth) subject s) _ (form-went place level depth subject s h k)
             (λ c v w.
             let hv = goes s v h w.0 in
             let up = w.0.from.stage.up in
@@ -279,7 +281,7 @@ module _ (libs : List LibName) (own : LibName) (core : Among libs library.Core) 
             (staying.gave-from libs own core new first (λ n e. Unit {0}) v (check_literals place literals v) (standing.literals-hold own K J P lives first literals place v hv)))
             (λ e y q.
             let up-more = q.1.0.0.stage.up in
-            gave-after (λ cs u. Went y u × Made (Match rs place level literals xs y cs u) (clause_namings (clauses cs)) y u) (PlanMade place level t (plans.Matching subject literals xs span) s) (all_clauses go place level depth literals xs y) (λ cs. give (matching c (clauses cs) span))
+            gave-after (λ cs u. Went y u × Made (Match rs place level literals xs y cs u) (clause_namings (clauses cs)) y u) (PlanMade place level t (plans.Matching subject literals xs span) s) (all_clauses go (site_at place level depth) literals xs y) (λ cs. give (matching c (clauses cs) span))
             (walking.clauses-went libs own core new rs first held room traced place level depth literals xs y (from-to v y hv q.1.0.0)
             (each_mapped (PatternCaseHolds (P s.names.number)) (PatternCaseHolds (P y.names.number)) (forms.pattern-case-up own K J P lives first go (walking.keeps libs own core new rs first held room) s.names.number y.names.number (omega (arith, up, up-more))) xs g))
             (λ cs u z.
@@ -290,15 +292,15 @@ module _ (libs : List LibName) (own : LibName) (core : Among libs library.Core) 
             (λ refs others i j. matches_one i q.1.1 j))))
 
         keywords-made : (recursive : Bool) (bs : List BindingSpec) (fs : List Tree) (s : State) → F s → Each (standing.SpecAt own K J P lives first s.names.number) bs → Ts s.names.number fs
-            → Gave (PlanMade place level t (plans.Keywords recursive bs fs) s) (keywords_form go place level depth recursive bs fs s)
+            → Gave (PlanMade place level t (plans.Keywords recursive bs fs) s) (keywords_form go (site_at place level depth) (let_syntax_parts recursive bs fs) s)
         unfolding keywords_form
         keywords-made recursive bs fs s h k g =
-            let bound = with_keywords go place level depth recursive bs fs s in
+            let bound = with_keywords go (site_at place level depth) (let_syntax_parts recursive bs fs) s in
             let Keywords : List Tree → State → Type 0 = λ xs v. staying.Bound libs own core new (λ es. BindsKeywords rs place level recursive bs fs s xs v es) s v in
-            gave-after (λ xs v. (FreshStateHolds own K P s.names.number v × Ts v.names.number xs) × Keywords xs v) (PlanMade place level t (plans.Keywords recursive bs fs) s) bound (in_sequence go place level depth)
+            gave-after (λ xs v. (FreshStateHolds own K P s.names.number v × Ts v.names.number xs) × Keywords xs v) (PlanMade place level t (plans.Keywords recursive bs fs) s) bound (in_sequence go (site_at place level depth))
             (staying.gave-and libs own core new first Ts Keywords s bound (forms.with-keywords-holds own K J P lives first go (walking.keeps libs own core new rs first held room) place level depth recursive bs fs s h k g)
             (walking.keywords-made libs own core new rs first held room traced place level depth recursive bs fs s h k))
-            (λ xs v z. gave-less (SequenceMade xs v) (PlanMade place level t (plans.Keywords recursive bs fs) s) (in_sequence go place level depth xs v) (sequence-made xs v (from-to s v h z.0.0) z.0.1)
+            (λ xs v z. gave-less (SequenceMade xs v) (PlanMade place level t (plans.Keywords recursive bs fs) s) (in_sequence go (site_at place level depth) xs v) (sequence-made xs v (from-to s v h z.0.0) z.0.1)
             (λ c u y. subst (λ (x : PlainCore). PlanMade place level t (plans.Keywords recursive bs fs) s x u) (sym y.1.0)
             (staying.bound-made libs own core new (λ es. BindsKeywords rs place level recursive bs fs s xs v es) (λ refs. Expand rs place level xs v y.0 u refs) (λ refs. Performs rs place level t (plans.Keywords recursive bs fs) s (sequence_of y.0) u refs) (namings c) (namings (sequence_of y.0)) s v u z.1 y.1.1
             (λ es refs i j. has_keywords i j) (ap namings (sym y.1.0)))))
@@ -312,7 +314,7 @@ module _ (libs : List LibName) (own : LibName) (core : Among libs library.Core) 
         abbrev PartMade : PartForm → State → PlainCore → State → Noted → Type 0
         PartMade p s c u refs = Expands rs place level p.form s c u refs
 
-        form-low : (room : ℕ) (d : ℕ) (x : Tree) (s : State) → Gave (λ c u. nat_lt most_round d ≡ false) ((inside rs room).form place level d x s)
+        form-low : (room : ℕ) (d : ℕ) (x : Tree) (s : State) → Gave (λ c u. nat_lt most_round d ≡ false) ((inside rs room).form (site_at place level d) x s)
         unfolding inside form_at
         form-low zero d x s = tt
         form-low (suc room) d x s =
@@ -329,12 +331,12 @@ module _ (libs : List LibName) (own : LibName) (core : Among libs library.Core) 
             (gave-after (λ c u. nat_lt most_round p.depth ≡ false) (AreLow (p ∷ ps)) (part_core go place level p s) (λ a v. after (each (part_core go place level) [] ps v) (λ ys. give (a ∷ ys))) (form-low room p.depth p.form s)
             (λ c v e. gave-after (AreLow ps) (AreLow (p ∷ ps)) (parts_in_order go place level ps v) (λ ys. give (c ∷ ys)) (parts-low ps v) (λ cs u k. ((e, k.0), ap suc k.1))))
 
-        quasi-made : (which : Family) (template : Tree) (s : State) → F s → T s.names.number t → T s.names.number template → Gave (PlanMade place level t (plans.Quasi which template) s) (quasi_form go place level depth t which template s)
+        quasi-made : (which : Family) (template : Tree) (s : State) → F s → T s.names.number t → T s.names.number template → Gave (PlanMade place level t (plans.Quasi which template) s) (quasi_form go (site_at place level depth) (template_parts t which template) s)
         unfolding quasi_form
         quasi-made which template s h k g =
             let made = form_of place t which template s in
             let So : PlainCore → State → Type 0 = PlanMade place level t (plans.Quasi which template) s in
-            gave-after (λ q v. (FreshStateHolds own K P s.names.number v × inserts.FormAt own K J P lives first v.names.number q) × (made ≡ Ok (q, v))) So made (quasi_made go place level depth t)
+            gave-after (λ q v. (FreshStateHolds own K P s.names.number v × inserts.FormAt own K J P lives first v.names.number q) × (made ≡ Ok (q, v))) So made (quasi_made go (site_at place level depth) t)
             (staying.gave-from libs own core new first (inserts.FormAt own K J P lives first) s made (inserts.form-of-holds own K J P lives first place t which template s h g))
             (λ q v z.
             let hv = from-to s v h z.0.0 in
@@ -374,7 +376,7 @@ module _ (libs : List LibName) (own : LibName) (core : Among libs library.Core) 
         told = λ l d e. inl e;
       }
 
-      perform-made : (place : Span) (level depth : ℕ) (t : Tree) (p : Plan) (s : State) → F s → T s.names.number t → plan.PlanAt own K J P lives first s.names.number p → Plans level place t p s → Gave (PlanMade place level t p s) (perform go place level depth t p s)
+      perform-made : (place : Span) (level depth : ℕ) (t : Tree) (p : Plan) (s : State) → F s → T s.names.number t → plan.PlanAt own K J P lives first s.names.number p → Plans level place t p s → Gave (PlanMade place level t p s) (perform go (site_at place level depth) t p s)
       unfolding perform
       perform-made place level depth t (plans.Done c) s h g k (inl q) = record {
         noted = only (record { leaf = t; state = s; label = q.0; code = c });
@@ -397,8 +399,6 @@ module _ (libs : List LibName) (own : LibName) (core : Among libs library.Core) 
       perform-made place level depth t (plans.Matching subject literals xs span) s h g k q = matching-made place level (deeper depth) t subject literals xs span s h k.0 k.1.1
       perform-made place level depth t (plans.Keywords recursive bs fs) s h g k q = keywords-made place level (deeper depth) t recursive bs fs s h k.0 k.1
       perform-made place level depth t (plans.Quasi which template) s h g k q = quasi-made place level (deeper depth) t which template s h g k
-      perform-made place level depth t (plans.Use k) s h g y q = tt
-      perform-made place level depth t (plans.SetUse l id) s h g y q = tt
 
       abbrev SettledSo : Span → ℕ → Tree → State → PlannedForm → State → Type 0
       SettledSo place level t s d v = ((FreshStateHolds own K P s.names.number v × settled.SettledAt own K J P lives first rs held v.names.number d) × (expand_uses rs place level t s ≡ Ok (d, v))) × Settles rs level d v
@@ -410,7 +410,7 @@ module _ (libs : List LibName) (own : LibName) (core : Among libs library.Core) 
           (λ e. subst (λ (xs : List CompiledLibrary). Gave (FormMade place level t s) (after (expand_uses xs place level t s) (perform_settled go level depth))) (sym same)
           (gave-after (SettledSo place level t s) (FormMade place level t s) (expand_uses rs place level t s) (perform_settled go level depth)
           (gave-both (λ d v. (FreshStateHolds own K P s.names.number v × settled.SettledAt own K J P lives first rs held v.names.number d) × (expand_uses rs place level t s ≡ Ok (d, v))) (Settles rs level) (expand_uses rs place level t s) (staying.gave-from libs own core new first (settled.SettledAt own K J P lives first rs held) s (expand_uses rs place level t s) (settled.expand_uses-to-holds own K J P lives first rs held s.uses_left place level t s h g)) (expand_uses-so rs level place t s))
-          (λ d v z. gave-less (PlanMade d.place level d.form d.plan v) (FormMade place level t s) (perform go d.place level depth d.form d.plan v) (perform-made d.place level depth d.form d.plan v (from-to s v h z.0.0.0) z.0.0.1.0 z.0.0.1.1 z.1)
+          (λ d v z. gave-less (PlanMade d.place level d.form d.plan v) (FormMade place level t s) (perform go (site_at d.place level depth) d.form d.plan v) (perform-made d.place level depth d.form d.plan v (from-to s v h z.0.0.0) z.0.0.1.0 z.0.0.1.1 z.1)
           (λ c u y. staying.made-from libs own core new (λ refs. Performs rs d.place level d.form d.plan v c u refs) (λ refs. Expands rs place level t s c u refs) (namings c) (namings c) s v u (told (Untold s) (expand_uses rs place level t s) d v (expand_uses-told rs level place t s) z.0.1) y (λ refs i. settles z.0.1 i) refl))))
 
       -- Forms of a body.
@@ -422,16 +422,16 @@ module _ (libs : List LibName) (own : LibName) (core : Among libs library.Core) 
       ActsMade at depth d t i s e u = staying.Bound libs own core new (λ es. Acts rs at depth d t i s e u es) s u
 
       keyword-item-made : (at : BodyAt) (depth : ℕ) (d : Taken) (t : Tree) (b : BindingSpec) (s : State) → F s → standing.SpecAt own K J P lives first s.names.number b
-          → Gave (ActsMade at depth d t (of_items.Keyword b) s) (after (define_syntax go at (deeper depth) d t b s) (λ _. give d))
+          → Gave (ActsMade at depth d t (of_items.Keyword b) s) (after (define_syntax go at (deeper depth) d (definition_parts t b) s) (λ _. give d))
       unfolding define_syntax
       keyword-item-made at depth d t b s h k =
           let made = define_keyword at d t b s in
           let So : Taken → State → Type 0 = ActsMade at depth d t (of_items.Keyword b) s in
-          gave-after (λ x u. ActsMade at depth d t (of_items.Keyword b) s d u) So (after made (expand_transformer go at.place at.level (deeper depth))) (λ _. give d)
-          (gave-after (λ x v. ((FreshStateHolds own K P s.names.number v × standing.BoundHolds own K J P lives first v.names.number x) × (made ≡ Ok (x, v))) × Untold s x v) (λ x u. ActsMade at depth d t (of_items.Keyword b) s d u) made (expand_transformer go at.place at.level (deeper depth))
+          gave-after (λ x u. ActsMade at depth d t (of_items.Keyword b) s d u) So (after made (expand_transformer go (site_at at.place at.level (deeper depth)))) (λ _. give d)
+          (gave-after (λ x v. ((FreshStateHolds own K P s.names.number v × standing.BoundHolds own K J P lives first v.names.number x) × (made ≡ Ok (x, v))) × Untold s x v) (λ x u. ActsMade at depth d t (of_items.Keyword b) s d u) made (expand_transformer go (site_at at.place at.level (deeper depth)))
           (gave-both (λ x v. (FreshStateHolds own K P s.names.number v × standing.BoundHolds own K J P lives first v.names.number x) × (made ≡ Ok (x, v))) (Untold s) made
           (staying.gave-from libs own core new first (standing.BoundHolds own K J P lives first) s made (items.define-keyword-holds own K J P lives first at (deeper depth) d t b s h k)) (define-keyword-told at (deeper depth) d t b s))
-          (λ x v z. gave-less (λ y u. staying.Bound libs own core new (λ es. KeywordMeans rs at.place at.level x v u es) v u) (λ y u. ActsMade at depth d t (of_items.Keyword b) s d u) (expand_transformer go at.place at.level (deeper depth) x v)
+          (λ x v z. gave-less (λ y u. staying.Bound libs own core new (λ es. KeywordMeans rs at.place at.level x v u es) v u) (λ y u. ActsMade at depth d t (of_items.Keyword b) s d u) (expand_transformer go (site_at at.place at.level (deeper depth)) x v)
           (walking.means-made libs own core new rs first held room traced at.place at.level (deeper depth) x v (from-to s v h z.0.0.0) z.0.0.1)
           (λ y u x. staying.bound-from libs own core new (λ es. KeywordMeans rs at.place at.level _ v u es) (λ es. Acts rs at depth d t (of_items.Keyword b) s d u es) s v u z.1 x (λ es i. defines_keyword z.0.1 i))))
           (λ x u y. y)
@@ -446,7 +446,7 @@ module _ (libs : List LibName) (own : LibName) (core : Among libs library.Core) 
           (λ e u x. staying.bound-from libs own core new (λ es. Take rs at (deeper depth) d fs s e u es) (λ es. Acts rs at depth d t (of_items.Forms fs) s e u es) s s u (told-self s) x (λ es i. takes_forms i))
       acts-made at depth d t (of_items.Keyword b) s h k g y q = keyword-item-made at depth d t b s h y
       acts-made at depth d t (of_items.Keywords recursive bs fs) s h k g y q =
-          let bound = with_keywords go at.place at.level (deeper depth) recursive bs fs s in
+          let bound = with_keywords go (site_at at.place at.level (deeper depth)) (let_syntax_parts recursive bs fs) s in
           let Keywords : List Tree → State → Type 0 = λ xs v. staying.Bound libs own core new (λ es. BindsKeywords rs at.place at.level recursive bs fs s xs v es) s v in
           gave-after (λ xs v. (FreshStateHolds own K P s.names.number v × Ts v.names.number xs) × Keywords xs v) (ActsMade at depth d t (of_items.Keywords recursive bs fs) s) bound (splice go at (deeper depth) d)
           (staying.gave-and libs own core new first Ts Keywords s bound (forms.with-keywords-holds own K J P lives first go (walking.keeps libs own core new rs first held room) at.place at.level (deeper depth) recursive bs fs s h y.0 y.1)
@@ -454,8 +454,6 @@ module _ (libs : List LibName) (own : LibName) (core : Among libs library.Core) 
           (λ xs v z. gave-less (walking.TakeMade libs own core new rs at (deeper depth) d xs v) (ActsMade at depth d t (of_items.Keywords recursive bs fs) s) (splice go at (deeper depth) d xs v)
           (walking.take-made libs own core new rs first held room traced at (deeper depth) d xs v (from-to s v h z.0.0) (items.taken-up own K J P lives first s.names.number v.names.number z.0.0.stage.up d k) z.0.1 (lives.frames s.names.number v.names.number at.frame z.0.0.stage.up q))
           (λ e u x. staying.bound-joined libs own core new (λ es. BindsKeywords rs at.place at.level recursive bs fs s xs v es) (λ es. Take rs at (deeper depth) d xs v e u es) (λ es. Acts rs at depth d t (of_items.Keywords recursive bs fs) s e u es) s v u z.1 x (λ es others i j. takes_among i j)))
-      acts-made at depth d t (of_items.Use k) s h g y q r = tt
-      acts-made at depth d t (of_items.SetUse l) s h g y q r = tt
 
       item-made : (at : BodyAt) (depth : ℕ) (d : Taken) (t : Tree) (s : State) → F s → TakenAt s.names.number d → T s.names.number t → J s.names.number at.frame → Gave (walking.TakesMade libs own core new rs at depth d t s) (item go at depth d t s)
       unfolding item

@@ -38,6 +38,8 @@ use Rattle.expand_standing.specs.declared.standing.Role.TheVariants as role
 use Rattle.expand_standing.specs.declared.standing.Standing.{Standing}
 use Rattle.expand_standing.specs.declared.standing.Standing.TheVariants as standing
 use Rattle.expand_standing.proofs.Noted.{noted-keeps}
+use Rattle.expand_heads.specs.declared.plan.HeadPlan.{HeadPlan}
+use Rattle.expand_heads.specs.declared.plan.HeadPlan.TheVariants as head_plans
 use Rattle.expand_heads.specs.Plan.{reference, constant, target_by, assign_to, assign_by, assign, call_of, application, in_sequence, keywords_plan, operand_plan, shape_plan, with_shape, by_role, keyword_plan, by_head, list_plan, plan_of}
 use Rattle.expand_heads.specs.declared.plan.KeywordUse.{KeywordUse}
 use Rattle.expand_heads.specs.declared.plan.Plan.{Plan}
@@ -89,28 +91,32 @@ Plans level place t (plans.Done c) u = IsReference t c u ⊎ (IsConstant t c ⊎
 Plans level place t (plans.Assignment l value) u = IsTarget place t l value u
 Plans level place t _ u = Unit {0}
 
+abbrev pub HeadPlans : ℕ → Span → Tree → HeadPlan → State → Type 0
+HeadPlans level place t (head_plans.Plan p) u = Plans level place t p u
+HeadPlans level place t _ u = Unit {0}
+
 -- a leaf
 module _ (place : Span) (level : ℕ) (t : Tree) (leafy : is_leaf t ≡ true) (s : State) where
-  refers-so : (l : Label) (st : Standing) (p : Plan) → stands s.frames t ≡ Some l → label_standing s l ≡ st → OfLabel l st → RefersBy level s st p → Plans level place t p s
+  refers-so : (l : Label) (st : Standing) (p : HeadPlan) → stands s.frames t ≡ Some l → label_standing s l ≡ st → OfLabel l st → RefersBy level s st p → HeadPlans level place t p s
   refers-so l standing.Nothing p e is of h = absurd h
-  refers-so l (standing.Variable v) p e is of h = subst (λ q. Plans level place t q s) (sym h.0) (inl (l, (leafy, (e, inl (ap variable of)))))
+  refers-so l (standing.Variable v) p e is of h = subst (λ q. HeadPlans level place t q s) (sym h.0) (inl (l, (leafy, (e, inl (ap variable of)))))
   refers-so l standing.PatternVariable p e is of h = absurd h
-  refers-so l (standing.Primitive o) p e is of h = subst (λ q. Plans level place t q s) (sym h) (inl (l, (leafy, (e, inr (o, (is, refl))))))
+  refers-so l (standing.Primitive o) p e is of h = subst (λ q. HeadPlans level place t q s) (sym h) (inl (l, (leafy, (e, inr (o, (is, refl))))))
   refers-so l (standing.Core f) p e is of h = absurd h
-  refers-so l (standing.Keyword m) p e is of h = subst (λ q. Plans level place t q s) (sym h) tt
+  refers-so l (standing.Keyword m) p e is of h = subst (λ q. HeadPlans level place t q s) (sym h) tt
 
-  stood-so : (o : Option Label) (p : Plan) (u : State) → stands s.frames t ≡ o → Refers place level s (standing_by s o) p u → Plans level place t p u
+  stood-so : (o : Option Label) (p : HeadPlan) (u : State) → stands s.frames t ≡ o → Refers place level s (standing_by s o) p u → HeadPlans level place t p u
   stood-so None p u e h = absurd h.1
-  stood-so (Some l) p u e h = subst (Plans level place t p) (sym h.0) (refers-so l (label_standing s l) p e refl (label-kept s l) h.1)
+  stood-so (Some l) p u e h = subst (HeadPlans level place t p) (sym h.0) (refers-so l (label_standing s l) p e refl (label-kept s l) h.1)
 
-  leaf-plans : Gave (Plans level place t) (reference place level t s)
+  leaf-plans : Gave (HeadPlans level place t) (reference place level t s)
   unfolding standing_of
-  leaf-plans = gave-less (Refers place level s (standing_by s (stands s.frames t))) (Plans level place t) (reference place level t s) (reference-is place level s t) (λ p u k. stood-so (stands s.frames t) p u refl k)
+  leaf-plans = gave-less (Refers place level s (standing_by s (stands s.frames t))) (HeadPlans level place t) (reference place level t s) (reference-is place level s t) (λ p u k. stood-so (stands s.frames t) p u refl k)
 
 -- a list
 module _ (place : Span) (level : ℕ) (t : Tree) (compound : is_leaf t ≡ false) (s : State) where
-  abbrev Right : Plan → State → Type 0
-  Right p u = Plans level place t p u
+  abbrev Right : HeadPlan → State → Type 0
+  Right p u = HeadPlans level place t p u
 
   abbrev Assigned : Tree → Label → State → Type 0
   Assigned id l u = stands u.frames id ≡ Some l
@@ -134,12 +140,12 @@ module _ (place : Span) (level : ℕ) (t : Tree) (compound : is_leaf t ≡ false
   unfolding assign
   assign-so f id value e = assign-by f id value e (standing_of s id) (target-so id)
 
-  syntax-so : (operand : Tree) → shape core_forms.Syntax t place ≡ Ok (shapes.Operand operand) → Gave Right (after (template_of place level operand s) (λ x. give (plans.Done (instance x (place_of t place)))))
+  syntax-so : (operand : Tree) → shape core_forms.Syntax t place ≡ Ok (shapes.Operand operand) → Gave Right (after (template_of place level operand s) (λ x. give (head_plans.Plan (plans.Done (instance x (place_of t place))))))
   syntax-so operand e =
-      gave-after (λ x u. (template_of place level operand s ≡ Ok (x, u)) × TemplateNames place level operand s x u) Right (template_of place level operand s) (λ x. give (plans.Done (instance x (place_of t place))))
+      gave-after (λ x u. (template_of place level operand s ≡ Ok (x, u)) × TemplateNames place level operand s x u) Right (template_of place level operand s) (λ x. give (head_plans.Plan (plans.Done (instance x (place_of t place)))))
       (gave-both (λ x u. template_of place level operand s ≡ Ok (x, u)) (TemplateNames place level operand s) (template_of place level operand s) (gave-told (λ x u. template_of place level operand s ≡ Ok (x, u)) (template_of place level operand s) (λ x u i. i))
       (template-of-names place level operand s))
-      (λ x u k. subst (λ (v : State). Right (plans.Done (instance x (place_of t place))) v) (sym k.1.0) (inr (inr (record {
+      (λ x u k. subst (λ (v : State). Right (head_plans.Plan (plans.Done (instance x (place_of t place)))) v) (sym k.1.0) (inr (inr (record {
         operand = operand;
         shaped = e;
         template = x;
@@ -217,11 +223,11 @@ module _ (place : Span) (level : ℕ) (t : Tree) (compound : is_leaf t ≡ false
   unfolding list_plan
   list-so head rest = gave-if Right (is_leaf head) _ _ (λ e. head-so head rest (standing_of s head)) (λ e. application-so head rest)
 
-constant-so : (place : Span) (level : ℕ) (t : Tree) → is_leaf t ≡ false → (b : Bool) (s : State) → Gave (Plans level place t) (constant place t b s)
+constant-so : (place : Span) (level : ℕ) (t : Tree) → is_leaf t ≡ false → (b : Bool) (s : State) → Gave (HeadPlans level place t) (constant place t b s)
 constant-so place level t e true s = tt
 constant-so place level t e false s = inr (inl (e, refl))
 
-plan-so : (place : Span) (level : ℕ) (t : Tree) (s : State) → Gave (Plans level place t) (plan_of place level t s)
+plan-so : (place : Span) (level : ℕ) (t : Tree) (s : State) → Gave (HeadPlans level place t) (plan_of place level t s)
 plan-so place level (atom r a) s = constant-so place level (atom r a) refl (is_nil_atom a) s
 plan-so place level (leaf r x c) s = leaf-plans place level (leaf r x c) refl s
 plan-so place level (pair r a d) s = list-so place level (pair r a d) refl s a d
@@ -240,25 +246,15 @@ module _ (rs : List CompiledLibrary) (level : ℕ) where
   set-so place t l id true s = tt
   set-so place t l id false s = tt
 
-  step-of-so : (place : Span) (t : Tree) (p : Plan) (s : State) → Plans level place t p s → Gave (Steps place t) (step_of rs place t p s)
-  step-of-so place t (plans.Use k) s h = tt
-  step-of-so place t (plans.SetUse l id) s h =
+  step-of-so : (place : Span) (t : Tree) (p : HeadPlan) (s : State) → HeadPlans level place t p s → Gave (Steps place t) (step_of rs place t p s)
+  step-of-so place t (head_plans.Use k) s h = tt
+  step-of-so place t (head_plans.SetUse l id) s h =
       gave-after (λ b u. Unit {0}) (Steps place t) (asks_variable rs (place_of t place) l s) (set_step place t l id) (gave-any (λ b u. Unit {0}) (asks_variable rs (place_of t place) l s) (λ b u. tt)) (λ b u k. set-so place t l id b u)
-  step-of-so place t (plans.Done c) s h = h
-  step-of-so place t (plans.Assignment l value) s h = h
-  step-of-so place t (plans.Call operator operands) s h = tt
-  step-of-so place t (plans.Conditional test consequent other) s h = tt
-  step-of-so place t (plans.Sequence forms) s h = tt
-  step-of-so place t (plans.Lambda ids forms) s h = tt
-  step-of-so place t (plans.CaseLambda cs) s h = tt
-  step-of-so place t (plans.Letrec star bs forms) s h = tt
-  step-of-so place t (plans.Matching subject literals cs span) s h = tt
-  step-of-so place t (plans.Keywords recursive bs forms) s h = tt
-  step-of-so place t (plans.Quasi which template) s h = tt
+  step-of-so place t (head_plans.Plan p) s h = h
 
   step-so : (place : Span) (t : Tree) (s : State) → Gave (Steps place t) (step rs place level t s)
   unfolding step
-  step-so place t s = gave-after (Plans level place t) (Steps place t) (plan_of place level t s) (step_of rs place t) (plan-so place level t s) (λ p u h. step-of-so place t p u h)
+  step-so place t s = gave-after (HeadPlans level place t) (Steps place t) (plan_of place level t s) (step_of rs place t) (plan-so place level t s) (λ p u h. step-of-so place t p u h)
 
   -- a reference and the target of an assignment stay what they are with their links; constants and templates have none
   refers-links : (t : Tree) (c : PlainCore) (u : State) (ls : List Link) → IsReference t c u → IsReference t c (record u { links = ls })
@@ -306,8 +302,6 @@ module _ (rs : List CompiledLibrary) (level : ℕ) where
   links-so place t u (plans.Matching subject literals clauses span) h = tt
   links-so place t u (plans.Keywords recursive specs forms) h = tt
   links-so place t u (plans.Quasi family template) h = tt
-  links-so place t u (plans.Use k) h = tt
-  links-so place t u (plans.SetUse l id) h = tt
 
   settled-so : (onward : KeywordUse → Does PlannedForm) (place : Span) (t : Tree) (x : PlanOrUse) (u : State) → ((k : KeywordUse) (v : State) → Gave Settles (onward k v)) → Steps place t x u → Gave Settles (planned_by onward place t x u)
   settled-so onward place t (steps.Plan p) u more h = links-so place t u p h

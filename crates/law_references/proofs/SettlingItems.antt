@@ -12,9 +12,9 @@ use Rattle.core_language.specs.declared.record.CompiledLibrary.{CompiledLibrary}
 use Rattle.core_shapes.specs.At.{place_of}
 use Rattle.expand_standing.specs.State.{State}
 use Rattle.expand_standing.specs.Uses.{asks_variable}
+use Rattle.expand_heads.specs.declared.item.HeadItem.{HeadItem}
+use Rattle.expand_heads.specs.declared.item.HeadItem.TheVariants as head_items
 use Rattle.expand_heads.specs.Items.{waiting_at, item_plan}
-use Rattle.expand_heads.specs.declared.item.Item.{Item}
-use Rattle.expand_heads.specs.declared.item.Item.TheVariants as of_items
 use Rattle.expand_heads.specs.declared.taken.BodyAt.{BodyAt}
 use Rattle.expand_heads.specs.declared.taken.Taken.{Taken}
 use Rattle.expand_heads.specs.declared.taken.Waits.TheVariants as waits
@@ -56,15 +56,12 @@ module _ (own : LibName) (K : ℕ → Mark → Type 0) (J : ℕ → FrameNo → 
   set-holds at depth d t l true s h k g = (same s h, k)
   set-holds at depth d t l false s h k g = (same s h, (each_and (items.WaitingAt own K J P lives first s.names.number) d.waiting (waiting_at at depth (waits.Expression t)) k g, tt))
 
-  steps-hold : (at : BodyAt) (depth : ℕ) (t : Tree) (d : Taken) (i : Item) (s : State) → F s → TakenAt s.names.number d → T s.names.number t → items.ItemAt own K J P lives first s.names.number i → Gave StepAt s (item_step_of rs at depth t d i s)
-  steps-hold at depth t d (of_items.Use k) s h j g y = (same s h, j)
-  steps-hold at depth t d (of_items.SetUse l) s h j g y =
+  steps-hold : (at : BodyAt) (depth : ℕ) (t : Tree) (d : Taken) (i : HeadItem) (s : State) → F s → TakenAt s.names.number d → T s.names.number t → items.HeadItemAt own K J P lives first s.names.number i → Gave StepAt s (item_step_of rs at depth t d i s)
+  steps-hold at depth t d (head_items.Use k) s h j g y = (same s h, j)
+  steps-hold at depth t d (head_items.SetUse l) s h j g y =
       standing.gave-after own K J P lives first (λ n b. Unit {0}) StepAt s (asks_variable rs (place_of t at.place) l s) (set_item_step at depth d t l) (standing.asks-variable-holds own K J P lives first rs held (place_of t at.place) l s h)
       (λ b u i z. set-holds at depth d t l b u (standing.state-then own K J P lives first s u h i) (items.taken-up own K J P lives first s.names.number u.names.number i.stage.up d j) (standing.tree-up own K J P lives first s.names.number u.names.number i.stage.up t g))
-  steps-hold at depth t d of_items.Nothing s h j g y = (same s h, (j, tt))
-  steps-hold at depth t d (of_items.Forms forms) s h j g y = (same s h, (j, y))
-  steps-hold at depth t d (of_items.Keyword b) s h j g y = (same s h, (j, y))
-  steps-hold at depth t d (of_items.Keywords recursive bs forms) s h j g y = (same s h, (j, y))
+  steps-hold at depth t d (head_items.Item i) s h j g y = (same s h, (j, y))
 
   step-holds : (at : BodyAt) (depth : ℕ) (d : Taken) (t : Tree) (s : State) → F s → TakenAt s.names.number d → T s.names.number t → Gave StepAt s (item_step rs at depth d t s)
   unfolding item_step

@@ -30,12 +30,14 @@ use Rattle.expand_standing.specs.Uses.{bind_keyword, asks_variable}
 use Rattle.expand_standing.specs.declared.binders.BoundSpec.{BoundSpec}
 use Rattle.expand_standing.specs.declared.standing.Standing.{Standing}
 use Rattle.expand_standing.specs.declared.standing.Standing.TheVariants as standing
+use Rattle.expand_heads.specs.declared.item.HeadItem.{HeadItem}
+use Rattle.expand_heads.specs.declared.item.HeadItem.TheVariants as head_items
+use Rattle.expand_heads.specs.declared.plan.HeadPlan.{HeadPlan}
+use Rattle.expand_heads.specs.declared.plan.HeadPlan.TheVariants as head_plans
 use Rattle.expand_heads.specs.Items.{any_changed, is_mixed, is_top, with_waiting, heads_like, in_time, keyword_in_time, define, define_keyword, define_item, item_plan}
 use Rattle.expand_heads.specs.Plan.{reference, assign, plan_of}
-use Rattle.expand_heads.specs.declared.item.Item.{Item}
 use Rattle.expand_heads.specs.declared.item.Item.TheVariants as items
 use Rattle.expand_heads.specs.declared.plan.KeywordUse.{KeywordUse}
-use Rattle.expand_heads.specs.declared.plan.Plan.{Plan}
 use Rattle.expand_heads.specs.declared.plan.Plan.TheVariants as plans
 use Rattle.expand_heads.specs.declared.taken.BodyAt.{BodyAt}
 use Rattle.expand_heads.specs.declared.taken.Taken.{Taken}
@@ -87,7 +89,7 @@ template-told place level t s = gave-less (TemplateNames place level t s) (Untol
 -- Plans.
 
 module _ (place : Span) (level : ℕ) (s : State) where
-  assigned : (id value : Tree) (st : Standing) (p : Plan) (u : State) → AssignsBy place level s id value st p u → u.keywords ≡ s.keywords
+  assigned : (id value : Tree) (st : Standing) (p : HeadPlan) (u : State) → AssignsBy place level s id value st p u → u.keywords ≡ s.keywords
   assigned id value standing.Nothing p u k = absurd k
   assigned id value (standing.Variable v) p u k = ap (λ (x : State). x.keywords) k.1.0
   assigned id value standing.PatternVariable p u k = absurd k
@@ -99,7 +101,7 @@ module _ (place : Span) (level : ℕ) (s : State) where
   plan-told t = plan-cases (Untold s) place level s (λ d. told-self s)
       (λ id. gave-less (Refers place level s (standing_of s id)) (Untold s) (reference place level id s) (reference-is place level s id) (λ p u k. told-same s u (ap (λ (x : State). x.keywords) k.0)))
       (λ x id value. gave-less (AssignsBy place level s id value (standing_of s id)) (Untold s) (assign place level x id value s) (assign-is place level s x id value) (λ p u k. told-same s u (assigned id value (standing_of s id) p u k)))
-      (λ x operand. then-told s (template_of place level operand s) (λ y. give (plans.Done (instance y (place_of x place)))) (template-told place level operand s) (λ y v. told-self v))
+      (λ x operand. then-told s (template_of place level operand s) (λ y. give (head_plans.Plan (plans.Done (instance y (place_of x place))))) (template-told place level operand s) (λ y v. told-self v))
       (λ p h. told-self s) t
 
 module _ (rs : List CompiledLibrary) (level : ℕ) where
@@ -107,20 +109,10 @@ module _ (rs : List CompiledLibrary) (level : ℕ) where
   set-told place t l id true s = told-self s
   set-told place t l id false s = tt
 
-  steps-told : (place : Span) (t : Tree) (p : Plan) (s : State) → Gave (Untold s) (step_of rs place t p s)
-  steps-told place t (plans.SetUse l id) s = then-told s (asks_variable rs (place_of t place) l s) (set_step place t l id) (variable-told rs (place_of t place) l s) (λ b v. set-told place t l id b v)
-  steps-told place t (plans.Use k) s = told-self s
-  steps-told place t (plans.Done c) s = told-self s
-  steps-told place t (plans.Call operator operands) s = told-self s
-  steps-told place t (plans.Conditional test consequent other) s = told-self s
-  steps-told place t (plans.Assignment l value) s = told-self s
-  steps-told place t (plans.Sequence xs) s = told-self s
-  steps-told place t (plans.Lambda ids xs) s = told-self s
-  steps-told place t (plans.CaseLambda cs) s = told-self s
-  steps-told place t (plans.Letrec star bs xs) s = told-self s
-  steps-told place t (plans.Matching subject literals cs span) s = told-self s
-  steps-told place t (plans.Keywords recursive bs xs) s = told-self s
-  steps-told place t (plans.Quasi which template) s = told-self s
+  steps-told : (place : Span) (t : Tree) (p : HeadPlan) (s : State) → Gave (Untold s) (step_of rs place t p s)
+  steps-told place t (head_plans.SetUse l id) s = then-told s (asks_variable rs (place_of t place) l s) (set_step place t l id) (variable-told rs (place_of t place) l s) (λ b v. set-told place t l id b v)
+  steps-told place t (head_plans.Use k) s = told-self s
+  steps-told place t (head_plans.Plan p) s = told-self s
 
   step-told : (place : Span) (t : Tree) (s : State) → Gave (Untold s) (step rs place level t s)
   unfolding step
@@ -168,7 +160,7 @@ module _ (at : BodyAt) (depth : ℕ) where
 
   item-plan-told : (done : Taken) (t : Tree) (s : State) → Gave (Untold s) (item_plan at depth done t s)
   item-plan-told done t s = item-cases (λ e. Unit {0}) (Untold s) at depth s (λ e id j. tt) (λ e x j. told-self s)
-      (λ e x y j. then-told s (define_item at depth e x y s) (λ z. give (z, items.Nothing)) (definition-told e x y s) (λ z v. told-self v)) (λ e i j. told-self s) done t tt
+      (λ e x y j. then-told s (define_item at depth e x y s) (λ z. give (z, head_items.Item items.Nothing)) (definition-told e x y s) (λ z v. told-self v)) (λ e i j. told-self s) done t tt
 
   keyword-in-time : (done : Taken) (id : Tree) (x : BoundSpec) (s : State) → Gave (Untold s) (after (keyword_in_time at done id s) (λ _. give x))
   unfolding keyword_in_time
@@ -189,13 +181,10 @@ module _ (rs : List CompiledLibrary) (depth : ℕ) where
   set-item-told at done t l true s = told-self s
   set-item-told at done t l false s = told-self s
 
-  item-steps-told : (at : BodyAt) (t : Tree) (done : Taken) (i : Item) (s : State) → Gave (Untold s) (item_step_of rs at depth t done i s)
-  item-steps-told at t done (items.SetUse l) s = then-told s (asks_variable rs (place_of t at.place) l s) (set_item_step at depth done t l) (variable-told rs (place_of t at.place) l s) (λ b v. set-item-told at done t l b v)
-  item-steps-told at t done (items.Use k) s = told-self s
-  item-steps-told at t done items.Nothing s = told-self s
-  item-steps-told at t done (items.Forms xs) s = told-self s
-  item-steps-told at t done (items.Keyword b) s = told-self s
-  item-steps-told at t done (items.Keywords recursive bs xs) s = told-self s
+  item-steps-told : (at : BodyAt) (t : Tree) (done : Taken) (i : HeadItem) (s : State) → Gave (Untold s) (item_step_of rs at depth t done i s)
+  item-steps-told at t done (head_items.SetUse l) s = then-told s (asks_variable rs (place_of t at.place) l s) (set_item_step at depth done t l) (variable-told rs (place_of t at.place) l s) (λ b v. set-item-told at done t l b v)
+  item-steps-told at t done (head_items.Use k) s = told-self s
+  item-steps-told at t done (head_items.Item i) s = told-self s
 
   item-step-told : (at : BodyAt) (done : Taken) (t : Tree) (s : State) → Gave (Untold s) (item_step rs at depth done t s)
   unfolding item_step

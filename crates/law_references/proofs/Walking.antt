@@ -49,6 +49,8 @@ use Rattle.expand_forms.specs.Inside.{Inside}
 use Rattle.expand_forms.specs.Keywords as keywords
 use Rattle.expand_forms.specs.Keywords.{seen_in, expand_transformer_in, expand_transformers, with_keywords}
 use Rattle.expand_forms.proofs.Steps.{earlier_inside}
+use Rattle.expand_forms.specs.Site.{site_at}
+use Rattle.expand_forms.specs.Forms.{let_syntax_parts, letrec_parts, procedure_parts}
 use Rattle.law_expand.specs.States.{Later}
 use Rattle.law_expand.proofs.Acts.{Gave, gave-both, gave-after, gave-less, gave-if, gave-within, told, each-nil, each-cons}
 use Rattle.law_expand.proofs.Changes.{Moves, inside-moves, moved-body, moved-case, moved-clause, moved-line}
@@ -201,8 +203,8 @@ module _ (libs : List LibName) (own : LibName) (core : Among libs library.Core) 
 
       -- so it is inside forms
       pub record Traced : Type 0 where
-        pub form : (place : Span) (level depth : ℕ) (t : Tree) (s : State) → F s → T s.names.number t → Gave (FormMade place level t s) (go.form place level depth t s)
-        pub procedure : (place : Span) (level depth : ℕ) (t : Tree) (ids : FormalIds) (fs : List Tree) (s : State) → F s → FormalsHold (P s.names.number) ids → Ts s.names.number fs → Gave (CaseMade place level t ids fs s) (go.procedure place level depth t ids fs s)
+        pub form : (place : Span) (level depth : ℕ) (t : Tree) (s : State) → F s → T s.names.number t → Gave (FormMade place level t s) (go.form (site_at place level depth) t s)
+        pub procedure : (place : Span) (level depth : ℕ) (t : Tree) (ids : FormalIds) (fs : List Tree) (s : State) → F s → FormalsHold (P s.names.number) ids → Ts s.names.number fs → Gave (CaseMade place level t ids fs s) (go.procedure (site_at place level depth) (procedure_parts t ids fs) s)
         pub item : (at : BodyAt) (depth : ℕ) (d : Taken) (t : Tree) (s : State) → F s → items.TakenAt own K J P lives first s.names.number d → T s.names.number t → J s.names.number at.frame → Gave (TakesMade at depth d t s) (go.item at depth d t s)
 
       goes : (s u : State) → F s → Went s u → F u
@@ -228,10 +230,10 @@ module _ (libs : List LibName) (own : LibName) (core : Among libs library.Core) 
         abbrev Goes : {A : Type 0} → (A → State → Type 0) → State → A → State → Type 0
         Goes M s a u = Went s u × M a u
 
-        pub form-went : (place : Span) (level depth : ℕ) (t : Tree) (s : State) → F s → T s.names.number t → Gave (Goes (FormMade place level t s) s) (go.form place level depth t s)
+        pub form-went : (place : Span) (level depth : ℕ) (t : Tree) (s : State) → F s → T s.names.number t → Gave (Goes (FormMade place level t s) s) (go.form (site_at place level depth) t s)
         form-went place level depth t s h k =
-            gave-less (λ c u. Went s u × (CoreHolds (P u.names.number) c × FormMade place level t s c u)) (Goes (FormMade place level t s) s) (go.form place level depth t s)
-            (staying.gave-went libs own core new first (λ n c. CoreHolds (P n) c) (FormMade place level t s) s (go.form place level depth t s) (keeps.form place level depth t s h k) (moves.form place level depth t s h.stage.library) (traced.form place level depth t s h k))
+            gave-less (λ c u. Went s u × (CoreHolds (P u.names.number) c × FormMade place level t s c u)) (Goes (FormMade place level t s) s) (go.form (site_at place level depth) t s)
+            (staying.gave-went libs own core new first (λ n c. CoreHolds (P n) c) (FormMade place level t s) s (go.form (site_at place level depth) t s) (keeps.form place level depth t s h k) (moves.form place level depth t s h.stage.library) (traced.form place level depth t s h k))
             (λ c u k. (k.0, k.1.1))
 
         -- Lists: what one comes to, and what the others come to after it.
@@ -256,9 +258,9 @@ module _ (libs : List LibName) (own : LibName) (core : Among libs library.Core) 
                     (λ refs i. i) (apart a made),
               ))))
 
-        pub order-went : (place : Span) (level depth : ℕ) (ts : List Tree) (s : State) → F s → Ts s.names.number ts → Gave (Goes (FormsMade place level ts s) s) (in_order go place level depth ts s)
+        pub order-went : (place : Span) (level depth : ℕ) (ts : List Tree) (s : State) → F s → Ts s.names.number ts → Gave (Goes (FormsMade place level ts s) s) (in_order go (site_at place level depth) ts s)
         order-went place level depth ts s h k =
-            each-went (go.form place level depth) T tree-up (λ t s c u refs. Expands rs place level t s c u refs) (λ ts s cs u refs. Expand rs place level ts s cs u refs) namings (λ cs. all_namings (cores cs))
+            each-went (go.form (site_at place level depth)) T tree-up (λ t s c u refs. Expands rs place level t s c u refs) (λ ts s cs u refs. Expand rs place level ts s cs u refs) namings (λ cs. all_namings (cores cs))
             (λ s. none) (λ t ts s v u c cs refs others i j. more i j) refl (λ c cs. refl) (λ t s h k. form-went place level depth t s h k) ts s h k
 
         -- Lines of a body.
@@ -269,25 +271,25 @@ module _ (libs : List LibName) (own : LibName) (core : Among libs library.Core) 
         abbrev ValueMade : Span → ℕ → ℕ → Label → Option Tree → State → PlainCore → State → Type 0
         ValueMade place level depth l o s c u = LineMade level (record { place = place; depth = depth; what = waits.Variable l o }) s (line.Define l c) u
 
-        value-made : (place : Span) (level depth : ℕ) (l : Label) (o : Option Tree) (s : State) → F s → OptionHolds (T s.names.number) o → Gave (ValueMade place level depth l o s) (value_of go place level (deeper depth) o s)
+        value-made : (place : Span) (level depth : ℕ) (l : Label) (o : Option Tree) (s : State) → F s → OptionHolds (T s.names.number) o → Gave (ValueMade place level depth l o s) (value_of go (site_at place level (deeper depth)) o s)
         value-made place level depth l None s h k =
             staying.made-none libs own core new (λ refs. Ends rs level place (waits.Variable l None) s (record { line = line.Define l no_value; noted = refs }) s) [] s s declares refl (told-self s)
         value-made place level depth l (Some t) s h k =
-            gave-less (FormMade place level t s) (ValueMade place level depth l (Some t) s) (go.form place level (deeper depth) t s) (traced.form place level (deeper depth) t s h k)
+            gave-less (FormMade place level t s) (ValueMade place level depth l (Some t) s) (go.form (site_at place level (deeper depth)) t s) (traced.form place level (deeper depth) t s h k)
             (λ c u z. staying.made-so libs own core new (λ refs. Expands rs place level t s c u refs) (λ refs. Ends rs level place (waits.Variable l (Some t)) s (record { line = line.Define l c; noted = refs }) u) (namings c) (namings c) s u z (λ refs i. defines i) refl)
 
-        line-made : (level : ℕ) (place : Span) (depth : ℕ) (w : Waits) (s : State) → F s → WaitsHold (P s.names.number) w → Gave (LineMade level (record { place = place; depth = depth; what = w }) s) (finish_as go level place depth w s)
+        line-made : (level : ℕ) (place : Span) (depth : ℕ) (w : Waits) (s : State) → F s → WaitsHold (P s.names.number) w → Gave (LineMade level (record { place = place; depth = depth; what = w }) s) (finish_as go (site_at place level depth) w s)
         unfolding finish_as fresh
-        line-made level place depth (waits.Variable l o) s h k = gave-after (ValueMade place level depth l o s) (LineMade level (record { place = place; depth = depth; what = waits.Variable l o }) s) (value_of go place level (deeper depth) o s) (λ c. give (line.Define l c)) (value-made place level depth l o s h k) (λ c u z. z)
+        line-made level place depth (waits.Variable l o) s h k = gave-after (ValueMade place level depth l o s) (LineMade level (record { place = place; depth = depth; what = waits.Variable l o }) s) (value_of go (site_at place level (deeper depth)) o s) (λ c. give (line.Define l c)) (value-made place level depth l o s h k) (λ c u z. z)
         line-made level place depth (waits.Procedure l t ids fs) s h k =
-            gave-after (CaseMade place level t ids fs (counted s)) (LineMade level (record { place = place; depth = depth; what = waits.Procedure l t ids fs }) s) (go.procedure place level (deeper depth) t ids fs (counted s)) _
+            gave-after (CaseMade place level t ids fs (counted s)) (LineMade level (record { place = place; depth = depth; what = waits.Procedure l t ids fs }) s) (go.procedure (site_at place level (deeper depth)) (procedure_parts t ids fs) (counted s)) _
             (traced.procedure place level (deeper depth) t ids fs (counted s) (counted-at s h) (items.formals-up own K J P lives first s.names.number (s.names.number + 1) (one-more s) ids k.1.0) (trees-up s.names.number (s.names.number + 1) (one-more s) fs k.1.1))
             (λ c u z.
             let code = procedure (record { 0 = s.names }) (cases (c ∷ [])) true in
             staying.made-from libs own core new (λ refs. CaseBinds rs place level t ids fs (counted s) c u refs) (λ refs. Ends rs level place (waits.Procedure l t ids fs) s (record { line = line.Define l code; noted = refs }) u)
             (namings c.body) (namings code) s (counted s) u (told-self s) z (λ refs i. defines_procedure i) (append-nil (namings c.body)))
         line-made level place depth (waits.Expression t) s h k =
-            gave-after (FormMade place level t s) (LineMade level (record { place = place; depth = depth; what = waits.Expression t }) s) (go.form place level depth t s) (λ c. give (line.Expr c)) (traced.form place level depth t s h k)
+            gave-after (FormMade place level t s) (LineMade level (record { place = place; depth = depth; what = waits.Expression t }) s) (go.form (site_at place level depth) t s) (λ c. give (line.Expr c)) (traced.form place level depth t s h k)
             (λ c u z. staying.made-so libs own core new (λ refs. Expands rs place level t s c u refs) (λ refs. Ends rs level place (waits.Expression t) s (record { line = line.Expr c; noted = refs }) u) (namings c) (namings c) s u z (λ refs i. is_expression i) refl)
 
         pub line-went : (level : ℕ) (w : Waiting) (s : State) → F s → WaitsHold (P s.names.number) w.what → Gave (Goes (LineMade level w s) s) (finish_one go level w s)
@@ -341,12 +343,12 @@ module _ (libs : List LibName) (own : LibName) (core : Among libs library.Core) 
             last ks refs l d (inl k) = inl k
             last ks refs l d (inr k) = inr (inl k)
 
-        pub means-made : (place : Span) (level depth : ℕ) (b : BoundSpec) (s : State) → F s → T s.names.number b.init → Gave (λ x u. MeansMade place level b s u) (keywords.expand_transformer go place level depth b s)
+        pub means-made : (place : Span) (level depth : ℕ) (b : BoundSpec) (s : State) → F s → T s.names.number b.init → Gave (λ x u. MeansMade place level b s u) (keywords.expand_transformer go (site_at place level depth) b s)
         unfolding keywords.expand_transformer
         means-made place level depth b s h k =
             let z : State = record s { scope = [] } in
-            gave-after (λ c w. (v : State) × ((w ≡ record v { scope = s.scope }) × FormMade place (level + 1) b.init z c v)) (λ x u. MeansMade place level b s u) (apart (go.form place (level + 1) depth b.init) s) (evaluate_transformer go.earlier (place_of b.init place) b.label)
-            (gave-after (FormMade place (level + 1) b.init z) (λ c w. (v : State) × ((w ≡ record v { scope = s.scope }) × FormMade place (level + 1) b.init z c v)) (go.form place (level + 1) depth b.init z) (restoring s.scope)
+            gave-after (λ c w. (v : State) × ((w ≡ record v { scope = s.scope }) × FormMade place (level + 1) b.init z c v)) (λ x u. MeansMade place level b s u) (apart (go.form (site_at place (level + 1) depth) b.init) s) (evaluate_transformer go.earlier (place_of b.init place) b.label)
+            (gave-after (FormMade place (level + 1) b.init z) (λ c w. (v : State) × ((w ≡ record v { scope = s.scope }) × FormMade place (level + 1) b.init z c v)) (go.form (site_at place (level + 1) depth) b.init z) (restoring s.scope)
             (traced.form place (level + 1) depth b.init z (record { stage = h.stage; bindings = h.bindings }) k) (λ c v y. (v, (refl, y))))
             (λ c w y. subst (λ (v : State). Gave (λ x u. MeansMade place level b s u) (evaluate_transformer go.earlier (place_of b.init place) b.label c v)) (sym y.1.0)
             (subst (λ (es : List CompiledLibrary). Gave (λ x u. MeansMade place level b s u) (evaluate_transformer es (place_of b.init place) b.label c (record y.0 { scope = s.scope }))) (sym (earlier_inside rs room))
@@ -361,15 +363,15 @@ module _ (libs : List LibName) (own : LibName) (core : Among libs library.Core) 
         seen-known false f b n h = h.0
 
         mean-made : (place : Span) (level depth : ℕ) (recursive : Bool) (f : FrameNo) (bs : List BoundSpec) (s : State) → F s → Each (InFrame f s.names.number) bs
-            → Gave (λ x u. Bound (λ es. Mean rs place level recursive f bs s u es) s u) (expand_transformers go place level depth recursive f bs s)
+            → Gave (λ x u. Bound (λ es. Mean rs place level recursive f bs s u es) s u) (expand_transformers go (site_at place level depth) recursive f bs s)
         unfolding gather
         mean-made place level depth recursive f [] s h k = staying.bound-none libs own core new (λ es. Mean rs place level recursive f [] s s es) s s no_keyword (told-self s)
         mean-made place level depth recursive f (b ∷ bs) s h k =
             let x : BoundSpec = seen_in recursive f b in
-            gave-after (λ e v. (FreshStateHolds own K P s.names.number v × Unit {0}) × MeansMade place level x s v) (λ e u. Bound (λ es. Mean rs place level recursive f (b ∷ bs) s u es) s u) (expand_transformer_in go place level depth recursive f tt b s) (λ e. gather (expand_transformer_in go place level depth recursive f) e bs)
-            (staying.gave-and libs own core new first (λ n e. Unit {0}) (λ e v. MeansMade place level x s v) s (keywords.expand_transformer go place level depth x s)
+            gave-after (λ e v. (FreshStateHolds own K P s.names.number v × Unit {0}) × MeansMade place level x s v) (λ e u. Bound (λ es. Mean rs place level recursive f (b ∷ bs) s u es) s u) (expand_transformer_in go (site_at place level depth) recursive f tt b s) (λ e. gather (expand_transformer_in go (site_at place level depth) recursive f) e bs)
+            (staying.gave-and libs own core new first (λ n e. Unit {0}) (λ e v. MeansMade place level x s v) s (keywords.expand_transformer go (site_at place level depth) x s)
             (forms.keyword-holds own K J P lives first go keeps place level depth x s h (seen-known recursive f b s.names.number k.0)) (means-made place level depth x s h (seen-known recursive f b s.names.number k.0)))
-            (λ e v z. gave-less (λ d u. Bound (λ es. Mean rs place level recursive f bs v u es) v u) (λ d u. Bound (λ es. Mean rs place level recursive f (b ∷ bs) s u es) s u) (expand_transformers go place level depth recursive f bs v)
+            (λ e v z. gave-less (λ d u. Bound (λ es. Mean rs place level recursive f bs v u es) v u) (λ d u. Bound (λ es. Mean rs place level recursive f (b ∷ bs) s u es) s u) (expand_transformers go (site_at place level depth) recursive f bs v)
             (mean-made place level depth recursive f bs v (from-to s v h z.0.0) (each_mapped (InFrame f s.names.number) (InFrame f v.names.number) (forms.bound-in-up own K J P lives first f s.names.number v.names.number z.0.0.stage.up) bs k.1))
             (λ d u y. staying.bound-joined libs own core new (λ es. KeywordMeans rs place level x s v es) (λ es. Mean rs place level recursive f bs v u es) (λ es. Mean rs place level recursive f (b ∷ bs) s u es) s v u z.1 y (λ es others i j. keyword i j)))
 
@@ -377,19 +379,19 @@ module _ (libs : List LibName) (own : LibName) (core : Among libs library.Core) 
         abbrev KeywordsMade : Span → ℕ → Bool → List BindingSpec → List Tree → State → List Tree → State → Type 0
         KeywordsMade place level recursive bs fs s ts u = Bound (λ es. BindsKeywords rs place level recursive bs fs s ts u es) s u
 
-        pub keywords-made : (place : Span) (level depth : ℕ) (recursive : Bool) (bs : List BindingSpec) (fs : List Tree) (s : State) → F s → Each (standing.SpecAt own K J P lives first s.names.number) bs → Gave (KeywordsMade place level recursive bs fs s) (with_keywords go place level depth recursive bs fs s)
+        pub keywords-made : (place : Span) (level depth : ℕ) (recursive : Bool) (bs : List BindingSpec) (fs : List Tree) (s : State) → F s → Each (standing.SpecAt own K J P lives first s.names.number) bs → Gave (KeywordsMade place level recursive bs fs s) (with_keywords go (site_at place level depth) (let_syntax_parts recursive bs fs) s)
         unfolding fresh_frame keywords.keywords
         keywords-made place level depth recursive bs fs s h k =
             let f : FrameNo = record { 0 = s.names } in
             let hs = counted-at s h in
             let bound = bind_keywords f place level bs (counted s) in
-            gave-after (λ x u. KeywordsMade place level recursive bs fs s (map (stamp f) fs) u) (KeywordsMade place level recursive bs fs s) (keywords.keywords go place level depth recursive bs f (counted s)) (λ _. give (map (stamp f) fs))
-            (gave-after (λ xs v. ((FreshStateHolds own K P (counted s).names.number v × Each (standing.BoundHolds own K J P lives first v.names.number) xs) × (bound ≡ Ok (xs, v))) × Tells (counted s).keywords v.keywords) (λ x u. KeywordsMade place level recursive bs fs s (map (stamp f) fs) u) bound (expand_transformers go place level depth recursive f)
+            gave-after (λ x u. KeywordsMade place level recursive bs fs s (map (stamp f) fs) u) (KeywordsMade place level recursive bs fs s) (keywords.keywords go (site_at place level depth) recursive bs f (counted s)) (λ _. give (map (stamp f) fs))
+            (gave-after (λ xs v. ((FreshStateHolds own K P (counted s).names.number v × Each (standing.BoundHolds own K J P lives first v.names.number) xs) × (bound ≡ Ok (xs, v))) × Tells (counted s).keywords v.keywords) (λ x u. KeywordsMade place level recursive bs fs s (map (stamp f) fs) u) bound (expand_transformers go (site_at place level depth) recursive f)
             (gave-both (λ xs v. (FreshStateHolds own K P (counted s).names.number v × Each (standing.BoundHolds own K J P lives first v.names.number) xs) × (bound ≡ Ok (xs, v))) (λ xs v. Tells (counted s).keywords v.keywords) bound
             (staying.gave-from libs own core new first (λ n xs. Each (standing.BoundHolds own K J P lives first n) xs) (counted s) bound
             (standing.bind-keywords-holds own K J P lives first f place level bs (counted s) hs (each_mapped (standing.SpecAt own K J P lives first s.names.number) (standing.SpecAt own K J P lives first (s.names.number + 1)) (standing.spec-up own K J P lives first s.names.number (s.names.number + 1) (one-more s)) bs k)))
             (keywords-told f place level bs (counted s)))
-            (λ xs v z. gave-less (λ x u. Bound (λ es. Mean rs place level recursive f xs v u es) v u) (λ x u. KeywordsMade place level recursive bs fs s (map (stamp f) fs) u) (expand_transformers go place level depth recursive f xs v)
+            (λ xs v z. gave-less (λ x u. Bound (λ es. Mean rs place level recursive f xs v u es) v u) (λ x u. KeywordsMade place level recursive bs fs s (map (stamp f) fs) u) (expand_transformers go (site_at place level depth) recursive f xs v)
             (mean-made place level depth recursive f xs v (from-to (counted s) v hs z.0.0.0)
             (forms.all-bound-in own K J P lives first f v.names.number xs z.0.0.1 (lives.frames (s.names.number + 1) v.names.number f z.0.0.0.stage.up (standing.frame-made own K J P lives first s h))))
             (λ x u y. staying.bound-from libs own core new (λ es. Mean rs place level recursive f xs v u es) (λ es. BindsKeywords rs place level recursive bs fs s (map (stamp f) fs) u es) s v u z.1 y (λ es i. binds_keywords z.0.1 i))))
@@ -460,7 +462,7 @@ module _ (libs : List LibName) (own : LibName) (core : Among libs library.Core) 
             (λ e. gave-after (Goes (LinesMade level d.waiting s) s) (FinishMade level d s) (finish_all go level d.waiting s) (λ ls. give (body_core ls)) (lines-made level d.waiting s h k) (λ ls u z. (ls, (refl, z.1))))
             (λ e. tt)
 
-        body-made : (place : Span) (level depth : ℕ) (t : Tree) (fs : List Tree) (s : State) → F s → Ts s.names.number fs → Gave (BodyMade place level t fs s) (body go place level depth t fs s)
+        body-made : (place : Span) (level depth : ℕ) (t : Tree) (fs : List Tree) (s : State) → F s → Ts s.names.number fs → Gave (BodyMade place level t fs s) (body go (site_at place level depth) t fs s)
         unfolding body fresh_frame
         body-made place level depth t fs s h k =
             let f : FrameNo = record { 0 = s.names } in
@@ -470,7 +472,7 @@ module _ (libs : List LibName) (own : LibName) (core : Among libs library.Core) 
             let all = stamps-hold own K J P lives (s.names.number + 1) f fs made (trees-up s.names.number (s.names.number + 1) (one-more s) fs k) in
             let at = lambda_at f place level in
             let pass = splice go at depth begun (map (stamp f) fs) (counted s) in
-            gave-within (BodyMade place level t fs s) (λ v. after (fresh_frame v) (body_in go place level depth t fs)) s
+            gave-within (BodyMade place level t fs s) (λ v. after (fresh_frame v) (body_in go (site_at place level depth) t fs)) s
             (gave-after (λ d v. (FreshStateHolds own K P (counted s).names.number v × TakenHolds (P v.names.number) d) × TakeMade at depth begun (map (stamp f) fs) (counted s) d v) (λ c u. BodyMade place level t fs s c (cut n u)) pass (finish go place level t)
             (staying.gave-and libs own core new first (λ n d. TakenHolds (P n) d) (TakeMade at depth begun (map (stamp f) fs) (counted s)) (counted s) pass (forms.splice-holds own K J P lives first go keeps at depth begun (map (stamp f) fs) (counted s) hs tt all made)
             (take-made at depth begun (map (stamp f) fs) (counted s) hs tt all made))
@@ -487,22 +489,22 @@ module _ (libs : List LibName) (own : LibName) (core : Among libs library.Core) 
               told = staying.only-joined libs own core new es (of_lines xs) s v u (λ l d e. z.1.told l d e) y.1.1.kept;
             }))))
 
-        body-went : (place : Span) (level depth : ℕ) (t : Tree) (fs : List Tree) (s : State) → F s → Ts s.names.number fs → Gave (λ c u. Later own s u × BodyMade place level t fs s c u) (body go place level depth t fs s)
-        body-went place level depth t fs s h k = gave-both (λ c u. Later own s u) (BodyMade place level t fs s) (body go place level depth t fs s) (moved-body own go moves place level depth t fs s h.stage.library) (body-made place level depth t fs s h k)
+        body-went : (place : Span) (level depth : ℕ) (t : Tree) (fs : List Tree) (s : State) → F s → Ts s.names.number fs → Gave (λ c u. Later own s u × BodyMade place level t fs s c u) (body go (site_at place level depth) t fs s)
+        body-went place level depth t fs s h k = gave-both (λ c u. Later own s u) (BodyMade place level t fs s) (body go (site_at place level depth) t fs s) (moved-body own go moves place level depth t fs s h.stage.library) (body-made place level depth t fs s h k)
 
         -- Procedures.
 
-        pub case-made : (place : Span) (level depth : ℕ) (t : Tree) (ids : FormalIds) (fs : List Tree) (s : State) → F s → FormalsHold (P s.names.number) ids → Ts s.names.number fs → Gave (CaseMade place level t ids fs s) (lambda_case go place level depth t ids fs s)
+        pub case-made : (place : Span) (level depth : ℕ) (t : Tree) (ids : FormalIds) (fs : List Tree) (s : State) → F s → FormalsHold (P s.names.number) ids → Ts s.names.number fs → Gave (CaseMade place level t ids fs s) (lambda_case go (site_at place level depth) (procedure_parts t ids fs) s)
         unfolding lambda_case fresh_frame
         case-made place level depth t ids fs s h k g =
             let f : FrameNo = record { 0 = s.names } in
             let n = length s.scope in
             let hs = counted-at s h in
             let bound = bind_formals f place level ids (counted s) in
-            gave-within (CaseMade place level t ids fs s) (λ v. after (fresh_frame v) (case_in go place level depth t ids fs)) s
-            (gave-after (λ x v. (FreshStateHolds own K P (counted s).names.number v × Unit {0}) × (bound ≡ Ok (x, v))) (λ c u. CaseMade place level t ids fs s c (cut n u)) bound (λ x v. after (body go place level depth t (map (stamp f) fs) v) (λ c. give (record { formals = x; body = c })))
+            gave-within (CaseMade place level t ids fs s) (λ v. after (fresh_frame v) (case_in go (site_at place level depth) (procedure_parts t ids fs))) s
+            (gave-after (λ x v. (FreshStateHolds own K P (counted s).names.number v × Unit {0}) × (bound ≡ Ok (x, v))) (λ c u. CaseMade place level t ids fs s c (cut n u)) bound (λ x v. after (body go (site_at place level depth) t (map (stamp f) fs) v) (λ c. give (record { formals = x; body = c })))
             (staying.gave-from libs own core new first (λ n x. Unit {0}) (counted s) bound (standing.bind-formals-holds own K J P lives first f place level ids (counted s) hs (items.formals-up own K J P lives first s.names.number (s.names.number + 1) (one-more s) ids k)))
-            (λ x v z. gave-after (BodyMade place level t (map (stamp f) fs) v) (λ c u. CaseMade place level t ids fs s c (cut n u)) (body go place level depth t (map (stamp f) fs) v) (λ c. give (record { formals = x; body = c }))
+            (λ x v z. gave-after (BodyMade place level t (map (stamp f) fs) v) (λ c u. CaseMade place level t ids fs s c (cut n u)) (body go (site_at place level depth) t (map (stamp f) fs) v) (λ c. give (record { formals = x; body = c }))
             (body-made place level depth t (map (stamp f) fs) v (from-to (counted s) v hs z.0.0)
             (stamps-hold own K J P lives v.names.number f fs (lives.frames (s.names.number + 1) v.names.number f z.0.0.stage.up (standing.frame-made own K J P lives first s h)) (trees-up s.names.number v.names.number (let up : s.names.number + 1 ≤ v.names.number = z.0.0.stage.up in omega (arith, up)) fs g)))
             (λ c u y.
@@ -513,10 +515,10 @@ module _ (libs : List LibName) (own : LibName) (core : Among libs library.Core) 
         abbrev Case : Span → ℕ → Tree → LambdaCase → State → Lambda → State → Noted → Type 0
         Case place level t x s c u refs = CaseBinds rs place level t x.formals x.body s c u refs
 
-        case-went : (place : Span) (level depth : ℕ) (t : Tree) (x : LambdaCase) (s : State) → F s → LambdaHolds (P s.names.number) x → Gave (λ c u. Went s u × Made (Case place level t x s c u) (namings c.body) s u) (one_case go place level depth t x s)
+        case-went : (place : Span) (level depth : ℕ) (t : Tree) (x : LambdaCase) (s : State) → F s → LambdaHolds (P s.names.number) x → Gave (λ c u. Went s u × Made (Case place level t x s c u) (namings c.body) s u) (one_case go (site_at place level depth) t x s)
         case-went place level depth t x s h k =
-            gave-less (λ c u. Went s u × (CoreHolds (P u.names.number) c.body × CaseMade place level t x.formals x.body s c u)) (λ c u. Went s u × Made (Case place level t x s c u) (namings c.body) s u) (one_case go place level depth t x s)
-            (staying.gave-went libs own core new first (forms.CaseAt own K J P lives first) (CaseMade place level t x.formals x.body s) s (one_case go place level depth t x s)
+            gave-less (λ c u. Went s u × (CoreHolds (P u.names.number) c.body × CaseMade place level t x.formals x.body s c u)) (λ c u. Went s u × Made (Case place level t x s c u) (namings c.body) s u) (one_case go (site_at place level depth) t x s)
+            (staying.gave-went libs own core new first (forms.CaseAt own K J P lives first) (CaseMade place level t x.formals x.body s) s (one_case go (site_at place level depth) t x s)
             (forms.case-holds own K J P lives first go keeps place level depth t x.formals x.body s h k.0 k.1) (moved-case own go moves place level depth t x.formals x.body s h.stage.library) (case-made place level depth t x.formals x.body s h k.0 k.1))
             (λ c u k. (k.0, k.1.1))
 
@@ -524,28 +526,28 @@ module _ (libs : List LibName) (own : LibName) (core : Among libs library.Core) 
         lambda-case-up m n le x h = (items.formals-up own K J P lives first m n le x.formals h.0, trees-up m n le x.body h.1)
 
         pub cases-went : (place : Span) (level depth : ℕ) (t : Tree) (xs : List LambdaCase) (s : State) → F s → Each (LambdaHolds (P s.names.number)) xs
-            → Gave (λ cs u. Went s u × Made (ExpandedBind rs place level t xs s cs u) (case_namings (cases cs)) s u) (all_cases go place level depth t xs s)
+            → Gave (λ cs u. Went s u × Made (ExpandedBind rs place level t xs s cs u) (case_namings (cases cs)) s u) (all_cases go (site_at place level depth) t xs s)
         cases-went place level depth t xs s h k =
-            each-went (one_case go place level depth t) (λ n x. LambdaHolds (P n) x) lambda-case-up (Case place level t) (λ xs s cs u refs. ExpandedBind rs place level t xs s cs u refs) (λ (c : Lambda). namings c.body) (λ cs. case_namings (cases cs))
+            each-went (one_case go (site_at place level depth) t) (λ n x. LambdaHolds (P n) x) lambda-case-up (Case place level t) (λ xs s cs u refs. ExpandedBind rs place level t xs s cs u refs) (λ (c : Lambda). namings c.body) (λ cs. case_namings (cases cs))
             (λ s. no_case) (λ x xs s v u c cs refs others i j. case i j) refl (λ c cs. refl) (λ x s h k. case-went place level depth t x s h k) xs s h k
 
         -- `letrec` and `letrec*`.
 
-        init-went : (place : Span) (level depth : ℕ) (f : FrameNo) (b : BoundSpec) (s : State) → F s → forms.BoundIn own K J P lives first f s.names.number b → Gave (λ i u. Went s u × InitMade place level f b s i u) (one_init go place level depth f b s)
+        init-went : (place : Span) (level depth : ℕ) (f : FrameNo) (b : BoundSpec) (s : State) → F s → forms.BoundIn own K J P lives first f s.names.number b → Gave (λ i u. Went s u × InitMade place level f b s i u) (one_init go (site_at place level depth) f b s)
         unfolding one_init
         init-went place level depth f b s h k =
-            gave-after (Goes (FormMade place level (stamp f b.init) s) s) (λ i u. Went s u × InitMade place level f b s i u) (go.form place level depth (stamp f b.init) s) (λ c. give (record { label = b.label; value = c }))
+            gave-after (Goes (FormMade place level (stamp f b.init) s) s) (λ i u. Went s u × InitMade place level f b s i u) (go.form (site_at place level depth) (stamp f b.init) s) (λ c. give (record { label = b.label; value = c }))
             (form-went place level depth (stamp f b.init) s h (stamp-holds own K J P lives s.names.number f b.init k.1 k.0))
             (λ c u z. (z.0, staying.made-so libs own core new (λ refs. Expands rs place level (stamp f b.init) s c u refs) (λ refs. Starts rs place level f b s (record { label = b.label; value = c }) u refs) (namings c) (namings c) s u z.1 (λ refs i. starts_with i) refl))
 
         inits-went : (place : Span) (level depth : ℕ) (f : FrameNo) (bs : List BoundSpec) (s : State) → F s → Each (forms.BoundIn own K J P lives first f s.names.number) bs
-            → Gave (λ is u. Went s u × Made (ExpansionStart rs place level f bs s is u) (init_namings (inits is)) s u) (all_inits go place level depth f bs s)
+            → Gave (λ is u. Went s u × Made (ExpansionStart rs place level f bs s is u) (init_namings (inits is)) s u) (all_inits go (site_at place level depth) f bs s)
         inits-went place level depth f bs s h k =
-            each-went (one_init go place level depth f) (λ n b. forms.BoundIn own K J P lives first f n b) (forms.bound-in-up own K J P lives first f) (λ b s i u refs. Starts rs place level f b s i u refs) (λ bs s is u refs. ExpansionStart rs place level f bs s is u refs)
+            each-went (one_init go (site_at place level depth) f) (λ n b. forms.BoundIn own K J P lives first f n b) (forms.bound-in-up own K J P lives first f) (λ b s i u refs. Starts rs place level f b s i u refs) (λ bs s is u refs. ExpansionStart rs place level f bs s is u refs)
             (λ (i : Init). namings i.value) (λ is. init_namings (inits is)) (λ s. no_init) (λ b bs s v u i is refs others x y. init x y) refl (λ i is. refl) (λ b s h k. init-went place level depth f b s h k) bs s h k
 
         pub letrec-made : (place : Span) (level depth : ℕ) (t : Tree) (star : Bool) (bs : List BindingSpec) (fs : List Tree) (s : State) → F s → Each (standing.SpecAt own K J P lives first s.names.number) bs → Ts s.names.number fs
-            → Gave (PlanMade place level t (plans.Letrec star bs fs) s) (letrec_form go place level depth t star bs fs s)
+            → Gave (PlanMade place level t (plans.Letrec star bs fs) s) (letrec_form go (site_at place level depth) (letrec_parts t star bs fs) s)
         unfolding letrec_form fresh_frame
         letrec-made place level depth t star bs fs s h k g =
             let f : FrameNo = record { 0 = s.names } in
@@ -555,18 +557,18 @@ module _ (libs : List LibName) (own : LibName) (core : Among libs library.Core) 
             let made = standing.frame-made own K J P lives first s h in
             let bound = bind_specs f place level bs (counted s) in
             let So : PlainCore → State → Type 0 = λ c u. PlanMade place level t (plans.Letrec star bs fs) s c (cut n u) in
-            gave-within (PlanMade place level t (plans.Letrec star bs fs) s) (λ v. after (fresh_frame v) (letrec_in go place level depth t star bs fs)) s
+            gave-within (PlanMade place level t (plans.Letrec star bs fs) s) (λ v. after (fresh_frame v) (letrec_in go (site_at place level depth) (letrec_parts t star bs fs))) s
             (gave-after (λ ls v. (FreshStateHolds own K P (counted s).names.number v × Each (standing.BoundHolds own K J P lives first v.names.number) ls) × (bound ≡ Ok (ls, v))) So bound _
             (staying.gave-from libs own core new first (λ n ls. Each (standing.BoundHolds own K J P lives first n) ls) (counted s) bound
             (standing.bind-specs-holds own K J P lives first f place level bs (counted s) hs (each_mapped (standing.SpecAt own K J P lives first s.names.number) (standing.SpecAt own K J P lives first (s.names.number + 1)) (standing.spec-up own K J P lives first s.names.number (s.names.number + 1) one) bs k)))
             (λ ls v z.
             let hv = from-to (counted s) v hs z.0.0 in
             let up : s.names.number + 1 ≤ v.names.number = z.0.0.stage.up in
-            gave-after (λ is w. Went v w × Made (ExpansionStart rs place level f ls v is w) (init_namings (inits is)) v w) So (all_inits go place level depth f ls v) _
+            gave-after (λ is w. Went v w × Made (ExpansionStart rs place level f ls v is w) (init_namings (inits is)) v w) So (all_inits go (site_at place level depth) f ls v) _
             (inits-went place level depth f ls v hv (forms.all-bound-in own K J P lives first f v.names.number ls z.0.1 (lives.frames (s.names.number + 1) v.names.number f up made)))
             (λ is w y.
             let more-up = y.0.from.stage.up in
-            gave-after (λ c u. Later own w u × BodyMade place level t (map (stamp f) fs) w c u) So (body go place level depth t (map (stamp f) fs) w) (λ c. give (letrec star (inits is) c))
+            gave-after (λ c u. Later own w u × BodyMade place level t (map (stamp f) fs) w c u) So (body go (site_at place level depth) t (map (stamp f) fs) w) (λ c. give (letrec star (inits is) c))
             (body-went place level depth t (map (stamp f) fs) w (goes v w hv y.0)
             (stamps-hold own K J P lives w.names.number f fs (lives.frames (s.names.number + 1) w.names.number f (omega (arith, up, more-up)) made) (trees-up s.names.number w.names.number (omega (arith, one, up, more-up)) fs g)))
             (λ c u x.
@@ -580,14 +582,14 @@ module _ (libs : List LibName) (own : LibName) (core : Among libs library.Core) 
         -- `syntax-case`.
 
         fender-made : (place : Span) (level depth : ℕ) (f : FrameNo) (o : Option Tree) (s : State) → F s → J s.names.number f → OptionHolds (T s.names.number) o
-            → Gave (λ x u. Went s u × Made (Asks rs place level f o s x u) (fender-namings x) s u) (fender go place level depth f o s)
+            → Gave (λ x u. Went s u × Made (Asks rs place level f o s x u) (fender-namings x) s u) (fender go (site_at place level depth) f o s)
         fender-made place level depth f None s h q k = (staying.went-self libs own core new first s h, staying.made-none libs own core new (Asks rs place level f None s None s) [] s s asks_nothing refl (told-self s))
         fender-made place level depth f (Some t) s h q k =
-            gave-after (Goes (FormMade place level (stamp f t) s) s) (λ x u. Went s u × Made (Asks rs place level f (Some t) s x u) (fender-namings x) s u) (go.form place level depth (stamp f t) s) (λ c. give (Some c))
+            gave-after (Goes (FormMade place level (stamp f t) s) s) (λ x u. Went s u × Made (Asks rs place level f (Some t) s x u) (fender-namings x) s u) (go.form (site_at place level depth) (stamp f t) s) (λ c. give (Some c))
             (form-went place level depth (stamp f t) s h (stamp-holds own K J P lives s.names.number f t q k))
             (λ c u z. (z.0, staying.made-so libs own core new (λ refs. Expands rs place level (stamp f t) s c u refs) (Asks rs place level f (Some t) s (Some c) u) (namings c) (namings c) s u z.1 (λ refs i. asks_first i) refl))
 
-        clause-made : (place : Span) (level depth : ℕ) (literals : List Tree) (x : PatternCase) (s : State) → F s → PatternCaseHolds (P s.names.number) x → Gave (ClauseMade place level literals x s) (pattern_clause go place level depth literals x s)
+        clause-made : (place : Span) (level depth : ℕ) (literals : List Tree) (x : PatternCase) (s : State) → F s → PatternCaseHolds (P s.names.number) x → Gave (ClauseMade place level literals x s) (pattern_clause go (site_at place level depth) literals x s)
         unfolding pattern_clause fresh_frame
         clause-made place level depth literals x s h k =
             let f : FrameNo = record { 0 = s.names } in
@@ -597,7 +599,7 @@ module _ (libs : List LibName) (own : LibName) (core : Among libs library.Core) 
             let made = standing.frame-made own K J P lives first s h in
             let compiled = pattern_of literals place x.pattern (counted s) in
             let So : Clause → State → Type 0 = λ c u. ClauseMade place level literals x s c (cut n u) in
-            gave-within (ClauseMade place level literals x s) (λ v. after (fresh_frame v) (clause_in go place level depth literals x)) s
+            gave-within (ClauseMade place level literals x s) (λ v. after (fresh_frame v) (clause_in go (site_at place level depth) literals x)) s
             (gave-after (λ p v. (FreshStateHolds own K P (counted s).names.number v × standing.CompiledHolds own K J P lives first v.names.number p) × (compiled ≡ Ok (p, v))) So compiled _
             (staying.gave-from libs own core new first (standing.CompiledHolds own K J P lives first) (counted s) compiled
             (standing.pattern-holds own K J P lives first literals place x.pattern (counted s) hs (tree-up s.names.number (s.names.number + 1) one x.pattern k.0)))
@@ -610,11 +612,11 @@ module _ (libs : List LibName) (own : LibName) (core : Among libs library.Core) 
             (λ e w y.
             let hw = from-to v w hv y.0.0 in
             let up-more = y.0.0.stage.up in
-            gave-after (λ o b. Went w b × Made (Asks rs place level f x.fender w o b) (fender-namings o) w b) So (fender go place level depth f x.fender w) _
+            gave-after (λ o b. Went w b × Made (Asks rs place level f x.fender w o b) (fender-namings o) w b) So (fender go (site_at place level depth) f x.fender w) _
             (fender-made place level depth f x.fender w hw (lives.frames (s.names.number + 1) w.names.number f (omega (arith, up, up-more)) made) (standing.option-up own K J P lives first s.names.number w.names.number (omega (arith, one, up, up-more)) x.fender k.1.0))
             (λ o b q.
             let up-last = q.0.from.stage.up in
-            gave-after (Goes (FormMade place level (stamp f x.output) b) b) So (go.form place level depth (stamp f x.output) b) (λ c. give (record { pattern = p.pattern; fender = o; output = c }))
+            gave-after (Goes (FormMade place level (stamp f x.output) b) b) So (go.form (site_at place level depth) (stamp f x.output) b) (λ c. give (record { pattern = p.pattern; fender = o; output = c }))
             (form-went place level depth (stamp f x.output) b (goes w b hw q.0)
             (stamp-holds own K J P lives b.names.number f x.output (lives.frames (s.names.number + 1) b.names.number f (omega (arith, up, up-more, up-last)) made) (tree-up s.names.number b.names.number (omega (arith, one, up, up-more, up-last)) x.output k.1.1)))
             (λ c u r.
@@ -626,15 +628,15 @@ module _ (libs : List LibName) (own : LibName) (core : Among libs library.Core) 
             (staying.made-joined libs own core new (Asks rs place level f x.fender w o b) (λ refs. Expands rs place level (stamp f x.output) b c u refs) One
             (fender-namings o) (namings c) w b u r.0.later q.1 r.1 (λ refs others i j. matches_pattern z.1 y.1 i j)) (λ refs i. i) refl) (λ refs i. i))))))
 
-        clause-went : (place : Span) (level depth : ℕ) (literals : List Tree) (x : PatternCase) (s : State) → F s → PatternCaseHolds (P s.names.number) x → Gave (λ c u. Went s u × ClauseMade place level literals x s c u) (pattern_clause go place level depth literals x s)
+        clause-went : (place : Span) (level depth : ℕ) (literals : List Tree) (x : PatternCase) (s : State) → F s → PatternCaseHolds (P s.names.number) x → Gave (λ c u. Went s u × ClauseMade place level literals x s c u) (pattern_clause go (site_at place level depth) literals x s)
         clause-went place level depth literals x s h k =
-            gave-less (λ c u. Went s u × (forms.ClauseAt own K J P lives first u.names.number c × ClauseMade place level literals x s c u)) (λ c u. Went s u × ClauseMade place level literals x s c u) (pattern_clause go place level depth literals x s)
-            (staying.gave-went libs own core new first (forms.ClauseAt own K J P lives first) (ClauseMade place level literals x s) s (pattern_clause go place level depth literals x s)
+            gave-less (λ c u. Went s u × (forms.ClauseAt own K J P lives first u.names.number c × ClauseMade place level literals x s c u)) (λ c u. Went s u × ClauseMade place level literals x s c u) (pattern_clause go (site_at place level depth) literals x s)
+            (staying.gave-went libs own core new first (forms.ClauseAt own K J P lives first) (ClauseMade place level literals x s) s (pattern_clause go (site_at place level depth) literals x s)
             (forms.clause-holds own K J P lives first go keeps place level depth literals x s h k) (moved-clause own go moves place level depth literals x s h.stage.library) (clause-made place level depth literals x s h k))
             (λ c u k. (k.0, k.1.1))
 
         pub clauses-went : (place : Span) (level depth : ℕ) (literals : List Tree) (xs : List PatternCase) (s : State) → F s → Each (PatternCaseHolds (P s.names.number)) xs
-            → Gave (λ cs u. Went s u × Made (Match rs place level literals xs s cs u) (clause_namings (clauses cs)) s u) (all_clauses go place level depth literals xs s)
+            → Gave (λ cs u. Went s u × Made (Match rs place level literals xs s cs u) (clause_namings (clauses cs)) s u) (all_clauses go (site_at place level depth) literals xs s)
         clauses-went place level depth literals xs s h k =
-            each-went (pattern_clause go place level depth literals) (λ n x. PatternCaseHolds (P n) x) (forms.pattern-case-up own K J P lives first go keeps) (λ x s c u refs. ExpandsClause rs place level literals x s c u refs) (λ xs s cs u refs. Match rs place level literals xs s cs u refs)
+            each-went (pattern_clause go (site_at place level depth) literals) (λ n x. PatternCaseHolds (P n) x) (forms.pattern-case-up own K J P lives first go keeps) (λ x s c u refs. ExpandsClause rs place level literals x s c u refs) (λ xs s cs u refs. Match rs place level literals xs s cs u refs)
             clause-said (λ cs. clause_namings (clauses cs)) (λ s. no_clause) (λ x xs s v u c cs refs others i j. clause i j) refl clauses-said (λ x s h k. clause-went place level depth literals x s h k) xs s h k

@@ -17,6 +17,7 @@ use Rattle.law_hygiene.specs.Marked.{Among}
 use Rattle.law_hygiene.proofs.Rowing.{label_by-row}
 use Rattle.eval_value.specs.Cells.{Each}
 use Rattle.expand_forms.specs.Expression.{inside}
+use Rattle.expand_forms.specs.Site.{site_at}
 use Rattle.law_expand.proofs.Acts.{told}
 use Rattle.law_fresh.specs.Leaves.{TreeHolds}
 use Rattle.law_fresh.proofs.Eachs.{each_mapped}
@@ -75,5 +76,5 @@ module _ (libs : List LibName) (own : LibName) (core : Among libs library.Core) 
 
 pub forms-hygienic : FormsAreHygienic
 forms-hygienic libs own records room place level depth t s u c core new holds held has e =
-    let made = told (FormMade libs own core new records place level t s) ((inside records room).form place level depth t s) c u ((all-traced libs own core new records s.names.number held room).form place level depth t s holds has) e in
+    let made = told (FormMade libs own core new records place level t s) ((inside records room).form (site_at place level depth) t s) c u ((all-traced libs own core new records s.names.number held room).form place level depth t s holds has) e in
     (made.noted, (made.is, record { all = made.all; mentions = mentions-named c made.noted.references made.all; right = all-right libs own core new u made.noted.references made.kept; expressions = all-expressions libs own core new made.noted.expressions made.expressions; kept = made.told }))

@@ -12,6 +12,7 @@ use Rattle.law_hygiene.specs.Binder.{Captures}
 use Rattle.law_hygiene.specs.History.{Event}
 use Rattle.expand_forms.specs.Expression.{inside}
 use Rattle.expand_forms.specs.ExpandUses.{linked_code}
+use Rattle.expand_forms.specs.Site.{site_at}
 use Rattle.law_expand.specs.Named.{RefersTo, IsUse}
 use Rattle.law_fresh_expansion.specs.Events.{HasKnownEvents}
 use Rattle.base_data.specs.declared.name.Mark.{Mark}
@@ -28,5 +29,5 @@ pub record NamesItsBinder (s : State) (p : Option Span) (x : List ℕ) (k : Leaf
 abbrev pub ReferencesAreHygienic : Type 0
 ReferencesAreHygienic = (libs : List LibName) (own : LibName) (n : ℕ) (records : List CompiledLibrary) (room : ℕ) (place : Span)
     (level depth : ℕ) (p : Option Span) (x : List ℕ) (k : LeafContext) (s u : State) (c : PlainCore)
-    → (h : HasKnownEvents libs own n k) → (inside records room).form place level depth (leaf p x k) s ≡ Ok (c, u)
+    → (h : HasKnownEvents libs own n k) → (inside records room).form (site_at place level depth) (leaf p x k) s ≡ Ok (c, u)
     → (NamesItsBinder s p x k h.marks h.events c × (u ≡ linked_code (leaf p x k) c s)) ⊎ IsUse s (leaf p x k)

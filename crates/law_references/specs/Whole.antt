@@ -21,6 +21,7 @@ use Rattle.law_hygiene.specs.Binder.{Captures}
 use Rattle.law_hygiene.specs.Marked.{Among}
 use Rattle.eval_value.specs.Cells.{Each}
 use Rattle.expand_forms.specs.Expression.{inside}
+use Rattle.expand_forms.specs.Site.{site_at}
 use Rattle.law_expand.specs.Named.{RefersTo}
 use Rattle.law_fresh.specs.Leaves.{TreeHolds}
 use Rattle.law_fresh_expansion.specs.Events.{HasKnownEvents}
@@ -81,5 +82,5 @@ FormsAreHygienic = (libs : List LibName) (own : LibName) (records : List Compile
     (t : Tree) (s u : State) (c : PlainCore) → Among libs library.Core → IsNewAmong libs own
     → FreshStateHolds own (IsKnown libs own) (HasKnownEvents libs own) s.names.number s
     → RecordsHold (HasKnownEvents libs own s.names.number) records → TreeHolds (HasKnownEvents libs own s.names.number) t
-    → (inside records room).form place level depth t s ≡ Ok (c, u)
+    → (inside records room).form (site_at place level depth) t s ≡ Ok (c, u)
     → (x : Noted) × (Expands records place level t s c u x × Tells libs own c s u x)

@@ -49,15 +49,17 @@ use Rattle.expand_forms.specs.Inside.{Inside}
 use Rattle.expand_forms.specs.Keywords.{expand_transformer, seen_in, expand_transformer_in, expand_transformers, keywords, with_keywords, define_syntax}
 use Rattle.expand_forms.specs.Quasi.{part_core, quasi_made, quasi_form}
 use Rattle.expand_forms.specs.ExpandUses.{expand_uses, expand_item_uses}
+use Rattle.expand_forms.specs.Site.{site_at}
+use Rattle.expand_forms.specs.Forms.{definition_parts, if_parts, let_syntax_parts, letrec_parts, procedure_parts, syntax_case_parts, template_parts}
 use Rattle.law_room.proofs.Items.{deeper-from, Keeps, keeps-splice}
 use Rattle.law_room.proofs.Same.{Each, same-after, both-after, where-after, same-framed, where-each, same-each, same-gather}
 use Rattle.law_room.proofs.Waiting.{IsFrom, WaitsFrom}
 
 pub record Agree (d : ℕ) (go ho : Inside) : Type 0 where
   pub earlier : go.earlier ≡ ho.earlier
-  pub form : (place : Span) (level depth : ℕ) (t : Tree) (s : State) → d ≤ depth → go.form place level depth t s ≡ ho.form place level depth t s
+  pub form : (place : Span) (level depth : ℕ) (t : Tree) (s : State) → d ≤ depth → go.form (site_at place level depth) t s ≡ ho.form (site_at place level depth) t s
   -- a case stands one deeper than the form that defines it
-  pub procedure : (place : Span) (level depth : ℕ) (t : Tree) (ids : FormalIds) (forms : List Tree) (s : State) → d ≤ depth → go.procedure place level (deeper depth) t ids forms s ≡ ho.procedure place level (deeper depth) t ids forms s
+  pub procedure : (place : Span) (level depth : ℕ) (t : Tree) (ids : FormalIds) (forms : List Tree) (s : State) → d ≤ depth → go.procedure (site_at place level (deeper depth)) (procedure_parts t ids forms) s ≡ ho.procedure (site_at place level (deeper depth)) (procedure_parts t ids forms) s
   pub item : (at : BodyAt) (depth : ℕ) (done : Taken) (t : Tree) (s : State) → d ≤ depth → go.item at depth done t s ≡ ho.item at depth done t s
 
 -- The parts of quasi forms stand as deep as the form's inside.
@@ -106,11 +108,11 @@ module _ (go ho : Inside) (d : ℕ) (same : Agree d go ho) (keeps : Keeps go) wh
   same-splice : (at : BodyAt) (depth : ℕ) (done : Taken) (forms : List Tree) (s : State) → d ≤ depth → splice go at depth done forms s ≡ splice ho at depth done forms s
   same-splice at depth done forms s le = same-gather (go.item at depth) (ho.item at depth) (λ e x u. same.item at depth e x u le) done forms s
 
-  same-value : (place : Span) (level depth : ℕ) (o : Option Tree) (s : State) → d ≤ depth → value_of go place level depth o s ≡ value_of ho place level depth o s
+  same-value : (place : Span) (level depth : ℕ) (o : Option Tree) (s : State) → d ≤ depth → value_of go (site_at place level depth) o s ≡ value_of ho (site_at place level depth) o s
   same-value place level depth None s le = refl
   same-value place level depth (Some t) s le = same.form place level depth t s le
 
-  same-finish-as : (level : ℕ) (place : Span) (depth : ℕ) (what : Waits) (s : State) → d ≤ depth → finish_as go level place depth what s ≡ finish_as ho level place depth what s
+  same-finish-as : (level : ℕ) (place : Span) (depth : ℕ) (what : Waits) (s : State) → d ≤ depth → finish_as go (site_at place level depth) what s ≡ finish_as ho (site_at place level depth) what s
   unfolding finish_as
   same-finish-as level place depth (waits.Variable l value) s le = ap (λ r. after r (λ c. give (line.Define l c))) (same-value place level (deeper depth) value s (deeper-from d depth le))
   same-finish-as level place depth (waits.Procedure l t ids forms) s le =
@@ -130,146 +132,146 @@ module _ (go ho : Inside) (d : ℕ) (same : Agree d go ho) (keeps : Keeps go) wh
       where-after (WaitsFrom d) (splice go at depth begun forms s) k m (keeps-splice go keeps d at depth begun forms s le tt) h
       ∙ ap (λ r. after r m) (same-splice at depth begun forms s le)
 
-  same-body-in : (place : Span) (level depth : ℕ) (t : Tree) (forms : List Tree) (frame : FrameNo) (s : State) → d ≤ depth → body_in go place level depth t forms frame s ≡ body_in ho place level depth t forms frame s
+  same-body-in : (place : Span) (level depth : ℕ) (t : Tree) (forms : List Tree) (frame : FrameNo) (s : State) → d ≤ depth → body_in go (site_at place level depth) t forms frame s ≡ body_in ho (site_at place level depth) t forms frame s
   same-body-in place level depth t forms frame s le =
       same-taken (lambda_at frame place level) depth (map (stamp frame) forms) (finish go place level t) (finish ho place level t) s le (λ done u h. same-finish place level t done u h)
 
-  pub same-body : (place : Span) (level depth : ℕ) (t : Tree) (forms : List Tree) (s : State) → d ≤ depth → body go place level depth t forms s ≡ body ho place level depth t forms s
+  pub same-body : (place : Span) (level depth : ℕ) (t : Tree) (forms : List Tree) (s : State) → d ≤ depth → body go (site_at place level depth) t forms s ≡ body ho (site_at place level depth) t forms s
   unfolding body
-  same-body place level depth t forms s le = same-framed (body_in go place level depth t forms) (body_in ho place level depth t forms) s (λ frame u. same-body-in place level depth t forms frame u le)
+  same-body place level depth t forms s le = same-framed (body_in go (site_at place level depth) t forms) (body_in ho (site_at place level depth) t forms) s (λ frame u. same-body-in place level depth t forms frame u le)
 
   -- Keywords.
 
-  same-keyword : (place : Span) (level depth : ℕ) (b : BoundSpec) (s : State) → d ≤ depth → expand_transformer go place level depth b s ≡ expand_transformer ho place level depth b s
+  same-keyword : (place : Span) (level depth : ℕ) (b : BoundSpec) (s : State) → d ≤ depth → expand_transformer go (site_at place level depth) b s ≡ expand_transformer ho (site_at place level depth) b s
   unfolding expand_transformer
   same-keyword place level depth b s le =
       ap (λ r. after (after r (restoring s.scope)) (evaluate_transformer go.earlier (place_of b.init place) b.label)) (same.form place (level + 1) depth b.init (record s { scope = [] }) le)
-      ∙ ap (λ rs. after (apart (ho.form place (level + 1) depth b.init) s) (evaluate_transformer rs (place_of b.init place) b.label)) same.earlier
+      ∙ ap (λ rs. after (apart (ho.form (site_at place (level + 1) depth) b.init) s) (evaluate_transformer rs (place_of b.init place) b.label)) same.earlier
 
-  same-keywords : (place : Span) (level depth : ℕ) (recursive : Bool) (bs : List BindingSpec) (frame : FrameNo) (s : State) → d ≤ depth → keywords go place level depth recursive bs frame s ≡ keywords ho place level depth recursive bs frame s
+  same-keywords : (place : Span) (level depth : ℕ) (recursive : Bool) (bs : List BindingSpec) (frame : FrameNo) (s : State) → d ≤ depth → keywords go (site_at place level depth) recursive bs frame s ≡ keywords ho (site_at place level depth) recursive bs frame s
   unfolding keywords
   same-keywords place level depth recursive bs frame s le =
-      same-after (bind_keywords frame place level bs s) (expand_transformers go place level depth recursive frame) (expand_transformers ho place level depth recursive frame)
-      (λ xs u. same-gather (expand_transformer_in go place level depth recursive frame) (expand_transformer_in ho place level depth recursive frame) (λ e b v. same-keyword place level depth (seen_in recursive frame b) v le) tt xs u)
+      same-after (bind_keywords frame place level bs s) (expand_transformers go (site_at place level depth) recursive frame) (expand_transformers ho (site_at place level depth) recursive frame)
+      (λ xs u. same-gather (expand_transformer_in go (site_at place level depth) recursive frame) (expand_transformer_in ho (site_at place level depth) recursive frame) (λ e b v. same-keyword place level depth (seen_in recursive frame b) v le) tt xs u)
 
   same-with : (place : Span) (level depth : ℕ) (recursive : Bool) (bs : List BindingSpec) (forms : List Tree) (s : State) → d ≤ depth
-      → with_keywords go place level depth recursive bs forms s ≡ with_keywords ho place level depth recursive bs forms s
+      → with_keywords go (site_at place level depth) (let_syntax_parts recursive bs forms) s ≡ with_keywords ho (site_at place level depth) (let_syntax_parts recursive bs forms) s
   same-with place level depth recursive bs forms s le =
       same-after (fresh_frame s) _ _ (λ frame u. ap (λ r. after r (λ _. give (map (stamp frame) forms))) (same-keywords place level depth recursive bs frame u le))
 
-  same-define : (at : BodyAt) (depth : ℕ) (done : Taken) (t : Tree) (b : BindingSpec) (s : State) → d ≤ depth → define_syntax go at depth done t b s ≡ define_syntax ho at depth done t b s
+  same-define : (at : BodyAt) (depth : ℕ) (done : Taken) (t : Tree) (b : BindingSpec) (s : State) → d ≤ depth → define_syntax go at depth done (definition_parts t b) s ≡ define_syntax ho at depth done (definition_parts t b) s
   unfolding define_syntax
-  same-define at depth done t b s le = same-after (define_keyword at done t b s) (expand_transformer go at.place at.level depth) (expand_transformer ho at.place at.level depth) (λ x u. same-keyword at.place at.level depth x u le)
+  same-define at depth done t b s le = same-after (define_keyword at done t b s) (expand_transformer go (site_at at.place at.level depth)) (expand_transformer ho (site_at at.place at.level depth)) (λ x u. same-keyword at.place at.level depth x u le)
 
   -- Expressions.
 
-  same-order : (place : Span) (level depth : ℕ) (ts : List Tree) (s : State) → d ≤ depth → in_order go place level depth ts s ≡ in_order ho place level depth ts s
-  same-order place level depth ts s le = same-each (go.form place level depth) (ho.form place level depth) (λ x u. same.form place level depth x u le) [] ts s
+  same-order : (place : Span) (level depth : ℕ) (ts : List Tree) (s : State) → d ≤ depth → in_order go (site_at place level depth) ts s ≡ in_order ho (site_at place level depth) ts s
+  same-order place level depth ts s le = same-each (go.form (site_at place level depth)) (ho.form (site_at place level depth)) (λ x u. same.form place level depth x u le) [] ts s
 
   same-case-in : (place : Span) (level depth : ℕ) (t : Tree) (ids : FormalIds) (forms : List Tree) (frame : FrameNo) (s : State) → d ≤ depth
-      → case_in go place level depth t ids forms frame s ≡ case_in ho place level depth t ids forms frame s
+      → case_in go (site_at place level depth) (procedure_parts t ids forms) frame s ≡ case_in ho (site_at place level depth) (procedure_parts t ids forms) frame s
   same-case-in place level depth t ids forms frame s le =
       same-after (bind_formals frame place level ids s) _ _ (λ formals u. ap (λ r. after r (λ c. give (record { formals = formals; body = c }))) (same-body place level depth t (map (stamp frame) forms) u le))
 
-  pub same-case : (place : Span) (level depth : ℕ) (t : Tree) (ids : FormalIds) (forms : List Tree) (s : State) → d ≤ depth → lambda_case go place level depth t ids forms s ≡ lambda_case ho place level depth t ids forms s
+  pub same-case : (place : Span) (level depth : ℕ) (t : Tree) (ids : FormalIds) (forms : List Tree) (s : State) → d ≤ depth → lambda_case go (site_at place level depth) (procedure_parts t ids forms) s ≡ lambda_case ho (site_at place level depth) (procedure_parts t ids forms) s
   unfolding lambda_case
   same-case place level depth t ids forms s le =
-      same-framed (case_in go place level depth t ids forms) (case_in ho place level depth t ids forms) s (λ frame u. same-case-in place level depth t ids forms frame u le)
+      same-framed (case_in go (site_at place level depth) (procedure_parts t ids forms)) (case_in ho (site_at place level depth) (procedure_parts t ids forms)) s (λ frame u. same-case-in place level depth t ids forms frame u le)
 
-  same-lambda : (place : Span) (level depth : ℕ) (t : Tree) (ids : FormalIds) (forms : List Tree) (s : State) → d ≤ depth → lambda go place level depth t ids forms s ≡ lambda ho place level depth t ids forms s
+  same-lambda : (place : Span) (level depth : ℕ) (t : Tree) (ids : FormalIds) (forms : List Tree) (s : State) → d ≤ depth → lambda go (site_at place level depth) (procedure_parts t ids forms) s ≡ lambda ho (site_at place level depth) (procedure_parts t ids forms) s
   unfolding lambda
   same-lambda place level depth t ids forms s le =
       same-after (fresh s) _ _ (λ n u. ap (λ r. after r (λ c. give (procedure (record { 0 = n }) (cases (c ∷ [])) true))) (same-case place level depth t ids forms u le))
 
-  same-cases : (place : Span) (level depth : ℕ) (t : Tree) (cs : List LambdaCase) (s : State) → d ≤ depth → case_lambda go place level depth t cs s ≡ case_lambda ho place level depth t cs s
+  same-cases : (place : Span) (level depth : ℕ) (t : Tree) (cs : List LambdaCase) (s : State) → d ≤ depth → case_lambda go (site_at place level depth) t cs s ≡ case_lambda ho (site_at place level depth) t cs s
   unfolding case_lambda
   same-cases place level depth t cs s le =
       same-after (fresh s) _ _
-      (λ n u. ap (λ r. after r (λ xs. give (procedure (record { 0 = n }) (cases xs) false))) (same-each (one_case go place level depth t) (one_case ho place level depth t) (λ c v. same-case place level depth t c.formals c.body v le) [] cs u))
+      (λ n u. ap (λ r. after r (λ xs. give (procedure (record { 0 = n }) (cases xs) false))) (same-each (one_case go (site_at place level depth) t) (one_case ho (site_at place level depth) t) (λ c v. same-case place level depth t c.formals c.body v le) [] cs u))
 
-  same-init : (place : Span) (level depth : ℕ) (frame : FrameNo) (b : BoundSpec) (s : State) → d ≤ depth → one_init go place level depth frame b s ≡ one_init ho place level depth frame b s
+  same-init : (place : Span) (level depth : ℕ) (frame : FrameNo) (b : BoundSpec) (s : State) → d ≤ depth → one_init go (site_at place level depth) frame b s ≡ one_init ho (site_at place level depth) frame b s
   unfolding one_init
   same-init place level depth frame b s le = ap (λ r. after r (λ c. give (record { label = b.label; value = c }))) (same.form place level depth (stamp frame b.init) s le)
 
   same-letrec-in : (place : Span) (level depth : ℕ) (t : Tree) (star : Bool) (bs : List BindingSpec) (forms : List Tree) (frame : FrameNo) (s : State) → d ≤ depth
-      → letrec_in go place level depth t star bs forms frame s ≡ letrec_in ho place level depth t star bs forms frame s
+      → letrec_in go (site_at place level depth) (letrec_parts t star bs forms) frame s ≡ letrec_in ho (site_at place level depth) (letrec_parts t star bs forms) frame s
   same-letrec-in place level depth t star bs forms frame s le =
-      same-after (bind_specs frame place level bs s) _ _ (λ ls u. both-after (all_inits go place level depth frame ls u) (all_inits ho place level depth frame ls u) _ _
-      (same-each (one_init go place level depth frame) (one_init ho place level depth frame) (λ b v. same-init place level depth frame b v le) [] ls u)
+      same-after (bind_specs frame place level bs s) _ _ (λ ls u. both-after (all_inits go (site_at place level depth) frame ls u) (all_inits ho (site_at place level depth) frame ls u) _ _
+      (same-each (one_init go (site_at place level depth) frame) (one_init ho (site_at place level depth) frame) (λ b v. same-init place level depth frame b v le) [] ls u)
       (λ is v. ap (λ r. after r (λ c. give (letrec star (inits is) c))) (same-body place level depth t (map (stamp frame) forms) v le)))
 
   same-letrec : (place : Span) (level depth : ℕ) (t : Tree) (star : Bool) (bs : List BindingSpec) (forms : List Tree) (s : State) → d ≤ depth
-      → letrec_form go place level depth t star bs forms s ≡ letrec_form ho place level depth t star bs forms s
+      → letrec_form go (site_at place level depth) (letrec_parts t star bs forms) s ≡ letrec_form ho (site_at place level depth) (letrec_parts t star bs forms) s
   unfolding letrec_form
   same-letrec place level depth t star bs forms s le =
-      same-framed (letrec_in go place level depth t star bs forms) (letrec_in ho place level depth t star bs forms) s (λ frame u. same-letrec-in place level depth t star bs forms frame u le)
+      same-framed (letrec_in go (site_at place level depth) (letrec_parts t star bs forms)) (letrec_in ho (site_at place level depth) (letrec_parts t star bs forms)) s (λ frame u. same-letrec-in place level depth t star bs forms frame u le)
 
-  same-application : (place : Span) (level depth : ℕ) (operator : Tree) (operands : List Tree) (s : State) → d ≤ depth → application go place level depth operator operands s ≡ application ho place level depth operator operands s
+  same-application : (place : Span) (level depth : ℕ) (operator : Tree) (operands : List Tree) (s : State) → d ≤ depth → application go (site_at place level depth) operator operands s ≡ application ho (site_at place level depth) operator operands s
   unfolding application
   same-application place level depth operator operands s le =
-      both-after (go.form place level depth operator s) (ho.form place level depth operator s) _ _ (same.form place level depth operator s le)
+      both-after (go.form (site_at place level depth) operator s) (ho.form (site_at place level depth) operator s) _ _ (same.form place level depth operator s le)
       (λ c u. ap (λ r. after r (λ cs. give (call c (cores cs)))) (same-order place level depth operands u le))
 
-  same-alternate : (place : Span) (level depth : ℕ) (c e : PlainCore) (o : Option Tree) (s : State) → d ≤ depth → alternate go place level depth c e o s ≡ alternate ho place level depth c e o s
+  same-alternate : (place : Span) (level depth : ℕ) (c e : PlainCore) (o : Option Tree) (s : State) → d ≤ depth → alternate go (site_at place level depth) c e o s ≡ alternate ho (site_at place level depth) c e o s
   same-alternate place level depth c e None s le = refl
   same-alternate place level depth c e (Some t) s le = ap (λ r. after r (λ f. give (two_armed c e f))) (same.form place level depth t s le)
 
-  same-conditional : (place : Span) (level depth : ℕ) (test consequent : Tree) (other : Option Tree) (s : State) → d ≤ depth → conditional go place level depth test consequent other s ≡ conditional ho place level depth test consequent other s
+  same-conditional : (place : Span) (level depth : ℕ) (test consequent : Tree) (other : Option Tree) (s : State) → d ≤ depth → conditional go (site_at place level depth) (if_parts test consequent other) s ≡ conditional ho (site_at place level depth) (if_parts test consequent other) s
   unfolding conditional
   same-conditional place level depth test consequent other s le =
-      both-after (go.form place level depth test s) (ho.form place level depth test s) _ _ (same.form place level depth test s le)
-      (λ c u. both-after (go.form place level depth consequent u) (ho.form place level depth consequent u) _ _ (same.form place level depth consequent u le) (λ e v. same-alternate place level depth c e other v le))
+      both-after (go.form (site_at place level depth) test s) (ho.form (site_at place level depth) test s) _ _ (same.form place level depth test s le)
+      (λ c u. both-after (go.form (site_at place level depth) consequent u) (ho.form (site_at place level depth) consequent u) _ _ (same.form place level depth consequent u le) (λ e v. same-alternate place level depth c e other v le))
 
-  same-set : (place : Span) (level depth : ℕ) (l : Label) (value : Tree) (s : State) → d ≤ depth → set go place level depth l value s ≡ set ho place level depth l value s
+  same-set : (place : Span) (level depth : ℕ) (l : Label) (value : Tree) (s : State) → d ≤ depth → set go (site_at place level depth) l value s ≡ set ho (site_at place level depth) l value s
   unfolding set
   same-set place level depth l value s le = ap (λ r. after r (λ c. give (assignment l c))) (same.form place level depth value s le)
 
-  same-sequence : (place : Span) (level depth : ℕ) (ts : List Tree) (s : State) → d ≤ depth → in_sequence go place level depth ts s ≡ in_sequence ho place level depth ts s
+  same-sequence : (place : Span) (level depth : ℕ) (ts : List Tree) (s : State) → d ≤ depth → in_sequence go (site_at place level depth) ts s ≡ in_sequence ho (site_at place level depth) ts s
   unfolding in_sequence
   same-sequence place level depth ts s le = ap (λ r. after r (λ cs. give (sequence_of cs))) (same-order place level depth ts s le)
 
-  same-fender : (place : Span) (level depth : ℕ) (frame : FrameNo) (o : Option Tree) (s : State) → d ≤ depth → fender go place level depth frame o s ≡ fender ho place level depth frame o s
+  same-fender : (place : Span) (level depth : ℕ) (frame : FrameNo) (o : Option Tree) (s : State) → d ≤ depth → fender go (site_at place level depth) frame o s ≡ fender ho (site_at place level depth) frame o s
   same-fender place level depth frame None s le = refl
   same-fender place level depth frame (Some t) s le = ap (λ r. after r (λ c. give (Some c))) (same.form place level depth (stamp frame t) s le)
 
-  same-clause-in : (place : Span) (level depth : ℕ) (literals : List Tree) (c : PatternCase) (frame : FrameNo) (s : State) → d ≤ depth → clause_in go place level depth literals c frame s ≡ clause_in ho place level depth literals c frame s
+  same-clause-in : (place : Span) (level depth : ℕ) (literals : List Tree) (c : PatternCase) (frame : FrameNo) (s : State) → d ≤ depth → clause_in go (site_at place level depth) literals c frame s ≡ clause_in ho (site_at place level depth) literals c frame s
   same-clause-in place level depth literals c frame s le =
       same-after (pattern_of literals place c.pattern s) _ _ (λ p u. same-after (bind_pattern frame place level p.variables u) _ _
-      (λ x v. both-after (fender go place level depth frame c.fender v) (fender ho place level depth frame c.fender v) _ _ (same-fender place level depth frame c.fender v le)
+      (λ x v. both-after (fender go (site_at place level depth) frame c.fender v) (fender ho (site_at place level depth) frame c.fender v) _ _ (same-fender place level depth frame c.fender v le)
       (λ f w. ap (λ r. after r (λ o. give (record { pattern = p.pattern; fender = f; output = o }))) (same.form place level depth (stamp frame c.output) w le))))
 
-  same-clause : (place : Span) (level depth : ℕ) (literals : List Tree) (c : PatternCase) (s : State) → d ≤ depth → pattern_clause go place level depth literals c s ≡ pattern_clause ho place level depth literals c s
+  same-clause : (place : Span) (level depth : ℕ) (literals : List Tree) (c : PatternCase) (s : State) → d ≤ depth → pattern_clause go (site_at place level depth) literals c s ≡ pattern_clause ho (site_at place level depth) literals c s
   unfolding pattern_clause
   same-clause place level depth literals c s le =
-      same-framed (clause_in go place level depth literals c) (clause_in ho place level depth literals c) s (λ frame u. same-clause-in place level depth literals c frame u le)
+      same-framed (clause_in go (site_at place level depth) literals c) (clause_in ho (site_at place level depth) literals c) s (λ frame u. same-clause-in place level depth literals c frame u le)
 
   same-matching : (place : Span) (level depth : ℕ) (subject : Tree) (literals : List Tree) (cs : List PatternCase) (span : Span) (s : State) → d ≤ depth
-      → syntax_case go place level depth subject literals cs span s ≡ syntax_case ho place level depth subject literals cs span s
+      → syntax_case go (site_at place level depth) (syntax_case_parts subject literals cs span) s ≡ syntax_case ho (site_at place level depth) (syntax_case_parts subject literals cs span) s
   unfolding syntax_case
   same-matching place level depth subject literals cs span s le =
-      both-after (go.form place level depth subject s) (ho.form place level depth subject s) _ _ (same.form place level depth subject s le)
+      both-after (go.form (site_at place level depth) subject s) (ho.form (site_at place level depth) subject s) _ _ (same.form place level depth subject s le)
       (λ c u. same-after (check_literals place literals u) _ _
       (λ x v. ap (λ r. after r (λ xs. give (matching c (clauses xs) span)))
-      (same-each (pattern_clause go place level depth literals) (pattern_clause ho place level depth literals) (λ c' w. same-clause place level depth literals c' w le) [] cs v)))
+      (same-each (pattern_clause go (site_at place level depth) literals) (pattern_clause ho (site_at place level depth) literals) (λ c' w. same-clause place level depth literals c' w le) [] cs v)))
 
   same-keywords-form : (place : Span) (level depth : ℕ) (recursive : Bool) (bs : List BindingSpec) (forms : List Tree) (s : State) → d ≤ depth
-      → keywords_form go place level depth recursive bs forms s ≡ keywords_form ho place level depth recursive bs forms s
+      → keywords_form go (site_at place level depth) (let_syntax_parts recursive bs forms) s ≡ keywords_form ho (site_at place level depth) (let_syntax_parts recursive bs forms) s
   unfolding keywords_form
   same-keywords-form place level depth recursive bs forms s le =
-      both-after (with_keywords go place level depth recursive bs forms s) (with_keywords ho place level depth recursive bs forms s) (in_sequence go place level depth) (in_sequence ho place level depth)
+      both-after (with_keywords go (site_at place level depth) (let_syntax_parts recursive bs forms) s) (with_keywords ho (site_at place level depth) (let_syntax_parts recursive bs forms) s) (in_sequence go (site_at place level depth)) (in_sequence ho (site_at place level depth))
       (same-with place level depth recursive bs forms s le) (λ ts u. same-sequence place level depth ts u le)
 
-  same-quasi-made : (place : Span) (level depth : ℕ) (t : Tree) (q : QuasiForm) (s : State) → d ≤ depth → quasi_made go place level depth t q s ≡ quasi_made ho place level depth t q s
+  same-quasi-made : (place : Span) (level depth : ℕ) (t : Tree) (q : QuasiForm) (s : State) → d ≤ depth → quasi_made go (site_at place level depth) t q s ≡ quasi_made ho (site_at place level depth) t q s
   same-quasi-made place level depth t q s le =
       ap (λ r. after r (code_of place level t q))
       (where-each (PartFrom d) (part_core go place level) (part_core ho place level) (λ p u k. same.form place level p.depth p.form u k) [] (parts_of t depth q) s (parts-from d t depth q le))
 
-  same-quasi : (place : Span) (level depth : ℕ) (t : Tree) (which : Family) (template : Tree) (s : State) → d ≤ depth → quasi_form go place level depth t which template s ≡ quasi_form ho place level depth t which template s
+  same-quasi : (place : Span) (level depth : ℕ) (t : Tree) (which : Family) (template : Tree) (s : State) → d ≤ depth → quasi_form go (site_at place level depth) (template_parts t which template) s ≡ quasi_form ho (site_at place level depth) (template_parts t which template) s
   unfolding quasi_form
-  same-quasi place level depth t which template s le = same-after (form_of place t which template s) (quasi_made go place level depth t) (quasi_made ho place level depth t) (λ q u. same-quasi-made place level depth t q u le)
+  same-quasi place level depth t which template s le = same-after (form_of place t which template s) (quasi_made go (site_at place level depth) t) (quasi_made ho (site_at place level depth) t) (λ q u. same-quasi-made place level depth t q u le)
 
   -- what lies in a form is one deeper
-  same-perform : (place : Span) (level depth : ℕ) (t : Tree) (p : Plan) (s : State) → d ≤ deeper depth → perform go place level depth t p s ≡ perform ho place level depth t p s
+  same-perform : (place : Span) (level depth : ℕ) (t : Tree) (p : Plan) (s : State) → d ≤ deeper depth → perform go (site_at place level depth) t p s ≡ perform ho (site_at place level depth) t p s
   unfolding perform
   same-perform place level depth t (plans.Done c) s le = refl
   same-perform place level depth t (plans.Call operator operands) s le = same-application place level (deeper depth) operator operands s le
@@ -282,8 +284,6 @@ module _ (go ho : Inside) (d : ℕ) (same : Agree d go ho) (keeps : Keeps go) wh
   same-perform place level depth t (plans.Matching subject literals cs span) s le = same-matching place level (deeper depth) subject literals cs span s le
   same-perform place level depth t (plans.Keywords recursive bs forms) s le = same-keywords-form place level (deeper depth) recursive bs forms s le
   same-perform place level depth t (plans.Quasi which template) s le = same-quasi place level (deeper depth) t which template s le
-  same-perform place level depth t (plans.Use k) s le = refl
-  same-perform place level depth t (plans.SetUse l id) s le = refl
 
   same-perform-item : (at : BodyAt) (depth : ℕ) (done : Taken) (t : Tree) (i : Item) (s : State) → d ≤ deeper depth → perform_item go at depth done t i s ≡ perform_item ho at depth done t i s
   unfolding perform_item
@@ -291,12 +291,10 @@ module _ (go ho : Inside) (d : ℕ) (same : Agree d go ho) (keeps : Keeps go) wh
   same-perform-item at depth done t (items.Forms forms) s le = same-splice at (deeper depth) done forms s le
   same-perform-item at depth done t (items.Keyword b) s le = ap (λ r. after r (λ _. give done)) (same-define at (deeper depth) done t b s le)
   same-perform-item at depth done t (items.Keywords recursive bs forms) s le =
-      both-after (with_keywords go at.place at.level (deeper depth) recursive bs forms s) (with_keywords ho at.place at.level (deeper depth) recursive bs forms s) (splice go at (deeper depth) done) (splice ho at (deeper depth) done)
+      both-after (with_keywords go (site_at at.place at.level (deeper depth)) (let_syntax_parts recursive bs forms) s) (with_keywords ho (site_at at.place at.level (deeper depth)) (let_syntax_parts recursive bs forms) s) (splice go at (deeper depth) done) (splice ho at (deeper depth) done)
       (same-with at.place at.level (deeper depth) recursive bs forms s le) (λ fs u. same-splice at (deeper depth) done fs u le)
-  same-perform-item at depth done t (items.Use k) s le = refl
-  same-perform-item at depth done t (items.SetUse l) s le = refl
 
-  pub same-form-at : (place : Span) (level depth : ℕ) (t : Tree) (s : State) → d ≤ deeper depth → form_at go place level depth t s ≡ form_at ho place level depth t s
+  pub same-form-at : (place : Span) (level depth : ℕ) (t : Tree) (s : State) → d ≤ deeper depth → form_at go (site_at place level depth) t s ≡ form_at ho (site_at place level depth) t s
   unfolding form_at
   same-form-at place level depth t s le = ap (λ r. if nat_lt most_round depth then fault_form kind.TooDeep t place s else r)
       (ap (λ rs. after (expand_uses rs place level t s) (perform_settled go level depth)) same.earlier

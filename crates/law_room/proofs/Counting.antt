@@ -35,6 +35,7 @@ use Rattle.expand_standing.specs.Standing.{standing_of, role_of}
 use Rattle.expand_standing.specs.State.{State, fresh_frame, noted}
 use Rattle.expand_standing.specs.declared.standing.Standing.TheVariants as standing
 use Rattle.expand_standing.specs.declared.standing.Variable.{Variable}
+use Rattle.expand_heads.specs.declared.plan.HeadPlan.TheVariants as head_plans
 use Rattle.expand_heads.specs.Depth.{deeper, most_round}
 use Rattle.expand_heads.specs.Items.{alone, begun, core_item, headed_item, keep, kept_head, list_item, set_item, target_item, wait}
 use Rattle.expand_heads.specs.Kept.{with_head}
@@ -47,8 +48,8 @@ use Rattle.expand_forms.specs.Body.{lambda_at, sequence_of}
 use Rattle.expand_forms.specs.Expression.{all_clauses, alternate, application as call_form, conditional, in_order, in_sequence, keywords_form, perform, set as set_form, syntax_case, inside, full_room}
 use Rattle.expand_forms.specs.Inside.{Inside}
 use Rattle.expand_forms.specs.Keywords.{keywords as bound_keywords}
-use Rattle.expand_forms.specs.ExpandUses.{linked, step_of}
-use Rattle.expand_forms.specs.declared.expand_uses.PlanOrUse.TheVariants as steps
+use Rattle.expand_forms.specs.ExpandUses.{linked}
+use Rattle.expand_forms.specs.Site.{site_at}
 use Rattle.law_room.specs.Counted.{Round, sequence, operator, test, subject, value, keywords, body, one_case, block, initial, IsKeywordWord, IsTarget, IsAlone, AreFormals, IsBinderForm, IsRound, stamp_round, counted, next_frame, in_frames, rounds_in_frames, within, rounds_within, next, left, all_left, AreRound, round, truth, put, put_in, code, code_in, FormsCountOnce}
 use Rattle.law_room.proofs.Items.{shallow-inside}
 use Rattle.law_room.proofs.Procedures.{IsPlanned, IsTaken, block-faulted, block-made, body-faulted, body-made, body-too-deep, cases-faulted, cases-made, headed, initial-faulted, initial-made, is-taken, lambda-faulted, lambda-made, no_ids}
@@ -269,7 +270,7 @@ module _ (place : Span) (level : ℕ) (form : Tree) (s : State) (no : is_leaf fo
   abbrev spec_rest : Tree → Tree
   spec_rest id = pair None (pair None (pair None id (pair None form nil)) nil) (pair None truth nil)
 
-  plan-is : (r : Round) (rs : List Round) → IsRound place level s r rs → plan_of place level (put r form) s ≡ Ok (plan place r form, planned r s)
+  plan-is : (r : Round) (rs : List Round) → IsRound place level s r rs → plan_of place level (put r form) s ≡ Ok (head_plans.Plan (plan place r form), planned r s)
   unfolding list_plan application keyword_plan shape_plan role_of shape shape_of shaped if_shape syntax_case_shape let_syntax_shape letrec_shape lambda_shape case_lambda_shape lambda_case formals formals_before bindings binding all_of assign
   plan-is (sequence word) rs is = by-word core_forms.Begin word (pair None form nil) is
   plan-is operator rs is = ap (λ b. if b then by_head place level (put operator form) form nil (standing_of s form) s else application place (put operator form) form nil s) no
@@ -293,18 +294,6 @@ module _ (place : Span) (level : ℕ) (form : Tree) (s : State) (no : is_leaf fo
   plan-is (initial true word id l v) rs is =
       by-word core_forms.LetrecStar word (spec_rest id) is.0 ∙ ap (λ x. with_shape place level (put (initial true word id l v) form) core_forms.LetrecStar x s) (shape-initial true word id l v is.1.leaf)
 
-  plan-settles : (r : Round) (rs : List CompiledLibrary) (u : State) → step_of rs place (put r form) (plan place r form) u ≡ Ok (steps.Plan (plan place r form), u)
-  plan-settles (sequence word) rs u = refl
-  plan-settles operator rs u = refl
-  plan-settles (test word) rs u = refl
-  plan-settles (subject word) rs u = refl
-  plan-settles (value word id v) rs u = refl
-  plan-settles (keywords recursive word) rs u = refl
-  plan-settles (body word ids fs v) rs u = refl
-  plan-settles (one_case word) rs u = refl
-  plan-settles (block star word) rs u = refl
-  plan-settles (initial star word id l v) rs u = refl
-
   enters : (r : Round) → linked (put r form) (plan place r form) (planned r s) ≡ entered r s
   enters (sequence word) = refl
   enters operator = refl
@@ -318,11 +307,11 @@ module _ (place : Span) (level : ℕ) (form : Tree) (s : State) (no : is_leaf fo
   enters (initial star word id l v) = refl
 
   in-round : (records : List CompiledLibrary) (room depth : ℕ) (r : Round) (rs : List Round) → IsRound place level s r rs → depth ≤ most_round
-      → (inside records (suc room)).form place level depth (put r form) s ≡ perform (inside records room) place level depth (put r form) (plan place r form) (entered r s)
+      → (inside records (suc room)).form (site_at place level depth) (put r form) s ≡ perform (inside records room) (site_at place level depth) (put r form) (plan place r form) (entered r s)
   in-round records room depth r rs is few =
       form-is records room place level depth (put r form) s
-      ∙ done-at (inside records room) place level depth (put r form) s (planned r s) (plan place r form) few (plan-is r rs is) (λ records. plan-settles r records (planned r s))
-      ∙ ap (perform (inside records room) place level depth (put r form) (plan place r form)) (enters r)
+      ∙ done-at (inside records room) place level depth (put r form) s (planned r s) (plan place r form) few (plan-is r rs is)
+      ∙ ap (perform (inside records room) (site_at place level depth) (put r form) (plan place r form)) (enters r)
 
 -- Right in a body each of these is an expression that waits.
 
@@ -380,13 +369,13 @@ TakesTruth go place level depth = (u : State) → IsTaken go (lambda_at (next_fr
 
 module _ (place : Span) (level : ℕ) (form : Tree) (s : State) where
   abbrev tried : (go : Inside) (depth : ℕ) → PlainCore → State → Result (PlainCore × State) Fault
-  tried go depth c u = after (check_literals place [] u) (λ _ w. after (all_clauses go place level (deeper depth) [] [] w) (λ xs. give (matching c (clauses xs) place)))
+  tried go depth c u = after (check_literals place [] u) (λ _ w. after (all_clauses go (site_at place level (deeper depth)) [] [] w) (λ xs. give (matching c (clauses xs) place)))
 
-  faulted : (go : Inside) (depth : ℕ) (t : Tree) (r : Round) (f : Fault) → go.form place level (deeper depth) (within r s form) (next r s) ≡ Err f → Taking go place level (deeper depth) r s form → perform go place level depth t (plan place r form) (entered r s) ≡ Err f
+  faulted : (go : Inside) (depth : ℕ) (t : Tree) (r : Round) (f : Fault) → go.form (site_at place level (deeper depth)) (within r s form) (next r s) ≡ Err f → Taking go place level (deeper depth) r s form → perform go (site_at place level depth) t (plan place r form) (entered r s) ≡ Err f
   unfolding perform in_sequence call_form conditional each gather syntax_case set_form keywords_form bound_keywords fresh_frame
   faulted go depth t (sequence word) f e w = ap (λ x. after (after x (λ c u. Ok (c ∷ [], u))) (λ cs. give (sequence_of cs))) e
-  faulted go depth t operator f e w = ap (λ x. after x (λ c u. after (in_order go place level (deeper depth) [] u) (λ cs. give (call c (cores cs))))) e
-  faulted go depth t (test word) f e w = ap (λ x. after x (λ c u. after (go.form place level (deeper depth) truth u) (λ d. alternate go place level (deeper depth) c d None))) e
+  faulted go depth t operator f e w = ap (λ x. after x (λ c u. after (in_order go (site_at place level (deeper depth)) [] u) (λ cs. give (call c (cores cs))))) e
+  faulted go depth t (test word) f e w = ap (λ x. after x (λ c u. after (go.form (site_at place level (deeper depth)) truth u) (λ d. alternate go (site_at place level (deeper depth)) c d None))) e
   faulted go depth t (subject word) f e w = ap (λ x. after x (tried go depth)) e
   faulted go depth t (value word id v) f e w = ap (λ x. after x (λ c. give (assignment v.label c))) e
   faulted go depth t (keywords recursive word) f e w = ap (λ x. after (after x (λ c u. Ok (c ∷ [], u))) (λ cs. give (sequence_of cs))) e
@@ -398,14 +387,14 @@ module _ (place : Span) (level : ℕ) (form : Tree) (s : State) where
       block-faulted go place level (deeper depth) t form s star f (body-faulted go place level (deeper depth) t (stamp (next_frame s) form) (counted s) f w e)
   faulted go depth t (initial star word id l v) f e w = initial-faulted go place level (deeper depth) t form s star id l v w.bound truth f e
 
-  made : (go : Inside) (depth : ℕ) (t : Tree) (r : Round) (c : PlainCore) (u : State) → go.form place level (deeper depth) (within r s form) (next r s) ≡ Ok (c, u) → ((u : State) → go.form place level (deeper depth) truth u ≡ Ok (quoted (strip truth), u)) → TakesTruth go place level (deeper depth) → Taking go place level (deeper depth) r s form
-      → perform go place level depth t (plan place r form) (entered r s) ≡ Ok (code place r s c, left r s u)
+  made : (go : Inside) (depth : ℕ) (t : Tree) (r : Round) (c : PlainCore) (u : State) → go.form (site_at place level (deeper depth)) (within r s form) (next r s) ≡ Ok (c, u) → ((u : State) → go.form (site_at place level (deeper depth)) truth u ≡ Ok (quoted (strip truth), u)) → TakesTruth go place level (deeper depth) → Taking go place level (deeper depth) r s form
+      → perform go (site_at place level depth) t (plan place r form) (entered r s) ≡ Ok (code place r s c, left r s u)
   unfolding perform in_sequence call_form conditional each gather syntax_case set_form literals_on_stage keywords_form bound_keywords fresh_frame
   made go depth t (sequence word) c u e k m w = ap (λ x. after (after x (λ c u. Ok (c ∷ [], u))) (λ cs. give (sequence_of cs))) e
-  made go depth t operator c u e k m w = ap (λ x. after x (λ c u. after (in_order go place level (deeper depth) [] u) (λ cs. give (call c (cores cs))))) e
+  made go depth t operator c u e k m w = ap (λ x. after x (λ c u. after (in_order go (site_at place level (deeper depth)) [] u) (λ cs. give (call c (cores cs))))) e
   made go depth t (test word) c u e k m w =
-      ap (λ x. after x (λ c u. after (go.form place level (deeper depth) truth u) (λ d. alternate go place level (deeper depth) c d None))) e
-      ∙ ap (λ x. after x (λ d. alternate go place level (deeper depth) c d None)) (k u)
+      ap (λ x. after x (λ c u. after (go.form (site_at place level (deeper depth)) truth u) (λ d. alternate go (site_at place level (deeper depth)) c d None))) e
+      ∙ ap (λ x. after x (λ d. alternate go (site_at place level (deeper depth)) c d None)) (k u)
   made go depth t (subject word) c u e k m w = ap (λ x. after x (tried go depth)) e
   made go depth t (value word id v) c u e k m w = ap (λ x. after x (λ c. give (assignment v.label c))) e
   made go depth t (keywords recursive word) c u e k m w = ap (λ x. after (after x (λ c u. Ok (c ∷ [], u))) (λ cs. give (sequence_of cs))) e
@@ -423,32 +412,32 @@ module _ (place : Span) (level : ℕ) (form : Tree) (s : State) where
   -- where the form in a body is too deep for the first pass
   too-deep-in : (go : Inside) (depth : ℕ) (t word : Tree) (ids : List Tree) (fs : Formals) (v : State) (f : Fault) → AreFormals place level s ids fs v
       → go.item (lambda_at (next_frame v) place level) (deeper depth) begun (in_frames (next_frame (counted s)) (next_frame v) form) (counted v) ≡ Err f
-      → perform go place level depth t (plan place (body word ids fs v) form) s ≡ Err f
+      → perform go (site_at place level depth) t (plan place (body word ids fs v) form) s ≡ Err f
   unfolding perform
   too-deep-in go depth t word ids fs v f are e =
       lambda-faulted go place level (deeper depth) t form s (record { required = ids; rest = None }) fs v are.bound f
       (body-too-deep go place level (deeper depth) t (stamp (next_frame (counted s)) form) v f e)
 
   too-deep-case : (go : Inside) (depth : ℕ) (t word : Tree) (f : Fault) → go.item (lambda_at (next_frame (counted (counted s))) place level) (deeper depth) begun (in_frames (next_frame (counted s)) (next_frame (counted (counted s))) form) (counted (counted (counted s))) ≡ Err f
-      → perform go place level depth t (plan place (one_case word) form) s ≡ Err f
+      → perform go (site_at place level depth) t (plan place (one_case word) form) s ≡ Err f
   unfolding perform
   too-deep-case go depth t word f e =
       cases-faulted go place level (deeper depth) t form s f (body-too-deep go place level (deeper depth) t (stamp (next_frame (counted s)) form) (counted (counted s)) f e)
 
   too-deep-block : (go : Inside) (depth : ℕ) (t word : Tree) (star : Bool) (f : Fault) → go.item (lambda_at (next_frame (counted s)) place level) (deeper depth) begun (in_frames (next_frame s) (next_frame (counted s)) form) (counted (counted s)) ≡ Err f
-      → perform go place level depth t (plan place (block star word) form) s ≡ Err f
+      → perform go (site_at place level depth) t (plan place (block star word) form) s ≡ Err f
   unfolding perform
   too-deep-block go depth t word star f e =
       block-faulted go place level (deeper depth) t form s star f (body-too-deep go place level (deeper depth) t (stamp (next_frame s) form) (counted s) f e)
 
 module _ (records : List CompiledLibrary) (place : Span) (level : ℕ) where
-  at-room : (a b depth : ℕ) (u : Tree) (s : State) → a ≡ b → (inside records a).form place level depth u s ≡ (inside records b).form place level depth u s
-  at-room a b depth u s e = ap (λ n. (inside records n).form place level depth u s) e
+  at-room : (a b depth : ℕ) (u : Tree) (s : State) → a ≡ b → (inside records a).form (site_at place level depth) u s ≡ (inside records b).form (site_at place level depth) u s
+  at-room a b depth u s e = ap (λ n. (inside records n).form (site_at place level depth) u s) e
 
-  at-depth : (room depth : ℕ) (u : Tree) (s : State) → depth ≤ most_round → (inside records room).form place level (deeper depth) u s ≡ (inside records room).form place level (suc depth) u s
-  at-depth room depth u s few = ap (λ n. (inside records room).form place level n u s) (one-deeper depth few)
+  at-depth : (room depth : ℕ) (u : Tree) (s : State) → depth ≤ most_round → (inside records room).form (site_at place level (deeper depth)) u s ≡ (inside records room).form (site_at place level (suc depth)) u s
+  at-depth room depth u s few = ap (λ n. (inside records room).form (site_at place level n) u s) (one-deeper depth few)
 
-  atom-is : (room depth : ℕ) (o : Option Span) (a : Atom) (s : State) → depth ≤ most_round → is_nil_atom a ≡ false → (inside records (suc room)).form place level depth (atom o a) s ≡ Ok (quoted (strip (atom o a)), s)
+  atom-is : (room depth : ℕ) (o : Option Span) (a : Atom) (s : State) → depth ≤ most_round → is_nil_atom a ≡ false → (inside records (suc room)).form (site_at place level depth) (atom o a) s ≡ Ok (quoted (strip (atom o a)), s)
   atom-is room depth o a s few some = form-is records room place level depth (atom o a) s ∙ constant-is (inside records room) place level depth o a s few some
 
   -- Right in a body, with the stamps of two frames.
@@ -495,39 +484,39 @@ module _ (records : List CompiledLibrary) (place : Span) (level : ℕ) where
   -- with so many round it
   abbrev Refuses : ℕ → Type 0
   Refuses n = (t : Tree) (rs : List Round) (room depth : ℕ) (s : State) → is_leaf t ≡ false → length rs ≡ n → AreRound place level s rs → depth + n ≡ most_round + 1
-      → (inside records (n + room)).form place level depth (put_in rs t) s ≡ Err (fault_at kind.TooDeep t place [])
+      → (inside records (n + room)).form (site_at place level depth) (put_in rs t) s ≡ Err (fault_at kind.TooDeep t place [])
 
   refused-within : (n : ℕ) → Refuses n → (r : Round) (t : Tree) (rs : List Round) (room depth : ℕ) (s : State) → is_leaf t ≡ false → length rs ≡ n → AreRound place level (next r s) (rounds_within r s rs) → depth + n ≡ most_round + 1
-      → (inside records (n + room)).form place level depth (within r s (put_in rs t)) (next r s) ≡ Err (fault_at kind.TooDeep t place [])
+      → (inside records (n + room)).form (site_at place level depth) (within r s (put_in rs t)) (next r s) ≡ Err (fault_at kind.TooDeep t place [])
   refused-within n all (sequence word) t rs room depth s inner e is h = all t rs room depth s inner e is h
   refused-within n all operator t rs room depth s inner e is h = all t rs room depth s inner e is h
   refused-within n all (test word) t rs room depth s inner e is h = all t rs room depth s inner e is h
   refused-within n all (subject word) t rs room depth s inner e is h = all t rs room depth s inner e is h
   refused-within n all (value word id v) t rs room depth s inner e is h = all t rs room depth (next (value word id v) s) inner e is h
   refused-within n all (keywords recursive word) t rs room depth s inner e is h =
-      ap (λ x. (inside records (n + room)).form place level depth x (counted s)) (stamp-put-in (next_frame s) rs t)
+      ap (λ x. (inside records (n + room)).form (site_at place level depth) x (counted s)) (stamp-put-in (next_frame s) rs t)
       ∙ all (stamp (next_frame s) t) (map (stamp_round (next_frame s)) rs) room depth (counted s) (stamp-leaf (next_frame s) t ∙ inner) (stamp-length (next_frame s) rs ∙ e) is h
       ∙ ap (λ (f : Fault). Err f) (stamp-fault (next_frame s) t place)
   refused-within n all (body word ids fs v) t rs room depth s inner e is h =
-      ap (λ x. (inside records (n + room)).form place level depth x (counted v)) (frames-put-in (next_frame (counted s)) (next_frame v) rs t)
+      ap (λ x. (inside records (n + room)).form (site_at place level depth) x (counted v)) (frames-put-in (next_frame (counted s)) (next_frame v) rs t)
       ∙ all (in_frames (next_frame (counted s)) (next_frame v) t) (rounds_in_frames (next_frame (counted s)) (next_frame v) rs) room depth (counted v) (frames-leaf (next_frame (counted s)) (next_frame v) t ∙ inner) (frames-length (next_frame (counted s)) (next_frame v) rs ∙ e) is h
       ∙ ap (λ (f : Fault). Err f) (frames-fault (next_frame (counted s)) (next_frame v) t)
   refused-within n all (one_case word) t rs room depth s inner e is h =
-      ap (λ x. (inside records (n + room)).form place level depth x (counted (counted (counted s)))) (frames-put-in (next_frame (counted s)) (next_frame (counted (counted s))) rs t)
+      ap (λ x. (inside records (n + room)).form (site_at place level depth) x (counted (counted (counted s)))) (frames-put-in (next_frame (counted s)) (next_frame (counted (counted s))) rs t)
       ∙ all (in_frames (next_frame (counted s)) (next_frame (counted (counted s))) t) (rounds_in_frames (next_frame (counted s)) (next_frame (counted (counted s))) rs) room depth (counted (counted (counted s))) (frames-leaf (next_frame (counted s)) (next_frame (counted (counted s))) t ∙ inner) (frames-length (next_frame (counted s)) (next_frame (counted (counted s))) rs ∙ e) is h
       ∙ ap (λ (f : Fault). Err f) (frames-fault (next_frame (counted s)) (next_frame (counted (counted s))) t)
   refused-within n all (block star word) t rs room depth s inner e is h =
-      ap (λ x. (inside records (n + room)).form place level depth x (counted (counted s))) (frames-put-in (next_frame s) (next_frame (counted s)) rs t)
+      ap (λ x. (inside records (n + room)).form (site_at place level depth) x (counted (counted s))) (frames-put-in (next_frame s) (next_frame (counted s)) rs t)
       ∙ all (in_frames (next_frame s) (next_frame (counted s)) t) (rounds_in_frames (next_frame s) (next_frame (counted s)) rs) room depth (counted (counted s)) (frames-leaf (next_frame s) (next_frame (counted s)) t ∙ inner) (frames-length (next_frame s) (next_frame (counted s)) rs ∙ e) is h
       ∙ ap (λ (f : Fault). Err f) (frames-fault (next_frame s) (next_frame (counted s)) t)
   refused-within n all (initial star word id l v) t rs room depth s inner e is h =
-      ap (λ x. (inside records (n + room)).form place level depth x v) (stamp-put-in (next_frame s) rs t)
+      ap (λ x. (inside records (n + room)).form (site_at place level depth) x v) (stamp-put-in (next_frame s) rs t)
       ∙ all (stamp (next_frame s) t) (map (stamp_round (next_frame s)) rs) room depth v (stamp-leaf (next_frame s) t ∙ inner) (stamp-length (next_frame s) rs ∙ e) is h
       ∙ ap (λ (f : Fault). Err f) (stamp-fault (next_frame s) t place)
 
   -- one more of them
   refused-in : (n : ℕ) → Refuses n → (r : Round) (t : Tree) (rs : List Round) (room depth : ℕ) (s : State) → is_leaf t ≡ false → length rs ≡ n → IsRound place level s r rs → AreRound place level (next r s) (rounds_within r s rs) → depth + suc n ≡ most_round + 1
-      → perform (inside records (n + room)) place level depth (put r (put_in rs t)) (plan place r (put_in rs t)) (entered r s) ≡ Err (fault_at kind.TooDeep t place [])
+      → perform (inside records (n + room)) (site_at place level depth) (put r (put_in rs t)) (plan place r (put_in rs t)) (entered r s) ≡ Err (fault_at kind.TooDeep t place [])
   refused-in n all (sequence word) t rs room depth s inner e is more h =
       faulted place level (put_in rs t) s (inside records (n + room)) depth (put (sequence word) (put_in rs t)) (sequence word) (fault_at kind.TooDeep t place []) (at-depth (n + room) depth (within (sequence word) s (put_in rs t)) (next (sequence word) s) (omega (arith, h)) ∙ refused-within n all (sequence word) t rs room (suc depth) s inner e more (omega (arith, h))) tt
   refused-in n all operator t rs room depth s inner e is more h =
@@ -593,7 +582,7 @@ module _ (records : List CompiledLibrary) (place : Span) (level : ℕ) where
 
     abbrev Takes : ℕ → Type 0
     Takes n = (rs : List Round) (room depth : ℕ) (s : State) → length rs ≡ n → AreRound place level s rs → depth + n ≤ most_round
-        → (inside records (n + suc room)).form place level depth (put_in rs (atom o a)) s ≡ Ok (code_in place rs s constant, all_left rs s)
+        → (inside records (n + suc room)).form (site_at place level depth) (put_in rs (atom o a)) s ≡ Ok (code_in place rs s constant, all_left rs s)
 
     frames-code : (f g : FrameNo) (rs : List Round) (u : State) → code_in place (rounds_in_frames f g rs) u constant ≡ code_in place rs u constant
     frames-code f g rs u = stamp-code-in g place (map (stamp_round f) rs) u constant ∙ stamp-code-in f place rs u constant
@@ -602,30 +591,30 @@ module _ (records : List CompiledLibrary) (place : Span) (level : ℕ) where
     frames-left f g rs u = stamp-all-left g (map (stamp_round f) rs) u ∙ stamp-all-left f rs u
 
     taken-within : (n : ℕ) → Takes n → (r : Round) (rs : List Round) (room depth : ℕ) (s : State) → length rs ≡ n → AreRound place level (next r s) (rounds_within r s rs) → depth + n ≤ most_round
-        → (inside records (n + suc room)).form place level depth (within r s (put_in rs (atom o a))) (next r s) ≡ Ok (code_in place rs (next r s) constant, all_left rs (next r s))
+        → (inside records (n + suc room)).form (site_at place level depth) (within r s (put_in rs (atom o a))) (next r s) ≡ Ok (code_in place rs (next r s) constant, all_left rs (next r s))
     taken-within n all (sequence word) rs room depth s e is h = all rs room depth s e is h
     taken-within n all operator rs room depth s e is h = all rs room depth s e is h
     taken-within n all (test word) rs room depth s e is h = all rs room depth s e is h
     taken-within n all (subject word) rs room depth s e is h = all rs room depth s e is h
     taken-within n all (value word id v) rs room depth s e is h = all rs room depth (next (value word id v) s) e is h
     taken-within n all (keywords recursive word) rs room depth s e is h =
-        ap (λ x. (inside records (n + suc room)).form place level depth x (counted s)) (stamp-put-in (next_frame s) rs (atom o a))
+        ap (λ x. (inside records (n + suc room)).form (site_at place level depth) x (counted s)) (stamp-put-in (next_frame s) rs (atom o a))
         ∙ all (map (stamp_round (next_frame s)) rs) room depth (counted s) (stamp-length (next_frame s) rs ∙ e) is h
         ∙ (λ i. Ok (stamp-code-in (next_frame s) place rs (counted s) constant i, stamp-all-left (next_frame s) rs (counted s) i))
     taken-within n all (body word ids fs v) rs room depth s e is h =
-        ap (λ x. (inside records (n + suc room)).form place level depth x (counted v)) (frames-put-in (next_frame (counted s)) (next_frame v) rs (atom o a))
+        ap (λ x. (inside records (n + suc room)).form (site_at place level depth) x (counted v)) (frames-put-in (next_frame (counted s)) (next_frame v) rs (atom o a))
         ∙ all (rounds_in_frames (next_frame (counted s)) (next_frame v) rs) room depth (counted v) (frames-length (next_frame (counted s)) (next_frame v) rs ∙ e) is h
         ∙ (λ i. Ok (frames-code (next_frame (counted s)) (next_frame v) rs (counted v) i, frames-left (next_frame (counted s)) (next_frame v) rs (counted v) i))
     taken-within n all (one_case word) rs room depth s e is h =
-        ap (λ x. (inside records (n + suc room)).form place level depth x (counted (counted (counted s)))) (frames-put-in (next_frame (counted s)) (next_frame (counted (counted s))) rs (atom o a))
+        ap (λ x. (inside records (n + suc room)).form (site_at place level depth) x (counted (counted (counted s)))) (frames-put-in (next_frame (counted s)) (next_frame (counted (counted s))) rs (atom o a))
         ∙ all (rounds_in_frames (next_frame (counted s)) (next_frame (counted (counted s))) rs) room depth (counted (counted (counted s))) (frames-length (next_frame (counted s)) (next_frame (counted (counted s))) rs ∙ e) is h
         ∙ (λ i. Ok (frames-code (next_frame (counted s)) (next_frame (counted (counted s))) rs (counted (counted (counted s))) i, frames-left (next_frame (counted s)) (next_frame (counted (counted s))) rs (counted (counted (counted s))) i))
     taken-within n all (block star word) rs room depth s e is h =
-        ap (λ x. (inside records (n + suc room)).form place level depth x (counted (counted s))) (frames-put-in (next_frame s) (next_frame (counted s)) rs (atom o a))
+        ap (λ x. (inside records (n + suc room)).form (site_at place level depth) x (counted (counted s))) (frames-put-in (next_frame s) (next_frame (counted s)) rs (atom o a))
         ∙ all (rounds_in_frames (next_frame s) (next_frame (counted s)) rs) room depth (counted (counted s)) (frames-length (next_frame s) (next_frame (counted s)) rs ∙ e) is h
         ∙ (λ i. Ok (frames-code (next_frame s) (next_frame (counted s)) rs (counted (counted s)) i, frames-left (next_frame s) (next_frame (counted s)) rs (counted (counted s)) i))
     taken-within n all (initial star word id l v) rs room depth s e is h =
-        ap (λ x. (inside records (n + suc room)).form place level depth x v) (stamp-put-in (next_frame s) rs (atom o a))
+        ap (λ x. (inside records (n + suc room)).form (site_at place level depth) x v) (stamp-put-in (next_frame s) rs (atom o a))
         ∙ all (map (stamp_round (next_frame s)) rs) room depth v (stamp-length (next_frame s) rs ∙ e) is h
         ∙ (λ i. Ok (stamp-code-in (next_frame s) place rs v constant i, stamp-all-left (next_frame s) rs v i))
 
@@ -638,7 +627,7 @@ module _ (records : List CompiledLibrary) (place : Span) (level : ℕ) where
     at-room-taken : (a b depth : ℕ) (u : State) → a ≡ b → IsTaken (inside records a) (lambda_at (next_frame u) place level) depth truth (counted u) → IsTaken (inside records b) (lambda_at (next_frame u) place level) depth truth (counted u)
     at-room-taken a b depth u e h = subst (λ n. IsTaken (inside records n) (lambda_at (next_frame u) place level) depth truth (counted u)) e h
 
-    truth-is : (n room depth : ℕ) (u : State) → suc depth ≤ most_round → (inside records (n + suc room)).form place level (deeper depth) truth u ≡ Ok (quoted (strip truth), u)
+    truth-is : (n room depth : ℕ) (u : State) → suc depth ≤ most_round → (inside records (n + suc room)).form (site_at place level (deeper depth)) truth u ≡ Ok (quoted (strip truth), u)
     truth-is n room depth u few =
         at-depth (n + suc room) depth truth u (omega (arith, few)) ∙ at-room (n + suc room) (suc (n + room)) (suc depth) truth u (omega arith) ∙ atom-is (n + room) (suc depth) None (atoms.Bool true) u few refl
 
@@ -648,7 +637,7 @@ module _ (records : List CompiledLibrary) (place : Span) (level : ℕ) where
         (is-taken records (n + room) (lambda_at (next_frame u) place level) (deeper depth) truth (counted u) (few-deeper depth most_round (omega (arith, few)) few) (record { kept = begun.kept; planned = refl }))
 
     made-in : (n : ℕ) → Takes n → (r : Round) (rs : List Round) (room depth : ℕ) (s : State) → length rs ≡ n → IsRound place level s r rs → AreRound place level (next r s) (rounds_within r s rs) → depth + suc n ≤ most_round
-        → perform (inside records (n + suc room)) place level depth (put r (put_in rs (atom o a))) (plan place r (put_in rs (atom o a))) (entered r s) ≡ Ok (code_in place (r ∷ rs) s constant, all_left (r ∷ rs) s)
+        → perform (inside records (n + suc room)) (site_at place level depth) (put r (put_in rs (atom o a))) (plan place r (put_in rs (atom o a))) (entered r s) ≡ Ok (code_in place (r ∷ rs) s constant, all_left (r ∷ rs) s)
     made-in n all (sequence word) rs room depth s e is more h =
         made place level (put_in rs (atom o a)) s (inside records (n + suc room)) depth (put (sequence word) (put_in rs (atom o a))) (sequence word) (code_in place rs (next (sequence word) s) constant) (all_left rs (next (sequence word) s))
         (at-depth (n + suc room) depth (within (sequence word) s (put_in rs (atom o a))) (next (sequence word) s) (omega (arith, h)) ∙ taken-within n all (sequence word) rs room (suc depth) s e more (omega (arith, h)))

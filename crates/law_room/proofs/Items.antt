@@ -24,6 +24,8 @@ use Rattle.expand_forms.specs.Inside.{Inside}
 use Rattle.expand_forms.specs.Keywords.{define_syntax, with_keywords}
 use Rattle.expand_forms.specs.ExpandUses.{expand_item_uses}
 use Rattle.expand_forms.specs.declared.expand_uses.PlannedItem.{PlannedItem}
+use Rattle.expand_forms.specs.Site.{site_at}
+use Rattle.expand_forms.specs.Forms.{definition_parts, let_syntax_parts, procedure_parts}
 use Rattle.law_room.proofs.Same.{Gave, gave-after, gave-any, gave-if, gave-gather, same-after, same-framed}
 use Rattle.law_room.proofs.Waiting.{WaitsFrom, from-expand_uses}
 
@@ -45,12 +47,10 @@ module _ (go : Inside) (keeps : Keeps go) (n : ℕ) where
   unfolding perform_item
   keeps-perform at depth done t items.Nothing s le h = h
   keeps-perform at depth done t (items.Forms forms) s le h = keeps-splice at (deeper depth) done forms s (deeper-from n depth le) h
-  keeps-perform at depth done t (items.Keyword b) s le h = gave-any (WaitsFrom n) (define_syntax go at (deeper depth) done t b s) (λ _. give done) (λ a u. h)
+  keeps-perform at depth done t (items.Keyword b) s le h = gave-any (WaitsFrom n) (define_syntax go at (deeper depth) done (definition_parts t b) s) (λ _. give done) (λ a u. h)
   keeps-perform at depth done t (items.Keywords recursive bs forms) s le h =
-      gave-any (WaitsFrom n) (with_keywords go at.place at.level (deeper depth) recursive bs forms s) (splice go at (deeper depth) done)
+      gave-any (WaitsFrom n) (with_keywords go (site_at at.place at.level (deeper depth)) (let_syntax_parts recursive bs forms) s) (splice go at (deeper depth) done)
       (λ fs u. keeps-splice at (deeper depth) done fs u (deeper-from n depth le) h)
-  keeps-perform at depth done t (items.Use k) s le h = tt
-  keeps-perform at depth done t (items.SetUse l) s le h = tt
 
   keeps-item : (at : BodyAt) (depth : ℕ) (done : Taken) (t : Tree) (s : State) → n ≤ depth → WaitsFrom n done → Gave (WaitsFrom n) (item go at depth done t s)
   unfolding item
@@ -83,23 +83,23 @@ module _ (go ho : Inside) (low : IsShallow go) (lower : IsShallow ho) (depth : �
   unfolding finish
   deep-finish place level t s = refl
 
-  deep-body-in : (place : Span) (level : ℕ) (t : Tree) (forms : List Tree) (frame : FrameNo) (s : State) → body_in go place level depth t forms frame s ≡ body_in ho place level depth t forms frame s
+  deep-body-in : (place : Span) (level : ℕ) (t : Tree) (forms : List Tree) (frame : FrameNo) (s : State) → body_in go (site_at place level depth) t forms frame s ≡ body_in ho (site_at place level depth) t forms frame s
   unfolding gather
   deep-body-in place level t [] frame s = deep-finish place level t s
   deep-body-in place level t (x ∷ xs) frame s =
       ap (λ r. after (after r (λ e. gather (go.item (lambda_at frame place level) depth) e (map (stamp frame) xs))) (finish go place level t)) (low (lambda_at frame place level) depth begun (stamp frame x) s deep)
       ∙ sym (ap (λ r. after (after r (λ e. gather (ho.item (lambda_at frame place level) depth) e (map (stamp frame) xs))) (finish ho place level t)) (lower (lambda_at frame place level) depth begun (stamp frame x) s deep))
 
-  pub deep-body : (place : Span) (level : ℕ) (t : Tree) (forms : List Tree) (s : State) → body go place level depth t forms s ≡ body ho place level depth t forms s
+  pub deep-body : (place : Span) (level : ℕ) (t : Tree) (forms : List Tree) (s : State) → body go (site_at place level depth) t forms s ≡ body ho (site_at place level depth) t forms s
   unfolding body
-  deep-body place level t forms s = same-framed (body_in go place level depth t forms) (body_in ho place level depth t forms) s (λ frame u. deep-body-in place level t forms frame u)
+  deep-body place level t forms s = same-framed (body_in go (site_at place level depth) t forms) (body_in ho (site_at place level depth) t forms) s (λ frame u. deep-body-in place level t forms frame u)
 
-  deep-case-in : (place : Span) (level : ℕ) (t : Tree) (ids : FormalIds) (forms : List Tree) (frame : FrameNo) (s : State) → case_in go place level depth t ids forms frame s ≡ case_in ho place level depth t ids forms frame s
+  deep-case-in : (place : Span) (level : ℕ) (t : Tree) (ids : FormalIds) (forms : List Tree) (frame : FrameNo) (s : State) → case_in go (site_at place level depth) (procedure_parts t ids forms) frame s ≡ case_in ho (site_at place level depth) (procedure_parts t ids forms) frame s
   deep-case-in place level t ids forms frame s =
       same-after (bind_formals frame place level ids s) _ _
       (λ formals u. ap (λ r. after r (λ c. give (record { formals = formals; body = c }))) (deep-body place level t (map (stamp frame) forms) u))
 
-  pub deep-case : (place : Span) (level : ℕ) (t : Tree) (ids : FormalIds) (forms : List Tree) (s : State) → lambda_case go place level depth t ids forms s ≡ lambda_case ho place level depth t ids forms s
+  pub deep-case : (place : Span) (level : ℕ) (t : Tree) (ids : FormalIds) (forms : List Tree) (s : State) → lambda_case go (site_at place level depth) (procedure_parts t ids forms) s ≡ lambda_case ho (site_at place level depth) (procedure_parts t ids forms) s
   unfolding lambda_case
   deep-case place level t ids forms s =
-      same-framed (case_in go place level depth t ids forms) (case_in ho place level depth t ids forms) s (λ frame u. deep-case-in place level t ids forms frame u)
+      same-framed (case_in go (site_at place level depth) (procedure_parts t ids forms)) (case_in ho (site_at place level depth) (procedure_parts t ids forms)) s (λ frame u. deep-case-in place level t ids forms frame u)

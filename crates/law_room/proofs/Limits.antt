@@ -16,6 +16,7 @@ use Rattle.core_shapes.specs.Forms.{shaped, shape_of, shape}
 use Rattle.core_shapes.specs.Lists.{is_nil_atom}
 use Rattle.expand_standing.specs.Standing.{standing_of, role_of}
 use Rattle.expand_standing.specs.State.{State, fault_form}
+use Rattle.expand_heads.specs.declared.plan.HeadPlan.TheVariants as head_plans
 use Rattle.expand_heads.specs.Depth.{deeper, most_round}
 use Rattle.expand_heads.specs.Plan.{application, by_head, constant, keyword_plan, list_plan, plan_of, shape_plan}
 use Rattle.expand_heads.specs.declared.plan.Plan.{Plan}
@@ -25,7 +26,7 @@ use Rattle.expand_forms.specs.Expanding.{expression}
 use Rattle.expand_forms.specs.Expression.{in_sequence, perform, perform_settled, form_at, inside, full_room}
 use Rattle.expand_forms.specs.Inside.{Inside}
 use Rattle.expand_forms.specs.ExpandUses.{next_form, too_many, step_of, step, linked, planned_by, expand_uses_to, expand_uses}
-use Rattle.expand_forms.specs.declared.expand_uses.PlanOrUse.TheVariants as steps
+use Rattle.expand_forms.specs.Site.{outermost, site_at}
 use Rattle.law_room.specs.Limit.{begun, IsBegin, LimitOfNesting}
 use Rattle.law_room.proofs.Items.{shallow-inside}
 use Rattle.law_room.proofs.Rooms.{form-is, too-deep-form, forms-need-no-more}
@@ -39,19 +40,17 @@ within-limit depth h = grind (arith, nat_tests)
 -- A form that is no use is done at once.
 
 module _ (go : Inside) (place : Span) (level depth : ℕ) (t : Tree) (s v : State) (p : Plan) (few : depth ≤ most_round) where
-  settled-by : (left : ℕ) → plan_of place level t s ≡ Ok (p, v) → ((rs : List CompiledLibrary) → step_of rs place t p v ≡ Ok (steps.Plan p, v)) → expand_uses_to go.earlier left place level t s ≡ Ok (record { place = place; form = t; plan = p }, linked t p v)
+  settled-by : (left : ℕ) → plan_of place level t s ≡ Ok (head_plans.Plan p, v) → expand_uses_to go.earlier left place level t s ≡ Ok (record { place = place; form = t; plan = p }, linked t p v)
   unfolding expand_uses_to step
-  settled-by zero e k =
-      ap (λ r. after (after r (step_of go.earlier place t)) (planned_by (λ k. too_many t place) place t)) e ∙ ap (λ r. after r (planned_by (λ k. too_many t place) place t)) (k go.earlier)
-  settled-by (suc left) e k =
+  settled-by zero e = ap (λ r. after (after r (step_of go.earlier place t)) (planned_by (λ k. too_many t place) place t)) e
+  settled-by (suc left) e =
       ap (λ r. after (after r (step_of go.earlier place t)) (planned_by (λ m s'. after (next_form go.earlier left place t m None s') (expand_uses_to go.earlier left (place_of t place) level)) place t)) e
-      ∙ ap (λ r. after r (planned_by (λ m s'. after (next_form go.earlier left place t m None s') (expand_uses_to go.earlier left (place_of t place) level)) place t)) (k go.earlier)
 
-  pub done-at : plan_of place level t s ≡ Ok (p, v) → ((rs : List CompiledLibrary) → step_of rs place t p v ≡ Ok (steps.Plan p, v)) → form_at go place level depth t s ≡ perform go place level depth t p (linked t p v)
+  pub done-at : plan_of place level t s ≡ Ok (head_plans.Plan p, v) → form_at go (site_at place level depth) t s ≡ perform go (site_at place level depth) t p (linked t p v)
   unfolding form_at
-  done-at e k =
+  done-at e =
       ap (λ b. if b then fault_form kind.TooDeep t place s else after (expand_uses go.earlier place level t s) (perform_settled go level depth)) (within-limit depth few)
-      ∙ ap (λ r. after r (perform_settled go level depth)) (settled-by s.uses_left e k)
+      ∙ ap (λ r. after r (perform_settled go level depth)) (settled-by s.uses_left e)
 
 -- A form of `begin` is as the form in it, one deeper.
 
@@ -59,7 +58,7 @@ module _ (place : Span) (level : ℕ) (o : Option Span) (word form : Tree) (s : 
   abbrev T : Tree
   T = pair o word (pair None form nil)
 
-  begin-plan : plan_of place level T s ≡ Ok (plans.Sequence (form ∷ []), s)
+  begin-plan : plan_of place level T s ≡ Ok (head_plans.Plan (plans.Sequence (form ∷ [])), s)
   unfolding list_plan keyword_plan shape_plan role_of shape shape_of shaped
   begin-plan =
       ap (λ b. if b then by_head place level T word (pair None form nil) (standing_of s word) s else application place T word (pair None form nil) s) is.leaf ∙ ap (λ x. by_head place level T word (pair None form nil) x s) is.stands
@@ -68,43 +67,43 @@ only : (r : Result (PlainCore × State) Fault) → after (after r (λ c s. Ok (c
 only (Ok x) = refl
 only (Err f) = refl
 
-begin-performed : (go : Inside) (place : Span) (level depth : ℕ) (t form : Tree) (s : State) → perform go place level depth t (plans.Sequence (form ∷ [])) s ≡ go.form place level (deeper depth) form s
+begin-performed : (go : Inside) (place : Span) (level depth : ℕ) (t form : Tree) (s : State) → perform go (site_at place level depth) t (plans.Sequence (form ∷ [])) s ≡ go.form (site_at place level (deeper depth)) form s
 unfolding perform in_sequence each
-begin-performed go place level depth t form s = only (go.form place level (deeper depth) form s)
+begin-performed go place level depth t form s = only (go.form (site_at place level (deeper depth)) form s)
 
 pub one-deeper : (depth : ℕ) → depth ≤ most_round → deeper depth ≡ suc depth
 one-deeper depth few = ap (λ b. if b then depth else depth + 1) (within-limit depth few) ∙ (omega arith)
 
 module _ (rs : List CompiledLibrary) (place : Span) (level : ℕ) (word t : Tree) (s : State) (is : IsBegin s word) where
-  begin-in : (room depth : ℕ) (o : Option Span) (form : Tree) → depth ≤ most_round → (inside rs (suc room)).form place level depth (pair o word (pair None form nil)) s ≡ (inside rs room).form place level (suc depth) form s
+  begin-in : (room depth : ℕ) (o : Option Span) (form : Tree) → depth ≤ most_round → (inside rs (suc room)).form (site_at place level depth) (pair o word (pair None form nil)) s ≡ (inside rs room).form (site_at place level (suc depth)) form s
   begin-in room depth o form few =
       form-is rs room place level depth (pair o word (pair None form nil)) s
-      ∙ done-at (inside rs room) place level depth (pair o word (pair None form nil)) s s (plans.Sequence (form ∷ [])) few (begin-plan place level o word form s is) (λ rs. refl)
+      ∙ done-at (inside rs room) place level depth (pair o word (pair None form nil)) s s (plans.Sequence (form ∷ [])) few (begin-plan place level o word form s is)
       ∙ begin-performed (inside rs room) place level depth (pair o word (pair None form nil)) form s
-      ∙ ap (λ n. (inside rs room).form place level n form s) (one-deeper depth few)
+      ∙ ap (λ n. (inside rs room).form (site_at place level n) form s) (one-deeper depth few)
 
-  room-is : (a b depth : ℕ) (u : Tree) → a ≡ b → (inside rs a).form place level depth u s ≡ (inside rs b).form place level depth u s
-  room-is a b depth u e = ap (λ n. (inside rs n).form place level depth u s) e
+  room-is : (a b depth : ℕ) (u : Tree) → a ≡ b → (inside rs a).form (site_at place level depth) u s ≡ (inside rs b).form (site_at place level depth) u s
+  room-is a b depth u e = ap (λ n. (inside rs n).form (site_at place level depth) u s) e
 
-  depth-is : (room a b : ℕ) → a ≡ b → (inside rs room).form place level a t s ≡ (inside rs room).form place level b t s
-  depth-is room a b e = ap (λ n. (inside rs room).form place level n t s) e
+  depth-is : (room a b : ℕ) → a ≡ b → (inside rs room).form (site_at place level a) t s ≡ (inside rs room).form (site_at place level b) t s
+  depth-is room a b e = ap (λ n. (inside rs room).form (site_at place level n) t s) e
 
-  all-begins : (ss : List (Option Span)) (room depth : ℕ) → depth + length ss ≤ most_round + 1 → (inside rs (length ss + room)).form place level depth (begun ss word t) s ≡ (inside rs room).form place level (depth + length ss) t s
+  all-begins : (ss : List (Option Span)) (room depth : ℕ) → depth + length ss ≤ most_round + 1 → (inside rs (length ss + room)).form (site_at place level depth) (begun ss word t) s ≡ (inside rs room).form (site_at place level (depth + length ss)) t s
   all-begins [] room depth h = room-is (length {A = Option Span} [] + room) room depth t (omega arith) ∙ depth-is room depth (depth + length {A = Option Span} []) (omega arith)
   all-begins (o ∷ ss) room depth h =
       room-is (length (o ∷ ss) + room) (suc (length ss + room)) depth (begun (o ∷ ss) word t) (omega arith) ∙ begin-in (length ss + room) depth o (begun ss word t) (omega (arith, h))
       ∙ all-begins ss room (suc depth) (omega (arith, h)) ∙ depth-is room (suc depth + length ss) (depth + length (o ∷ ss)) (omega arith)
 
 begins-are : (rs : List CompiledLibrary) (place : Span) (level : ℕ) (ss : List (Option Span)) (word t : Tree) (s : State) → IsBegin s word → length ss ≤ most_round + 1
-    → expression rs place level (begun ss word t) s ≡ (inside rs full_room).form place level (length ss) t s
+    → expression rs (outermost place level) (begun ss word t) s ≡ (inside rs full_room).form (site_at place level (length ss)) t s
 begins-are rs place level ss word t s is few =
     forms-need-no-more rs full_room (length ss + full_room) place level 0 (begun ss word t) s (omega arith) (omega arith) ∙ all-begins rs place level word t s is ss full_room 0 (omega (arith, few))
     ∙ depth-is rs place level word t s is full_room (0 + length ss) (length ss) (omega arith)
 
-pub constant-is : (go : Inside) (place : Span) (level depth : ℕ) (o : Option Span) (a : Atom) (s : State) → depth ≤ most_round → is_nil_atom a ≡ false → form_at go place level depth (atom o a) s ≡ Ok (quoted (strip (atom o a)), s)
+pub constant-is : (go : Inside) (place : Span) (level depth : ℕ) (o : Option Span) (a : Atom) (s : State) → depth ≤ most_round → is_nil_atom a ≡ false → form_at go (site_at place level depth) (atom o a) s ≡ Ok (quoted (strip (atom o a)), s)
 unfolding perform
 constant-is go place level depth o a s few some =
-    done-at go place level depth (atom o a) s s (plans.Done (quoted (strip (atom o a)))) few (ap (λ b. constant place (atom o a) b s) some) (λ rs. refl)
+    done-at go place level depth (atom o a) s s (plans.Done (quoted (strip (atom o a)))) few (ap (λ b. constant place (atom o a) b s) some)
 
 pub limit-of-nesting : LimitOfNesting
 limit-of-nesting = record {

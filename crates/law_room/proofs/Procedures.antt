@@ -24,9 +24,10 @@ use Rattle.expand_standing.specs.InScope.{leaving, cut}
 use Rattle.expand_standing.specs.Standing.{standing_of}
 use Rattle.expand_standing.specs.State.{State, fresh, fresh_frame, fault_form}
 use Rattle.expand_standing.specs.declared.binders.BoundSpec.{BoundSpec}
+use Rattle.expand_heads.specs.declared.item.HeadItem.{HeadItem}
+use Rattle.expand_heads.specs.declared.item.HeadItem.TheVariants as head_items
 use Rattle.expand_heads.specs.Items.{alone, begun, core_item, headed_item, item_plan, keep, kept_head, list_item, wait, waiting_at}
 use Rattle.expand_heads.specs.Kept.{Heads, with_head}
-use Rattle.expand_heads.specs.declared.item.Item.{Item}
 use Rattle.expand_heads.specs.declared.item.Item.TheVariants as items
 use Rattle.expand_heads.specs.declared.taken.BodyAt.{BodyAt}
 use Rattle.expand_heads.specs.declared.taken.Taken.{Taken}
@@ -36,6 +37,8 @@ use Rattle.expand_forms.specs.Body.{body, body_core, finish, finish_as, finish_o
 use Rattle.expand_forms.specs.Expression.{all_inits, case_lambda, lambda, lambda_case, letrec_form, one_case, one_init, inside}
 use Rattle.expand_forms.specs.Inside.{Inside}
 use Rattle.expand_forms.specs.ExpandUses.{at_use, item_by, item_step, item_step_of, next_form, expand_item_uses, expand_item_uses_to, too_many}
+use Rattle.expand_forms.specs.Site.{site_at}
+use Rattle.expand_forms.specs.Forms.{letrec_parts, procedure_parts}
 use Rattle.law_room.specs.Counted.{IsKeywordWord, counted}
 use Rattle.law_room.proofs.Limits.{within-limit}
 
@@ -50,21 +53,21 @@ pub record IsTaken (go : Inside) (at : BodyAt) (depth : ℕ) (t : Tree) (s : Sta
 
 pub record IsPlanned (at : BodyAt) (depth : ℕ) (t : Tree) (s : State) : Type 0 where
   pub kept : Heads
-  pub planned : item_plan at depth begun t s ≡ Ok ((one_waits at depth t kept, items.Nothing), s)
+  pub planned : item_plan at depth begun t s ≡ Ok ((one_waits at depth t kept, head_items.Item items.Nothing), s)
 
 item-is : (rs : List CompiledLibrary) (room : ℕ) (at : BodyAt) (depth : ℕ) (done : Taken) (t : Tree) (s : State) → (inside rs (suc room)).item at depth done t s ≡ item (inside rs room) at depth done t s
 unfolding inside
 item-is rs room at depth done t s = refl
 
 module _ (go : Inside) (at : BodyAt) (depth : ℕ) (t : Tree) (s : State) (done : Taken) where
-  settled : (left : ℕ) → item_plan at depth begun t s ≡ Ok ((done, items.Nothing), s) → expand_item_uses_to go.earlier left at depth begun t s ≡ Ok ((done, record { at = at; form = t; item = items.Nothing }), s)
+  settled : (left : ℕ) → item_plan at depth begun t s ≡ Ok ((done, head_items.Item items.Nothing), s) → expand_item_uses_to go.earlier left at depth begun t s ≡ Ok ((done, record { at = at; form = t; item = (head_items.Item items.Nothing) }), s)
   unfolding expand_item_uses_to item_step
-  settled zero e = ap (λ r. after (after r (λ (p : Taken × Item). item_step_of go.earlier at depth t p.0 p.1)) (item_by (λ done k. too_many t at.place) at t)) e
+  settled zero e = ap (λ r. after (after r (λ (p : Taken × HeadItem). item_step_of go.earlier at depth t p.0 p.1)) (item_by (λ done k. too_many t at.place) at t)) e
   settled (suc left) e =
-      ap (λ r. after (after r (λ (p : Taken × Item). item_step_of go.earlier at depth t p.0 p.1))
+      ap (λ r. after (after r (λ (p : Taken × HeadItem). item_step_of go.earlier at depth t p.0 p.1))
       (item_by (λ taken k s'. after (next_form go.earlier left at.place t k (Some at.frame) s') (expand_item_uses_to go.earlier left (at_use at t) depth taken)) at t)) e
 
-  item-taken : depth ≤ most_round → item_plan at depth begun t s ≡ Ok ((done, items.Nothing), s) → item go at depth begun t s ≡ Ok (done, s)
+  item-taken : depth ≤ most_round → item_plan at depth begun t s ≡ Ok ((done, head_items.Item items.Nothing), s) → item go at depth begun t s ≡ Ok (done, s)
   unfolding item perform_item
   item-taken few e =
       ap (λ b. if b then fault_form kind.TooDeep t at.place s else after (expand_item_uses go.earlier at depth begun t s) (perform_settled go depth)) (within-limit depth few)
@@ -92,25 +95,25 @@ module _ (go : Inside) (place : Span) (level depth : ℕ) (t form : Tree) (s : S
   abbrev pub u : State
   u = record s { names = record { library = s.names.library; number = s.names.number + 1 } }
 
-  pub body-too-deep : (e : Fault) → go.item (lambda_at f place level) depth begun (stamp f form) u ≡ Err e → body go place level depth t (form ∷ []) s ≡ Err e
+  pub body-too-deep : (e : Fault) → go.item (lambda_at f place level) depth begun (stamp f form) u ≡ Err e → body go (site_at place level depth) t (form ∷ []) s ≡ Err e
   unfolding body fresh_frame gather
   body-too-deep e h =
       ap (λ r. after (after (after r (λ d. gather (go.item (lambda_at f place level) depth) d [])) (finish go place level t)) (leaving (length s.scope))) h
 
-  started : (done : Taken) → go.item (lambda_at f place level) depth begun (stamp f form) u ≡ Ok (done, u) → body go place level depth t (form ∷ []) s ≡ after (finish go place level t done u) (leaving (length s.scope))
+  started : (done : Taken) → go.item (lambda_at f place level) depth begun (stamp f form) u ≡ Ok (done, u) → body go (site_at place level depth) t (form ∷ []) s ≡ after (finish go place level t done u) (leaving (length s.scope))
   unfolding body fresh_frame gather
   started done h =
       ap (λ r. after (after (after r (λ d. gather (go.item (lambda_at f place level) depth) d [])) (finish go place level t)) (leaving (length s.scope))) h
 
-  ended : (kept : Heads) (r : Result (PlainCore × State) Fault) → go.form place level depth (stamp f form) u ≡ r
+  ended : (kept : Heads) (r : Result (PlainCore × State) Fault) → go.form (site_at place level depth) (stamp f form) u ≡ r
       → finish go place level t (one_waits (lambda_at f place level) depth (stamp f form) kept) u ≡ after (after (after r (λ c. give (line.Expr c))) (λ x. each (finish_one go level) (x ∷ []) [])) (λ ls. give (body_core ls))
   unfolding finish finish_as each
   ended kept r h = ap (λ x. after (after (after x (λ c. give (line.Expr c))) (λ y. each (finish_one go level) (y ∷ []) [])) (λ ls. give (body_core ls))) h
 
-  pub body-faulted : (e : Fault) → IsTaken go (lambda_at f place level) depth (stamp f form) u → go.form place level depth (stamp f form) u ≡ Err e → body go place level depth t (form ∷ []) s ≡ Err e
+  pub body-faulted : (e : Fault) → IsTaken go (lambda_at f place level) depth (stamp f form) u → go.form (site_at place level depth) (stamp f form) u ≡ Err e → body go (site_at place level depth) t (form ∷ []) s ≡ Err e
   body-faulted e is h = started (one_waits (lambda_at f place level) depth (stamp f form) is.kept) is.taken ∙ ap (λ r. after r (leaving (length s.scope))) (ended is.kept (Err e) h)
 
-  pub body-made : (c : PlainCore) (v : State) → IsTaken go (lambda_at f place level) depth (stamp f form) u → go.form place level depth (stamp f form) u ≡ Ok (c, v) → body go place level depth t (form ∷ []) s ≡ Ok (c, cut (length s.scope) v)
+  pub body-made : (c : PlainCore) (v : State) → IsTaken go (lambda_at f place level) depth (stamp f form) u → go.form (site_at place level depth) (stamp f form) u ≡ Ok (c, v) → body go (site_at place level depth) t (form ∷ []) s ≡ Ok (c, cut (length s.scope) v)
   unfolding each
   body-made c v is h = started (one_waits (lambda_at f place level) depth (stamp f form) is.kept) is.taken ∙ ap (λ r. after r (leaving (length s.scope))) (ended is.kept (Ok (c, v)) h)
 
@@ -123,53 +126,53 @@ no_formals = record { required = []; rest = None }
 -- A procedure, from what comes of its body.
 module _ (go : Inside) (place : Span) (level depth : ℕ) (t form : Tree) (s : State) where
   module _ (ids : FormalIds) (fs : Formals) (v : State) (bound : bind_formals (record { 0 = (counted s).names }) place level ids (counted (counted s)) ≡ Ok (fs, v)) where
-    lambda-is : (r : Result (PlainCore × State) Fault) → body go place level depth t (stamp (record { 0 = (counted s).names }) form ∷ []) v ≡ r
-        → lambda go place level depth t ids (form ∷ []) s
+    lambda-is : (r : Result (PlainCore × State) Fault) → body go (site_at place level depth) t (stamp (record { 0 = (counted s).names }) form ∷ []) v ≡ r
+        → lambda go (site_at place level depth) (procedure_parts t ids (form ∷ [])) s
         ≡ after (after (after r (λ c. give (record { formals = fs; body = c }))) (leaving (length s.scope))) (λ (c : Lambda). give (procedure (record { 0 = s.names }) (cases (c ∷ [])) true))
     unfolding lambda lambda_case fresh fresh_frame
     lambda-is r h =
-        ap (λ x. after (after (after x (λ formals s'. after (body go place level depth t (stamp (record { 0 = (counted s).names }) form ∷ []) s') (λ c. give (record { formals = formals; body = c })))) (leaving (length s.scope)))
+        ap (λ x. after (after (after x (λ formals s'. after (body go (site_at place level depth) t (stamp (record { 0 = (counted s).names }) form ∷ []) s') (λ c. give (record { formals = formals; body = c })))) (leaving (length s.scope)))
         (λ (c : Lambda). give (procedure (record { 0 = s.names }) (cases (c ∷ [])) true))) bound
         ∙ ap (λ x. after (after (after x (λ c. give (record { formals = fs; body = c }))) (leaving (length s.scope))) (λ (c : Lambda). give (procedure (record { 0 = s.names }) (cases (c ∷ [])) true))) h
 
-    pub lambda-faulted : (e : Fault) → body go place level depth t (stamp (record { 0 = (counted s).names }) form ∷ []) v ≡ Err e → lambda go place level depth t ids (form ∷ []) s ≡ Err e
+    pub lambda-faulted : (e : Fault) → body go (site_at place level depth) t (stamp (record { 0 = (counted s).names }) form ∷ []) v ≡ Err e → lambda go (site_at place level depth) (procedure_parts t ids (form ∷ [])) s ≡ Err e
     lambda-faulted e h = lambda-is (Err e) h
 
-    pub lambda-made : (c : PlainCore) (u : State) → body go place level depth t (stamp (record { 0 = (counted s).names }) form ∷ []) v ≡ Ok (c, u)
-        → lambda go place level depth t ids (form ∷ []) s ≡ Ok (procedure (record { 0 = s.names }) (cases (record { formals = fs; body = c } ∷ [])) true, cut (length s.scope) u)
+    pub lambda-made : (c : PlainCore) (u : State) → body go (site_at place level depth) t (stamp (record { 0 = (counted s).names }) form ∷ []) v ≡ Ok (c, u)
+        → lambda go (site_at place level depth) (procedure_parts t ids (form ∷ [])) s ≡ Ok (procedure (record { 0 = s.names }) (cases (record { formals = fs; body = c } ∷ [])) true, cut (length s.scope) u)
     lambda-made c u h = lambda-is (Ok (c, u)) h
 
   -- and one case of `case-lambda`
   abbrev pub the_case : LambdaCase
   the_case = record { formals = no_ids; body = form ∷ [] }
 
-  cases-are : (r : Result (PlainCore × State) Fault) → body go place level depth t (stamp (record { 0 = (counted s).names }) form ∷ []) (counted (counted s)) ≡ r
-      → case_lambda go place level depth t (the_case ∷ []) s
-      ≡ after (after (after (after r (λ c. give (record { formals = no_formals; body = c }))) (leaving (length s.scope))) (λ (c : Lambda). each (one_case go place level depth t) (c ∷ []) [])) (λ cs. give (procedure (record { 0 = s.names }) (cases cs) false))
+  cases-are : (r : Result (PlainCore × State) Fault) → body go (site_at place level depth) t (stamp (record { 0 = (counted s).names }) form ∷ []) (counted (counted s)) ≡ r
+      → case_lambda go (site_at place level depth) t (the_case ∷ []) s
+      ≡ after (after (after (after r (λ c. give (record { formals = no_formals; body = c }))) (leaving (length s.scope))) (λ (c : Lambda). each (one_case go (site_at place level depth) t) (c ∷ []) [])) (λ cs. give (procedure (record { 0 = s.names }) (cases cs) false))
   unfolding case_lambda lambda_case fresh fresh_frame bind_formals each
   cases-are r h =
-      ap (λ x. after (after (after (after x (λ c. give (record { formals = no_formals; body = c }))) (leaving (length s.scope))) (λ (c : Lambda). each (one_case go place level depth t) (c ∷ []) []))
+      ap (λ x. after (after (after (after x (λ c. give (record { formals = no_formals; body = c }))) (leaving (length s.scope))) (λ (c : Lambda). each (one_case go (site_at place level depth) t) (c ∷ []) []))
       (λ cs. give (procedure (record { 0 = s.names }) (cases cs) false))) h
 
-  pub cases-faulted : (e : Fault) → body go place level depth t (stamp (record { 0 = (counted s).names }) form ∷ []) (counted (counted s)) ≡ Err e → case_lambda go place level depth t (the_case ∷ []) s ≡ Err e
+  pub cases-faulted : (e : Fault) → body go (site_at place level depth) t (stamp (record { 0 = (counted s).names }) form ∷ []) (counted (counted s)) ≡ Err e → case_lambda go (site_at place level depth) t (the_case ∷ []) s ≡ Err e
   cases-faulted e h = cases-are (Err e) h
 
-  pub cases-made : (c : PlainCore) (v : State) → body go place level depth t (stamp (record { 0 = (counted s).names }) form ∷ []) (counted (counted s)) ≡ Ok (c, v)
-      → case_lambda go place level depth t (the_case ∷ []) s ≡ Ok (procedure (record { 0 = s.names }) (cases (record { formals = no_formals; body = c } ∷ [])) false, cut (length s.scope) v)
+  pub cases-made : (c : PlainCore) (v : State) → body go (site_at place level depth) t (stamp (record { 0 = (counted s).names }) form ∷ []) (counted (counted s)) ≡ Ok (c, v)
+      → case_lambda go (site_at place level depth) t (the_case ∷ []) s ≡ Ok (procedure (record { 0 = s.names }) (cases (record { formals = no_formals; body = c } ∷ [])) false, cut (length s.scope) v)
   unfolding each
   cases-made c v h = cases-are (Ok (c, v)) h
 
   -- `letrec` and `letrec*` without variables
-  block-is : (star : Bool) (r : Result (PlainCore × State) Fault) → body go place level depth t (stamp (record { 0 = s.names }) form ∷ []) (counted s) ≡ r
-      → letrec_form go place level depth t star [] (form ∷ []) s ≡ after (after r (λ c. give (letrec star (inits []) c))) (leaving (length s.scope))
+  block-is : (star : Bool) (r : Result (PlainCore × State) Fault) → body go (site_at place level depth) t (stamp (record { 0 = s.names }) form ∷ []) (counted s) ≡ r
+      → letrec_form go (site_at place level depth) (letrec_parts t star [] (form ∷ [])) s ≡ after (after r (λ c. give (letrec star (inits []) c))) (leaving (length s.scope))
   unfolding letrec_form fresh_frame each
   block-is star r h = ap (λ x. after (after x (λ c. give (letrec star (inits []) c))) (leaving (length s.scope))) h
 
-  pub block-faulted : (star : Bool) (e : Fault) → body go place level depth t (stamp (record { 0 = s.names }) form ∷ []) (counted s) ≡ Err e → letrec_form go place level depth t star [] (form ∷ []) s ≡ Err e
+  pub block-faulted : (star : Bool) (e : Fault) → body go (site_at place level depth) t (stamp (record { 0 = s.names }) form ∷ []) (counted s) ≡ Err e → letrec_form go (site_at place level depth) (letrec_parts t star [] (form ∷ [])) s ≡ Err e
   block-faulted star e h = block-is star (Err e) h
 
-  pub block-made : (star : Bool) (c : PlainCore) (v : State) → body go place level depth t (stamp (record { 0 = s.names }) form ∷ []) (counted s) ≡ Ok (c, v)
-      → letrec_form go place level depth t star [] (form ∷ []) s ≡ Ok (letrec star (inits []) c, cut (length s.scope) v)
+  pub block-made : (star : Bool) (c : PlainCore) (v : State) → body go (site_at place level depth) t (stamp (record { 0 = s.names }) form ∷ []) (counted s) ≡ Ok (c, v)
+      → letrec_form go (site_at place level depth) (letrec_parts t star [] (form ∷ [])) s ≡ Ok (letrec star (inits []) c, cut (length s.scope) v)
   block-made star c v h = block-is star (Ok (c, v)) h
 
 -- `letrec` and `letrec*` with one variable, from what comes of its expression and then of the body.
@@ -178,21 +181,21 @@ module _ (go : Inside) (place : Span) (level depth : ℕ) (t form : Tree) (s : S
   variable = record { id = id; init = form }
 
   abbrev ended_by : Tree → List Init → State → Result (PlainCore × State) Fault
-  ended_by last is u = after (body go place level depth t (stamp (record { 0 = s.names }) last ∷ []) u) (λ c. give (letrec star (inits is) c))
+  ended_by last is u = after (body go (site_at place level depth) t (stamp (record { 0 = s.names }) last ∷ []) u) (λ c. give (letrec star (inits is) c))
 
-  initial-is : (last : Tree) (r : Result (PlainCore × State) Fault) → go.form place level depth (stamp (record { 0 = s.names }) form) v ≡ r
-      → letrec_form go place level depth t star (variable ∷ []) (last ∷ []) s
-      ≡ after (after (after (after r (λ c. give (record { label = l; value = c }))) (λ (i : Init). each (one_init go place level depth (record { 0 = s.names })) (i ∷ []) [])) (ended_by last)) (leaving (length s.scope))
+  initial-is : (last : Tree) (r : Result (PlainCore × State) Fault) → go.form (site_at place level depth) (stamp (record { 0 = s.names }) form) v ≡ r
+      → letrec_form go (site_at place level depth) (letrec_parts t star (variable ∷ []) (last ∷ [])) s
+      ≡ after (after (after (after r (λ c. give (record { label = l; value = c }))) (λ (i : Init). each (one_init go (site_at place level depth) (record { 0 = s.names })) (i ∷ []) [])) (ended_by last)) (leaving (length s.scope))
   unfolding letrec_form fresh_frame bind_spec one_init each
   initial-is last r h =
       ap (λ x. after (after (after (after x (λ l. give (record { label = l; init = form }))) (λ (b : BoundSpec). each (bind_spec (record { 0 = s.names }) place level) (b ∷ []) []))
-      (λ bs u. after (all_inits go place level depth (record { 0 = s.names }) bs u) (ended_by last))) (leaving (length s.scope))) bound
-      ∙ ap (λ x. after (after (after (after x (λ c. give (record { label = l; value = c }))) (λ (i : Init). each (one_init go place level depth (record { 0 = s.names })) (i ∷ []) [])) (ended_by last)) (leaving (length s.scope))) h
+      (λ bs u. after (all_inits go (site_at place level depth) (record { 0 = s.names }) bs u) (ended_by last))) (leaving (length s.scope))) bound
+      ∙ ap (λ x. after (after (after (after x (λ c. give (record { label = l; value = c }))) (λ (i : Init). each (one_init go (site_at place level depth) (record { 0 = s.names })) (i ∷ []) [])) (ended_by last)) (leaving (length s.scope))) h
 
-  pub initial-faulted : (last : Tree) (e : Fault) → go.form place level depth (stamp (record { 0 = s.names }) form) v ≡ Err e → letrec_form go place level depth t star (variable ∷ []) (last ∷ []) s ≡ Err e
+  pub initial-faulted : (last : Tree) (e : Fault) → go.form (site_at place level depth) (stamp (record { 0 = s.names }) form) v ≡ Err e → letrec_form go (site_at place level depth) (letrec_parts t star (variable ∷ []) (last ∷ [])) s ≡ Err e
   initial-faulted last e h = initial-is last (Err e) h
 
-  pub initial-made : (last : Tree) (c d : PlainCore) (u w : State) → go.form place level depth (stamp (record { 0 = s.names }) form) v ≡ Ok (c, u) → body go place level depth t (stamp (record { 0 = s.names }) last ∷ []) u ≡ Ok (d, w)
-      → letrec_form go place level depth t star (variable ∷ []) (last ∷ []) s ≡ Ok (letrec star (inits (record { label = l; value = c } ∷ [])) d, cut (length s.scope) w)
+  pub initial-made : (last : Tree) (c d : PlainCore) (u w : State) → go.form (site_at place level depth) (stamp (record { 0 = s.names }) form) v ≡ Ok (c, u) → body go (site_at place level depth) t (stamp (record { 0 = s.names }) last ∷ []) u ≡ Ok (d, w)
+      → letrec_form go (site_at place level depth) (letrec_parts t star (variable ∷ []) (last ∷ [])) s ≡ Ok (letrec star (inits (record { label = l; value = c } ∷ [])) d, cut (length s.scope) w)
   unfolding each
   initial-made last c d u w h k = initial-is last (Ok (c, u)) h ∙ ap (λ x. after (after x (λ e. give (letrec star (inits (record { label = l; value = c } ∷ [])) e))) (leaving (length s.scope))) k

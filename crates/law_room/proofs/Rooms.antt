@@ -20,13 +20,15 @@ use Rattle.expand_forms.specs.ExpandUses.{expand_uses}
 use Rattle.expand_forms.specs.Top.{give_record, exports, body_at, second_pass, first_pass, top}
 use Rattle.expand_forms.specs.declared.top.TopAt.{TopAt}
 use Rattle.expand_forms.proofs.Steps.{earlier_inside}
+use Rattle.expand_forms.specs.Site.{site_at}
+use Rattle.expand_forms.specs.Forms.{procedure_parts}
 use Rattle.law_room.specs.Room.{IsEnough, FormsNeedNoMore, ItemsNeedNoMore, CasesNeedNoMore, BodiesNeedNoMore, TopsNeedNoMore}
 use Rattle.law_room.proofs.Agreeing.{Agree, same-finish-all, same-taken, same-body, same-case, same-form-at, same-item}
 use Rattle.law_room.proofs.Items.{Keeps, keeps-inside, shallow-inside, deep-body, deep-case}
 use Rattle.law_room.proofs.Same.{same-after}
 use Rattle.law_room.proofs.Waiting.{WaitsFrom}
 
-pub form-is : (rs : List CompiledLibrary) (room : ℕ) (place : Span) (level depth : ℕ) (t : Tree) (s : State) → (inside rs (suc room)).form place level depth t s ≡ form_at (inside rs room) place level depth t s
+pub form-is : (rs : List CompiledLibrary) (room : ℕ) (place : Span) (level depth : ℕ) (t : Tree) (s : State) → (inside rs (suc room)).form (site_at place level depth) t s ≡ form_at (inside rs room) (site_at place level depth) t s
 unfolding inside
 form-is rs room place level depth t s = refl
 
@@ -35,12 +37,12 @@ unfolding inside
 item-is rs room at depth done t s = refl
 
 case-is : (rs : List CompiledLibrary) (room : ℕ) (place : Span) (level depth : ℕ) (t : Tree) (ids : FormalIds) (forms : List Tree) (s : State)
-    → (inside rs (suc room)).procedure place level depth t ids forms s ≡ lambda_case (inside rs room) place level depth t ids forms s
+    → (inside rs (suc room)).procedure (site_at place level depth) (procedure_parts t ids forms) s ≡ lambda_case (inside rs room) (site_at place level depth) (procedure_parts t ids forms) s
 unfolding inside
 case-is rs room place level depth t ids forms s = refl
 
 -- a form that is too deep, in any room
-pub too-deep-form : (rs : List CompiledLibrary) (room : ℕ) (place : Span) (level depth : ℕ) (t : Tree) (s : State) → nat_lt most_round depth ≡ true → (inside rs room).form place level depth t s ≡ fault_form kind.TooDeep t place s
+pub too-deep-form : (rs : List CompiledLibrary) (room : ℕ) (place : Span) (level depth : ℕ) (t : Tree) (s : State) → nat_lt most_round depth ≡ true → (inside rs room).form (site_at place level depth) t s ≡ fault_form kind.TooDeep t place s
 unfolding inside form_at
 too-deep-form rs zero place level depth t s deep = refl
 too-deep-form rs (suc room) place level depth t s deep =
@@ -54,7 +56,7 @@ module _ (rs : List CompiledLibrary) (p q d : ℕ) (next : d ≤ most_round → 
   agrees : (depth : ℕ) → d ≤ depth → nat_lt most_round depth ≡ false → Agree (suc d) (inside rs p) (inside rs q)
   agrees depth le few = next (grind (arith, nat_tests))
 
-  form-by : (place : Span) (level depth : ℕ) (t : Tree) (s : State) → d ≤ depth → (b : Bool) → nat_lt most_round depth ≡ b → (inside rs (suc p)).form place level depth t s ≡ (inside rs (suc q)).form place level depth t s
+  form-by : (place : Span) (level depth : ℕ) (t : Tree) (s : State) → d ≤ depth → (b : Bool) → nat_lt most_round depth ≡ b → (inside rs (suc p)).form (site_at place level depth) t s ≡ (inside rs (suc q)).form (site_at place level depth) t s
   form-by place level depth t s le true e = too-deep-form rs (suc p) place level depth t s e ∙ sym (too-deep-form rs (suc q) place level depth t s e)
   form-by place level depth t s le false e =
       form-is rs p place level depth t s ∙ same-form-at (inside rs p) (inside rs q) (suc d) (agrees depth le e) (keeps-inside rs p) place level depth t s (deeper-is d depth le e) ∙ sym (form-is rs q place level depth t s)
@@ -65,7 +67,7 @@ module _ (rs : List CompiledLibrary) (p q d : ℕ) (next : d ≤ most_round → 
       item-is rs p at depth done t s ∙ same-item (inside rs p) (inside rs q) (suc d) (agrees depth le e) (keeps-inside rs p) at depth done t s (deeper-is d depth le e) ∙ sym (item-is rs q at depth done t s)
 
   case-by : (place : Span) (level depth : ℕ) (t : Tree) (ids : FormalIds) (forms : List Tree) (s : State) → d ≤ depth → (b : Bool) → nat_lt most_round depth ≡ b
-      → lambda_case (inside rs p) place level (deeper depth) t ids forms s ≡ lambda_case (inside rs q) place level (deeper depth) t ids forms s
+      → lambda_case (inside rs p) (site_at place level (deeper depth)) (procedure_parts t ids forms) s ≡ lambda_case (inside rs q) (site_at place level (deeper depth)) (procedure_parts t ids forms) s
   case-by place level depth t ids forms s le true e =
       deep-case (inside rs p) (inside rs q) (shallow-inside rs p) (shallow-inside rs q) (deeper depth) (ap (λ b. nat_lt most_round (if b then depth else depth + 1)) e ∙ e) place level t ids forms s
   case-by place level depth t ids forms s le false e = same-case (inside rs p) (inside rs q) (suc d) (agrees depth le e) (keeps-inside rs p) place level (deeper depth) t ids forms s (deeper-is d depth le e)
@@ -129,7 +131,7 @@ items-need-no-more rs room other at depth done t s h k = few-or-deep _ depth
 pub cases-need-no-more : CasesNeedNoMore
 cases-need-no-more rs room other place level depth t ids forms s le h k =
     let few : nat_lt most_round depth ≡ false = grind (arith, nat_tests) in
-    subst (λ (n : ℕ). (inside rs room).procedure place level n t ids forms s ≡ (inside rs other).procedure place level n t ids forms s) (ap (λ b. if b then depth else depth + 1) few)
+    subst (λ (n : ℕ). (inside rs room).procedure (site_at place level n) (procedure_parts t ids forms) s ≡ (inside rs other).procedure (site_at place level n) (procedure_parts t ids forms) s) (ap (λ b. if b then depth else depth + 1) few)
     ((both rs room other depth le h k).procedure place level depth t ids forms s (self depth))
 
 pub bodies-need-no-more : BodiesNeedNoMore

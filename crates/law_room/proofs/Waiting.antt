@@ -21,9 +21,10 @@ use Rattle.expand_standing.specs.declared.standing.Role.{Role}
 use Rattle.expand_standing.specs.declared.standing.Role.TheVariants as role
 use Rattle.expand_standing.specs.declared.standing.Standing.{Standing}
 use Rattle.expand_standing.specs.declared.standing.Standing.TheVariants as standing
+use Rattle.expand_heads.specs.declared.item.HeadItem.{HeadItem}
+use Rattle.expand_heads.specs.declared.item.HeadItem.TheVariants as head_items
 use Rattle.expand_heads.specs.Kept.{with_head}
 use Rattle.expand_heads.specs.Items.{kept_head, is_top, is_mixed, any_changed, heads_like, waiting_at, keep, in_time, define, define_item, target_item, set_item, begin_item, keywords_item, with_shape, item_by, core_item, headed_item, list_item, leaf_by, leaf_item, item_plan}
-use Rattle.expand_heads.specs.declared.item.Item.{Item}
 use Rattle.expand_heads.specs.declared.item.Item.TheVariants as items
 use Rattle.expand_heads.specs.declared.plan.KeywordUse.{KeywordUse}
 use Rattle.expand_heads.specs.declared.taken.BodyAt.{BodyAt}
@@ -97,7 +98,7 @@ module _ (n : ℕ) (depth : ℕ) (deep : n ≤ depth) where
     from-set done t (Ok _) s h = from-wait done t s h
     from-set done t (Err e) s h = from-wait done t s h
 
-    from-shape : (done : Taken) (r : Result Shape Fault) (k : Shape → Does (Taken × Item)) (s : State) → ((x : Shape) → Gave P (k x s)) → Gave P (with_shape r k s)
+    from-shape : (done : Taken) (r : Result Shape Fault) (k : Shape → Does (Taken × HeadItem)) (s : State) → ((x : Shape) → Gave P (k x s)) → Gave P (with_shape r k s)
     from-shape done (Ok x) k s h = h x
     from-shape done (Err e) k s h = tt
 
@@ -117,7 +118,7 @@ module _ (n : ℕ) (depth : ℕ) (deep : n ≤ depth) where
     from-role done t f role.Assignment s h = from-set done t (shape f t at.place) s h
     from-role done t f role.Sequence s h = from-shape done (shape f t at.place) (begin_item at done t) s (λ x. from-begin done t x s h)
     from-role done t f role.Definition s h =
-        from-shape done (shape f t at.place) _ s (λ x. gave-after (WaitsFrom n) P (define_item at depth done t x s) (λ taken. give (taken, items.Nothing)) (from-definition done t x s h) (λ d u k. k))
+        from-shape done (shape f t at.place) _ s (λ x. gave-after (WaitsFrom n) P (define_item at depth done t x s) (λ taken. give (taken, head_items.Item items.Nothing)) (from-definition done t x s h) (λ d u k. k))
     from-role done t f role.Keywords s h = from-shape done (shape f t at.place) (keywords_item at done t f) s (λ x. from-keywords done t f x s h)
     from-role done t f role.Record s h = h
     from-role done t f role.RecordValue s h = h
@@ -153,13 +154,10 @@ module _ (n : ℕ) (depth : ℕ) (deep : n ≤ depth) where
     from-asked done t l true s h = h
     from-asked done t l false s h = from-wait done t s h
 
-    from-step-of : (rs : List CompiledLibrary) (t : Tree) (done : Taken) (i : Item) (s : State) → WaitsFrom n done → Gave P (item_step_of rs at depth t done i s)
-    from-step-of rs t done (items.Use k) s h = h
-    from-step-of rs t done (items.SetUse l) s h = gave-any P (asks_variable rs (place_of t at.place) l s) (set_item_step at depth done t l) (λ b u. from-asked done t l b u h)
-    from-step-of rs t done items.Nothing s h = h
-    from-step-of rs t done (items.Forms forms) s h = h
-    from-step-of rs t done (items.Keyword b) s h = h
-    from-step-of rs t done (items.Keywords recursive bs forms) s h = h
+    from-step-of : (rs : List CompiledLibrary) (t : Tree) (done : Taken) (i : HeadItem) (s : State) → WaitsFrom n done → Gave P (item_step_of rs at depth t done i s)
+    from-step-of rs t done (head_items.Use k) s h = h
+    from-step-of rs t done (head_items.SetUse l) s h = gave-any P (asks_variable rs (place_of t at.place) l s) (set_item_step at depth done t l) (λ b u. from-asked done t l b u h)
+    from-step-of rs t done (head_items.Item i) s h = h
 
     from-step : (rs : List CompiledLibrary) (done : Taken) (t : Tree) (s : State) → WaitsFrom n done → Gave P (item_step rs at depth done t s)
     unfolding item_step

@@ -26,6 +26,7 @@ use Rattle.expand_standing.specs.declared.standing.Standing.TheVariants as stand
 use Rattle.expand_standing.specs.declared.standing.Variable.{Variable}
 use Rattle.expand_heads.specs.Depth.{most_round}
 use Rattle.expand_forms.specs.Expanding.{expression}
+use Rattle.expand_forms.specs.Site.{outermost}
 
 -- What stands right round a form: `(begin form)`, `(form)`, `(if form #t)`, `(syntax-case form ())`, `(set! id form)`, `(let-syntax () form)`, which is
 -- `(letrec-syntax () form)` where it is recursive, `(lambda (id ...) form)`, `(case-lambda (() form))`, `(letrec () form)`, or `(letrec ((id form)) #t)`, both of which
@@ -224,8 +225,8 @@ pub record FormsCountOnce : Type 0 where
   -- A constant in 600 of them is taken,
   pub taken : (records : List CompiledLibrary) (place : Span) (level : ℕ) (rs : List Round) (o : Option Span) (a : Atom) (s : State)
       → AreRound place level s rs → length rs ≤ most_round → is_nil_atom a ≡ false
-      → expression records place level (put_in rs (atom o a)) s ≡ Ok (code_in place rs s (quoted (strip (atom o a))), all_left rs s)
+      → expression records (outermost place level) (put_in rs (atom o a)) s ≡ Ok (code_in place rs s (quoted (strip (atom o a))), all_left rs s)
   -- and any form in 601 of them is TooDeep, unless it is an identifier, which might be a keyword where it is an operator.
   pub refused : (records : List CompiledLibrary) (place : Span) (level : ℕ) (rs : List Round) (t : Tree) (s : State)
       → AreRound place level s rs → length rs ≡ most_round + 1 → is_leaf t ≡ false
-      → expression records place level (put_in rs t) s ≡ fault_form kind.TooDeep t place s
+      → expression records (outermost place level) (put_in rs t) s ≡ fault_form kind.TooDeep t place s

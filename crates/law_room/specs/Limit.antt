@@ -18,6 +18,7 @@ use Rattle.expand_heads.specs.declared.taken.BodyAt.{BodyAt}
 use Rattle.expand_heads.specs.declared.taken.Taken.{Taken}
 use Rattle.expand_forms.specs.Expanding.{expression}
 use Rattle.expand_forms.specs.Expression.{inside, full_room}
+use Rattle.expand_forms.specs.Site.{outermost, site_at}
 
 -- `(begin (begin ... form))`, with a `begin` for each of the spans
 abbrev pub begun : List (Option Span) → Tree → Tree → Tree
@@ -32,19 +33,19 @@ pub record IsBegin (s : State) (word : Tree) : Type 0 where
 pub record LimitOfNesting : Type 0 where
   -- With more round it a form is TooDeep, whatever form it is, at its place, and whatever the room is: an expression,
   pub expressions : (records : List CompiledLibrary) (room : ℕ) (place : Span) (level depth : ℕ) (t : Tree) (s : State)
-      → most_round < depth → (inside records room).form place level depth t s ≡ fault_form kind.TooDeep t place s
+      → most_round < depth → (inside records room).form (site_at place level depth) t s ≡ fault_form kind.TooDeep t place s
   -- and a form of a body.
   pub items : (records : List CompiledLibrary) (room : ℕ) (at : BodyAt) (depth : ℕ) (done : Taken) (t : Tree) (s : State)
       → most_round < depth → (inside records room).item at depth done t s ≡ fault_form kind.TooDeep t at.place s
   -- `begin`s round a form make it so much deeper, and nothing else.
   pub begins : (records : List CompiledLibrary) (place : Span) (level : ℕ) (ss : List (Option Span)) (word t : Tree) (s : State)
       → IsBegin s word → length ss ≤ most_round + 1
-      → expression records place level (begun ss word t) s ≡ (inside records full_room).form place level (length ss) t s
+      → expression records (outermost place level) (begun ss word t) s ≡ (inside records full_room).form (site_at place level (length ss)) t s
   -- So a constant in 600 of them is taken,
   pub taken : (records : List CompiledLibrary) (place : Span) (level : ℕ) (ss : List (Option Span)) (word : Tree) (o : Option Span)
       (a : Atom) (s : State) → IsBegin s word → length ss ≤ most_round → is_nil_atom a ≡ false
-      → expression records place level (begun ss word (atom o a)) s ≡ Ok (quoted (strip (atom o a)), s)
+      → expression records (outermost place level) (begun ss word (atom o a)) s ≡ Ok (quoted (strip (atom o a)), s)
   -- and any form in 601 of them is TooDeep.
   pub refused : (records : List CompiledLibrary) (place : Span) (level : ℕ) (ss : List (Option Span)) (word t : Tree) (s : State)
       → IsBegin s word → length ss ≡ most_round + 1
-      → expression records place level (begun ss word t) s ≡ fault_form kind.TooDeep t place s
+      → expression records (outermost place level) (begun ss word t) s ≡ fault_form kind.TooDeep t place s

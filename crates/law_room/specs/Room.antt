@@ -12,6 +12,8 @@ use Rattle.expand_forms.specs.Body.{body}
 use Rattle.expand_forms.specs.Expression.{inside, full_room}
 use Rattle.expand_forms.specs.Top.{top}
 use Rattle.expand_forms.specs.declared.top.TopAt.{TopAt}
+use Rattle.expand_forms.specs.Site.{site_at}
+use Rattle.expand_forms.specs.Forms.{procedure_parts}
 
 -- with so many core forms and applications round it, at most 600, a form has all the room that it needs
 abbrev pub IsEnough : ℕ → ℕ → Type 0
@@ -21,7 +23,7 @@ IsEnough room depth = full_room ≤ room + depth
 abbrev pub FormsNeedNoMore : Type 0
 FormsNeedNoMore = (records : List CompiledLibrary) (room other : ℕ) (place : Span) (level depth : ℕ) (t : Tree) (s : State)
     → IsEnough room depth → IsEnough other depth
-    → (inside records room).form place level depth t s ≡ (inside records other).form place level depth t s
+    → (inside records room).form (site_at place level depth) t s ≡ (inside records other).form (site_at place level depth) t s
 
 -- a form of a body, behind those that were taken
 abbrev pub ItemsNeedNoMore : Type 0
@@ -33,13 +35,14 @@ ItemsNeedNoMore = (records : List CompiledLibrary) (room other : ℕ) (at : Body
 abbrev pub CasesNeedNoMore : Type 0
 CasesNeedNoMore = (records : List CompiledLibrary) (room other : ℕ) (place : Span) (level depth : ℕ) (t : Tree) (ids : FormalIds)
     (forms : List Tree) (s : State) → depth ≤ most_round → IsEnough room depth → IsEnough other depth
-    → (inside records room).procedure place level (depth + 1) t ids forms s ≡ (inside records other).procedure place level (depth + 1) t ids forms s
+    → (inside records room).procedure (site_at place level (depth + 1)) (procedure_parts t ids forms) s
+    ≡ (inside records other).procedure (site_at place level (depth + 1)) (procedure_parts t ids forms) s
 
 -- the body of a procedure or `letrec`
 abbrev pub BodiesNeedNoMore : Type 0
 BodiesNeedNoMore = (records : List CompiledLibrary) (room other : ℕ) (place : Span) (level depth : ℕ) (t : Tree) (forms : List Tree)
     (s : State) → IsEnough room depth → IsEnough other depth
-    → body (inside records room) place level depth t forms s ≡ body (inside records other) place level depth t forms s
+    → body (inside records room) (site_at place level depth) t forms s ≡ body (inside records other) (site_at place level depth) t forms s
 
 -- a library or program
 abbrev pub TopsNeedNoMore : Type 0

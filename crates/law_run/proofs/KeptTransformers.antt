@@ -23,6 +23,7 @@ use Rattle.expand_forms.specs.Expression.{inside}
 use Rattle.expand_forms.specs.Inside.{Inside}
 use Rattle.expand_forms.specs.Top.{exports, give_record, body_at, second_pass, first_pass, top}
 use Rattle.expand_forms.specs.declared.top.TopAt.{TopAt}
+use Rattle.expand_forms.specs.Site.{site_at}
 use Rattle.law_expand.proofs.GoodKeywords.{exports-same, started-begins}
 use Rattle.law_expand.proofs.Top.{SameScope, AreShown, same-exports}
 use Rattle.expand_heads.specs.Items.{begun}
@@ -131,7 +132,7 @@ missing-is-stuck place rs form l e frame s g v k none =
 
 pub forms-stay-whole : FormsStayWhole
 forms-stay-whole own texts rs room place level depth t s h =
-    stays own texts rs s ((inside rs room).form place level depth t s) h.around
+    stays own texts rs s ((inside rs room).form (site_at place level depth) t s) h.around
     ((inside-holds own texts rs h.around room).form place level depth t s h.good h.steady)
 
 -- ---- the body of a library or program

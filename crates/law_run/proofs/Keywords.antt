@@ -32,6 +32,8 @@ use Rattle.expand_standing.specs.Start.{first_frame, started}
 use Rattle.expand_standing.specs.State.{State, Does}
 use Rattle.expand_standing.specs.declared.standing.Standing.{Standing}
 use Rattle.expand_standing.specs.declared.standing.Standing.TheVariants as standing
+use Rattle.expand_heads.specs.declared.item.HeadItem.{HeadItem}
+use Rattle.expand_heads.specs.declared.item.HeadItem.TheVariants as head_items
 use Rattle.expand_heads.specs.Depth.{deeper, most_round}
 use Rattle.expand_heads.specs.Items.{begun, is_top, kept_head, wait, alone, keep, core_item, headed_item, list_item, item_plan, keywords_item, with_shape}
 use Rattle.expand_heads.specs.Kept.{with_head}
@@ -54,6 +56,7 @@ use Rattle.expand_forms.specs.declared.expand_uses.ItemOrUse.{ItemOrUse}
 use Rattle.expand_forms.specs.declared.expand_uses.ItemOrUse.TheVariants as item_steps
 use Rattle.expand_forms.specs.declared.expand_uses.PlannedItem.{PlannedItem}
 use Rattle.expand_forms.specs.declared.top.TopAt.{TopAt}
+use Rattle.expand_forms.specs.Forms.{definition_parts}
 use Rattle.eval_code.specs.Codes.{Codes}
 use Rattle.law_expand.specs.States.{IsOwn, row_key, AreKeyed}
 use Rattle.law_expand.proofs.Acts.{Gave, gave-any, gave-after, gave-if, gave-both, gave-less, each-nil}
@@ -135,13 +138,16 @@ IsKeyword (items.Keyword b) = Unit {0}
 IsKeyword items.Nothing = ⊥
 IsKeyword (items.Forms forms) = ⊥
 IsKeyword (items.Keywords recursive bs forms) = ⊥
-IsKeyword (items.Use l) = ⊥
-IsKeyword (items.SetUse l) = ⊥
+
+abbrev HeadIsKeyword : HeadItem → Type 0
+HeadIsKeyword (head_items.Item i) = IsKeyword i
+HeadIsKeyword (head_items.Use l) = ⊥
+HeadIsKeyword (head_items.SetUse l) = ⊥
 
 module _ (at : BodyAt) (depth : ℕ) where
   -- nothing more waits, and the state stays
-  abbrev Plans : Taken → State → Taken × Item → State → Type 0
-  Plans d s p u = (p.0.waiting ≡ d.waiting) × ((u ≡ s) × IsKeyword p.1)
+  abbrev Plans : Taken → State → Taken × HeadItem → State → Type 0
+  Plans d s p u = (p.0.waiting ≡ d.waiting) × ((u ≡ s) × HeadIsKeyword p.1)
 
   keyword-taken : (d : Taken) (t : Tree) (x : Shape) (s : State) → IsOfKeyword x → Gave (Plans d s) (keywords_item at d t core_forms.DefineSyntax x s)
   unfolding keywords_item
@@ -192,13 +198,13 @@ module _ (at : BodyAt) (depth : ℕ) where
     abbrev Steps : Taken → State → Taken × ItemOrUse → State → Type 0
     Steps d s p u = (p.0.waiting ≡ d.waiting) × ((u ≡ s) × IsItem p.1)
 
-    item-stepped : (d e : Taken) (t : Tree) (i : Item) (s : State) → e.waiting ≡ d.waiting → IsKeyword i → Gave (Steps d s) (item_step_of rs at depth t e i s)
-    item-stepped d e t (items.Keyword b) s same k = (same, (refl, tt))
-    item-stepped d e t items.Nothing s same k = elim k [ ]
-    item-stepped d e t (items.Forms forms) s same k = elim k [ ]
-    item-stepped d e t (items.Keywords recursive bs forms) s same k = elim k [ ]
-    item-stepped d e t (items.Use l) s same k = elim k [ ]
-    item-stepped d e t (items.SetUse l) s same k = elim k [ ]
+    item-stepped : (d e : Taken) (t : Tree) (i : HeadItem) (s : State) → e.waiting ≡ d.waiting → HeadIsKeyword i → Gave (Steps d s) (item_step_of rs at depth t e i s)
+    item-stepped d e t (head_items.Item (items.Keyword b)) s same k = (same, (refl, tt))
+    item-stepped d e t (head_items.Item items.Nothing) s same k = elim k [ ]
+    item-stepped d e t (head_items.Item (items.Forms forms)) s same k = elim k [ ]
+    item-stepped d e t (head_items.Item (items.Keywords recursive bs forms)) s same k = elim k [ ]
+    item-stepped d e t (head_items.Use l) s same k = elim k [ ]
+    item-stepped d e t (head_items.SetUse l) s same k = elim k [ ]
 
     definition-stepped : (d : Taken) (t : Tree) (s : State) → Found s → IsDefinition (stamped at.frame blank) t → Gave (Steps d s) (item_step rs at depth d t s)
     unfolding item_step
@@ -226,12 +232,10 @@ module _ (at : BodyAt) (depth : ℕ) where
   keyword-performed : (go : Inside) (other : BodyAt) (d : Taken) (t : Tree) (i : Item) (s : State) → IsKeyword i → Gave (λ e u. e ≡ d) (perform_item go other depth d t i s)
   unfolding perform_item
   keyword-performed go other d t (items.Keyword b) s k =
-      gave-after (λ x u. Unit {0}) (λ e u. e ≡ d) (define_syntax go other (deeper depth) d t b s) (λ _. give d) (gave-any (λ x u. Unit {0}) (define_syntax go other (deeper depth) d t b s) (λ x u. tt)) (λ x u j. refl)
+      gave-after (λ x u. Unit {0}) (λ e u. e ≡ d) (define_syntax go other (deeper depth) d (definition_parts t b) s) (λ _. give d) (gave-any (λ x u. Unit {0}) (define_syntax go other (deeper depth) d (definition_parts t b) s) (λ x u. tt)) (λ x u j. refl)
   keyword-performed go other d t items.Nothing s k = elim k [ ]
   keyword-performed go other d t (items.Forms forms) s k = elim k [ ]
   keyword-performed go other d t (items.Keywords recursive bs forms) s k = elim k [ ]
-  keyword-performed go other d t (items.Use l) s k = elim k [ ]
-  keyword-performed go other d t (items.SetUse l) s k = elim k [ ]
 
   pub definition-taken : (go : Inside) (d : Taken) (t : Tree) (s : State) → Found s → IsDefinition (stamped at.frame blank) t → Gave (λ e u. e.waiting ≡ d.waiting) (item go at depth d t s)
   unfolding item

@@ -14,6 +14,8 @@ use Rattle.expand_forms.specs.Body.{item}
 use Rattle.expand_forms.specs.Expression.{form_at, lambda_case, inside}
 use Rattle.expand_forms.specs.Inside.{Inside}
 use Rattle.expand_forms.specs.Top.{top}
+use Rattle.expand_forms.specs.Site.{site_at}
+use Rattle.expand_forms.specs.Forms.{procedure_parts}
 use Rattle.law_expand.specs.Shallow.{deepest}
 use Rattle.law_expand.specs.States.{Later}
 use Rattle.law_expand.proofs.Acts.{Gave, gave-if}
@@ -66,16 +68,16 @@ module _ (own : LibName) (test : State → Bool) (go : Inside) where
 
   moves-with-test : Moves own go → Moves own with-test
   moves-with-test k = record {
-    form = λ place level depth t s n. gave-unless (λ c u. Later own s u) test place (go.form place level depth t) s (k.form place level depth t s n);
-    procedure = λ place level depth t ids forms s n. gave-unless (λ c u. Later own s u) test place (go.procedure place level depth t ids forms) s (k.procedure place level depth t ids forms s n);
+    form = λ place level depth t s n. gave-unless (λ c u. Later own s u) test place (go.form (site_at place level depth) t) s (k.form place level depth t s n);
+    procedure = λ place level depth t ids forms s n. gave-unless (λ c u. Later own s u) test place (go.procedure (site_at place level depth) (procedure_parts t ids forms)) s (k.procedure place level depth t ids forms s n);
     item = λ at depth d t start s n low w. gave-unless (Takes own at.frame (is_top at.kind) start s) (test-at at) at.place (go.item at depth d t) s (k.item at depth d t start s n low w);
   }
 
   nests-with-test : Nests own go → Nests own with-test
   nests-with-test k = record {
     moves = moves-with-test k.moves;
-    form = λ place level depth t s h. gave-unless (λ c u. Within u.bindings level depth deepest c) test place (go.form place level depth t) s (k.form place level depth t s h);
-    procedure = λ place level depth t ids forms s le h. gave-unless (λ c u. WithinCase u.bindings level depth (deepest + 2) c) test place (go.procedure place level depth t ids forms) s (k.procedure place level depth t ids forms s le h);
+    form = λ place level depth t s h. gave-unless (λ c u. Within u.bindings level depth deepest c) test place (go.form (site_at place level depth) t) s (k.form place level depth t s h);
+    procedure = λ place level depth t ids forms s le h. gave-unless (λ c u. WithinCase u.bindings level depth (deepest + 2) c) test place (go.procedure (site_at place level depth) (procedure_parts t ids forms)) s (k.procedure place level depth t ids forms s le h);
     item = λ at base depth d t start s le h low w a. gave-unless (λ e u. AreWaiting at base e u.bindings) (test-at at) at.place (go.item at depth d t) s (k.item at base depth d t start s le h low w a);
   }
 
@@ -84,15 +86,15 @@ module _ (own : LibName) (test : State → Bool) (go : Inside) where
     sounds-with-test k = record {
       moves = moves-with-test k.moves;
       nests = nests-with-test k.nests;
-      form = λ place level depth t s vs ls h r. gave-unless (GivesGood own vs ls s) test place (go.form place level depth t) s (k.form place level depth t s vs ls h r);
-      procedure = λ place level depth t ids forms s vs ls h r. gave-unless (GivesCase own vs ls s) test place (go.procedure place level depth t ids forms) s (k.procedure place level depth t ids forms s vs ls h r);
+      form = λ place level depth t s vs ls h r. gave-unless (GivesGood own vs ls s) test place (go.form (site_at place level depth) t) s (k.form place level depth t s vs ls h r);
+      procedure = λ place level depth t ids forms s vs ls h r. gave-unless (GivesCase own vs ls s) test place (go.procedure (site_at place level depth) (procedure_parts t ids forms)) s (k.procedure place level depth t ids forms s vs ls h r);
     }
 
     spares-with-test : Spares own given go → Spares own given with-test
     spares-with-test k = record {
       safe = sounds-with-test k.safe;
-      form = λ place level depth t s b. gave-unless (λ c u. Onward own given s u × AwayCore own u c) test place (go.form place level depth t) s (k.form place level depth t s b);
-      procedure = λ place level depth t ids forms s b. gave-unless (λ c u. Onward own given s u × AwayCase own u c) test place (go.procedure place level depth t ids forms) s (k.procedure place level depth t ids forms s b);
+      form = λ place level depth t s b. gave-unless (λ c u. Onward own given s u × AwayCore own u c) test place (go.form (site_at place level depth) t) s (k.form place level depth t s b);
+      procedure = λ place level depth t ids forms s b. gave-unless (λ c u. Onward own given s u × AwayCase own u c) test place (go.procedure (site_at place level depth) (procedure_parts t ids forms)) s (k.procedure place level depth t ids forms s b);
       item = λ at depth d t s low b a. gave-unless (λ e u. Onward own given s u × AreUnspent own u (taken_labels e)) (test-at at) at.place (go.item at depth d t) s (k.item at depth d t s low b a);
     }
 
@@ -104,8 +106,8 @@ module _ (own : LibName) (test : State → Bool) (go : Inside) where
     holds-with-test k = record {
       spares = spares-with-test (flat_map defined rs) k.spares;
       earlier = k.earlier;
-      form = λ place level depth t s b h. sure-unless (G own texts rs s) test place (go.form place level depth t) s (passes s b h) (k.form place level depth t s b h);
-      procedure = λ place level depth t ids forms s b h. sure-unless (G own texts rs s) test place (go.procedure place level depth t ids forms) s (passes s b h) (k.procedure place level depth t ids forms s b h);
+      form = λ place level depth t s b h. sure-unless (G own texts rs s) test place (go.form (site_at place level depth) t) s (passes s b h) (k.form place level depth t s b h);
+      procedure = λ place level depth t ids forms s b h. sure-unless (G own texts rs s) test place (go.procedure (site_at place level depth) (procedure_parts t ids forms)) s (passes s b h) (k.procedure place level depth t ids forms s b h);
       item = λ at depth d t s low b h a.
           sure-unless (λ e u. Goes own texts rs s u × AreUnspent own u (taken_labels e)) (test-at at) at.place (go.item at depth d t) s (passes-at at s low b h) (k.item at depth d t s low b h a);
     }
@@ -135,14 +137,14 @@ pub forms-begin-whole : FormsBeginWhole
 forms-begin-whole own texts rs place level depth t test room s passes h =
     let x = h.around in
     let go = with_entry_test own test (inside rs room) in
-    stays own texts rs s (form_at go place level depth t s) x
+    stays own texts rs s (form_at go (site_at place level depth) t s) x
     (form-goes own texts rs x go (with-test-holds own texts rs test room passes x) place level depth t s h.good h.steady)
 
 pub procedures-begin-whole : ProceduresBeginWhole
 procedures-begin-whole own texts rs place level depth t ids forms test room s passes h =
     let x = h.around in
     let go = with_entry_test own test (inside rs room) in
-    stays own texts rs s (lambda_case go place level depth t ids forms s) x
+    stays own texts rs s (lambda_case go (site_at place level depth) (procedure_parts t ids forms) s) x
     (case-runs own texts rs x go (with-test-holds own texts rs test room passes x) place level depth t ids forms s h.good h.steady)
 
 pub bodies-begin-whole : BodiesBeginWhole

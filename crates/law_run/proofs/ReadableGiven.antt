@@ -19,6 +19,7 @@ use Rattle.run_derived.specs.Derived as of_derived
 use Rattle.run_derived.specs.Names as derived_names
 use Rattle.eval_code.specs.Codes.{Codes, with_procedure, with_code}
 use Rattle.expand_forms.specs.Expanding.{ready, expression}
+use Rattle.expand_forms.specs.Site.{outermost}
 use Rattle.law_fresh.proofs.Eachs.{each_and}
 use Rattle.law_fresh.proofs.Trees.{OkHolds}
 use Rattle.run_prelude.specs.Prelude.{procedures, names, path_of, text_place, text_of, at_place, first_tree, tree_in, procedure_of, expanded, text_code, without_state, prelude_codes, filled}
@@ -63,7 +64,7 @@ tree-in-holds n = then-holds Ds ReadableTree (data_of (path_of n) (text_of (prel
 expanded-holds : (n : ℕ) (r : Result Tree Fault) (s : State) → F s → OkHolds ReadableTree r → Gave ReadableCode (expanded n r s)
 expanded-holds n (Err f) s h k = tt
 expanded-holds n (Ok t) s h k =
-    gave-after C ReadableCode (expression [] (text_place n) 0 (stamp (first_frame library.Prelude) t) s) (λ c. give (procedure_of n c))
+    gave-after C ReadableCode (expression [] (outermost (text_place n) 0) (stamp (first_frame library.Prelude) t) s) (λ c. give (procedure_of n c))
     ((inside-keeps [] full_room tt).form (text_place n) 0 0 (stamp (first_frame library.Prelude) t) s h (changed-holds (change.Stamp (first_frame library.Prelude) ∷ []) t k)) (λ c u i y. (i, (y, tt)))
 
 code-holds : (n : ℕ) (s : State) → F s → Gave ReadableCode (text_code n s)

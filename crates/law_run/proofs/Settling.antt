@@ -19,12 +19,14 @@ use Rattle.expand_standing.specs.State.{State, Does, fault_word}
 use Rattle.expand_standing.specs.Uses.{asks_variable, bind_keyword}
 use Rattle.expand_standing.specs.declared.standing.Standing.{Standing}
 use Rattle.expand_standing.specs.declared.standing.Standing.TheVariants as standing
+use Rattle.expand_heads.specs.declared.item.HeadItem.{HeadItem}
+use Rattle.expand_heads.specs.declared.item.HeadItem.TheVariants as head_items
+use Rattle.expand_heads.specs.declared.plan.HeadPlan.{HeadPlan}
+use Rattle.expand_heads.specs.declared.plan.HeadPlan.TheVariants as head_plans
 use Rattle.expand_heads.specs.Items.{is_mixed, is_top, any_changed, heads_like, in_time, keyword_in_time, define, define_keyword, define_item, item_plan}
 use Rattle.expand_heads.specs.Plan.{reference, assign, plan_of}
-use Rattle.expand_heads.specs.declared.item.Item.{Item}
 use Rattle.expand_heads.specs.declared.item.Item.TheVariants as items
 use Rattle.expand_heads.specs.declared.plan.KeywordUse.{KeywordUse}
-use Rattle.expand_heads.specs.declared.plan.Plan.{Plan}
 use Rattle.expand_heads.specs.declared.plan.Plan.TheVariants as plans
 use Rattle.expand_heads.specs.declared.taken.BodyAt.{BodyAt}
 use Rattle.expand_heads.specs.declared.taken.Taken.{Taken}
@@ -47,7 +49,7 @@ module _ (own : LibName) (rs : List CompiledLibrary) where
   -- Expressions.
 
   module _ (place : Span) (level : ℕ) (s : State) (n : Names own s) where
-    assigned : (id value : Tree) (st : Standing) (p : Plan) (u : State) → AssignsBy place level s id value st p u → Steps own s u
+    assigned : (id value : Tree) (st : Standing) (p : HeadPlan) (u : State) → AssignsBy place level s id value st p u → Steps own s u
     assigned id value standing.Nothing p u k = elim k [ ]
     assigned id value (standing.Variable v) p u k = subst (Steps own s) (sym k.1.0) (stays own s (marked v.label s) n refl)
     assigned id value standing.PatternVariable p u k = elim k [ ]
@@ -59,26 +61,16 @@ module _ (own : LibName) (rs : List CompiledLibrary) where
     steps-plan t = plan-cases (λ p u. Steps own s u) place level s (λ d. self own s n)
         (λ id. gave-less (Refers place level s (standing_of s id)) (St own s) (reference place level id s) (reference-is place level s id) (λ p u k. subst (Steps own s) (sym k.0) (self own s n)))
         (λ x id value. gave-less (AssignsBy place level s id value (standing_of s id)) (St own s) (assign place level x id value s) (assign-is place level s x id value) (λ p u k. assigned id value (standing_of s id) p u k))
-        (λ x operand. steps-template own place level operand (λ y. plans.Done (instance y (place_of x place))) s n) (λ p h. self own s n) t
+        (λ x operand. steps-template own place level operand (λ y. head_plans.Plan (plans.Done (instance y (place_of x place)))) s n) (λ p h. self own s n) t
 
   set-steps : (place : Span) (t : Tree) (l : Label) (id : Tree) (b : Bool) (s : State) → Names own s → Gave (St own s) (set_step place t l id b s)
   set-steps place t l id true s n = self own s n
   set-steps place t l id false s n = tt
 
-  steps-of : (place : Span) (t : Tree) (p : Plan) (s : State) → Names own s → Gave (St own s) (step_of rs place t p s)
-  steps-of place t (plans.Done c) s n = self own s n
-  steps-of place t (plans.Call operator operands) s n = self own s n
-  steps-of place t (plans.Conditional test consequent other) s n = self own s n
-  steps-of place t (plans.Assignment l value) s n = self own s n
-  steps-of place t (plans.Sequence forms) s n = self own s n
-  steps-of place t (plans.Lambda ids forms) s n = self own s n
-  steps-of place t (plans.CaseLambda cs) s n = self own s n
-  steps-of place t (plans.Letrec star bs forms) s n = self own s n
-  steps-of place t (plans.Matching subject literals cs span) s n = self own s n
-  steps-of place t (plans.Keywords recursive bs forms) s n = self own s n
-  steps-of place t (plans.Quasi which template) s n = self own s n
-  steps-of place t (plans.Use l) s n = self own s n
-  steps-of place t (plans.SetUse l id) s n = steps-after own s (asks_variable rs (place_of t place) l s) (set_step place t l id) (steps-asks own rs (place_of t place) l s n) (λ b u m. set-steps place t l id b u m)
+  steps-of : (place : Span) (t : Tree) (p : HeadPlan) (s : State) → Names own s → Gave (St own s) (step_of rs place t p s)
+  steps-of place t (head_plans.Plan p) s n = self own s n
+  steps-of place t (head_plans.Use l) s n = self own s n
+  steps-of place t (head_plans.SetUse l id) s n = steps-after own s (asks_variable rs (place_of t place) l s) (set_step place t l id) (steps-asks own rs (place_of t place) l s n) (λ b u m. set-steps place t l id b u m)
 
   steps-step : (place : Span) (level : ℕ) (t : Tree) (s : State) → Names own s → Gave (St own s) (step rs place level t s)
   unfolding step
@@ -136,20 +128,17 @@ module _ (own : LibName) (rs : List CompiledLibrary) where
 
     steps-item-plan : (depth : ℕ) (d : Taken) (t : Tree) (s : State) → Names own s → Gave (St own s) (item_plan at depth d t s)
     steps-item-plan depth d t s n = item-cases (λ e. Unit {0}) (λ p u. Steps own s u) at depth s (λ e id k. tt) (λ e x k. self own s n)
-        (λ e x y k. steps-after own s (define_item at depth e x y s) (λ z. give (z, items.Nothing)) (steps-definition depth e x y s n) (λ z u m. self own u m)) (λ e i k. self own s n) d t tt
+        (λ e x y k. steps-after own s (define_item at depth e x y s) (λ z. give (z, head_items.Item items.Nothing)) (steps-definition depth e x y s n) (λ z u m. self own u m)) (λ e i k. self own s n) d t tt
 
     set-item-steps : (depth : ℕ) (d : Taken) (t : Tree) (l : Label) (b : Bool) (s : State) → Names own s → Gave (St own s) (set_item_step at depth d t l b s)
     set-item-steps depth d t l true s n = self own s n
     set-item-steps depth d t l false s n = self own s n
 
-    steps-item-of : (depth : ℕ) (t : Tree) (d : Taken) (i : Item) (s : State) → Names own s → Gave (St own s) (item_step_of rs at depth t d i s)
-    steps-item-of depth t d (items.Use k) s n = self own s n
-    steps-item-of depth t d (items.SetUse l) s n =
+    steps-item-of : (depth : ℕ) (t : Tree) (d : Taken) (i : HeadItem) (s : State) → Names own s → Gave (St own s) (item_step_of rs at depth t d i s)
+    steps-item-of depth t d (head_items.Use k) s n = self own s n
+    steps-item-of depth t d (head_items.SetUse l) s n =
         steps-after own s (asks_variable rs (place_of t at.place) l s) (set_item_step at depth d t l) (steps-asks own rs (place_of t at.place) l s n) (λ b u m. set-item-steps depth d t l b u m)
-    steps-item-of depth t d items.Nothing s n = self own s n
-    steps-item-of depth t d (items.Forms forms) s n = self own s n
-    steps-item-of depth t d (items.Keyword b) s n = self own s n
-    steps-item-of depth t d (items.Keywords recursive bs forms) s n = self own s n
+    steps-item-of depth t d (head_items.Item i) s n = self own s n
 
     steps-item-step : (depth : ℕ) (d : Taken) (t : Tree) (s : State) → Names own s → Gave (St own s) (item_step rs at depth d t s)
     unfolding item_step

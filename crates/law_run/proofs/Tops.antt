@@ -26,6 +26,7 @@ use Rattle.expand_forms.specs.Expression.{inside, full_room}
 use Rattle.expand_forms.specs.Inside.{Inside}
 use Rattle.expand_forms.specs.Top.{record_in, give_record, exports, body_at, second_pass, first_pass, top}
 use Rattle.expand_forms.specs.declared.top.TopAt.{TopAt}
+use Rattle.expand_forms.specs.Site.{site_at}
 use Rattle.law_expand.specs.States.{IsNumbered, Later}
 use Rattle.law_expand.proofs.Acts.{Gave, gave-after, told}
 use Rattle.law_expand.proofs.Changes.{form-later}
@@ -41,7 +42,7 @@ use Rattle.law_run.proofs.Starts.{IsApart, ready-apart, once-started}
 use Rattle.law_run.proofs.Steps.{Steps, Names, St, stays, steps-then}
 
 pub own-frames : OwnFramesAreBound
-own-frames rs room place level depth t s u c e = (told (λ x v. Steps s.names.library s v) ((inside rs room).form place level depth t s) c u ((inside-binds s.names.library rs room).form place level depth t s refl) e).binds
+own-frames rs room place level depth t s u c e = (told (λ x v. Steps s.names.library s v) ((inside rs room).form (site_at place level depth) t s) c u ((inside-binds s.names.library rs room).form place level depth t s refl) e).binds
 
 pub new-unbound : NewLabelsAreUnbound
 new-unbound rs room place level depth t s u c h e = (numbered, by (bound_to u.bindings (record { 0 = u.names })) refl)

@@ -13,6 +13,7 @@ use Rattle.law_core.specs.Words.{Once}
 use Rattle.eval_code.specs.Codes.{Codes}
 use Rattle.expand_forms.specs.Expanding.{ready, library_record}
 use Rattle.expand_forms.specs.Expression.{inside}
+use Rattle.expand_forms.specs.Site.{site_at}
 use Rattle.law_expand.specs.Ready.{IsReady}
 use Rattle.law_expand.specs.States.{IsNumbered}
 use Rattle.law_imports.specs.Algebra.{IsOnce}
@@ -23,13 +24,13 @@ use Rattle.law_run.specs.Bound.{AreBound, Binds}
 -- whatever form is expanded, and in whatever state: the frames of other libraries stay as they are
 abbrev pub OwnFramesAreBound : Type 0
 OwnFramesAreBound = (records : List CompiledLibrary) (room : ℕ) (place : Span) (level depth : ℕ) (t : Tree) (s u : State) (c : PlainCore)
-    → (inside records room).form place level depth t s ≡ Ok (c, u) → Binds s.names.library s.frames u.frames
+    → (inside records room).form (site_at place level depth) t s ≡ Ok (c, u) → Binds s.names.library s.frames u.frames
 
 -- Where the library's labels that are bound were made before its next name, so they are after any form, and the next name is of no label
 -- that is bound.
 abbrev pub NewLabelsAreUnbound : Type 0
 NewLabelsAreUnbound = (records : List CompiledLibrary) (room : ℕ) (place : Span) (level depth : ℕ) (t : Tree) (s u : State) (c : PlainCore)
-    → IsNumbered s.names.library s → (inside records room).form place level depth t s ≡ Ok (c, u)
+    → IsNumbered s.names.library s → (inside records room).form (site_at place level depth) t s ≡ Ok (c, u)
     → IsNumbered s.names.library u × (bound_to u.bindings (record { 0 = u.names }) ≡ None)
 
 -- so it is where the expansion of a library begins

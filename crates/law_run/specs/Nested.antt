@@ -14,6 +14,7 @@ use Rattle.expand_forms.specs.Expression.{form_at, lambda_case, inside}
 use Rattle.expand_forms.specs.Inside.{Inside}
 use Rattle.expand_forms.specs.Top.{top}
 use Rattle.expand_forms.specs.declared.top.TopAt.{TopAt}
+use Rattle.expand_forms.specs.Forms.{procedure_parts}
 use Rattle.law_expand.specs.Kept.{MakesName, IsKeptWith}
 use Rattle.law_expand.specs.States.{IsOwn}
 use Rattle.expand_heads.specs.Items.{is_top}
@@ -36,8 +37,8 @@ stuck_unless test place m s = if test s then m s else Err (stuck place)
 abbrev pub with_entry_test : LibName → (State → Bool) → Inside → Inside
 with_entry_test own test go = record {
   earlier = go.earlier;
-  form = λ place level depth t. stuck_unless test place (go.form place level depth t);
-  procedure = λ place level depth t ids forms. stuck_unless test place (go.procedure place level depth t ids forms);
+  form = λ site t. stuck_unless test site.place (go.form site t);
+  procedure = λ site p. stuck_unless test site.place (go.procedure site p);
   item = λ at depth done t. stuck_unless (λ s. test s && same_library at.frame.0.library own) at.place (go.item at depth done t);
 }
 
@@ -54,12 +55,12 @@ module _ (own : LibName) (texts : List CodeNo) (records : List CompiledLibrary) 
 -- inside it, begins in a state that passes any test that whole states pass, and a form of a body binds in a frame of the library.
 abbrev pub FormsBeginWhole : Type 0
 FormsBeginWhole = (own : LibName) (texts : List CodeNo) (records : List CompiledLibrary) (place : Span) (level depth : ℕ) (t : Tree)
-    → TestsWhole own texts records (λ go. form_at go place level depth t)
+    → TestsWhole own texts records (λ go. form_at go (site_at place level depth) t)
 
 abbrev pub ProceduresBeginWhole : Type 0
 ProceduresBeginWhole = (own : LibName) (texts : List CodeNo) (records : List CompiledLibrary) (place : Span) (level depth : ℕ) (t : Tree)
     (ids : FormalIds) (forms : List Tree)
-    → TestsWhole own texts records (λ go. lambda_case go place level depth t ids forms)
+    → TestsWhole own texts records (λ go. lambda_case go (site_at place level depth) (procedure_parts t ids forms))
 
 -- so it is inside the body of a library or program
 abbrev pub BodiesBeginWhole : Type 0

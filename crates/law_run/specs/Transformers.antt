@@ -15,6 +15,7 @@ use Rattle.eval_code.specs.Codes.{Codes}
 use Rattle.expand_forms.specs.Expression.{inside}
 use Rattle.expand_forms.specs.Top.{top}
 use Rattle.expand_forms.specs.declared.top.TopAt.{TopAt}
+use Rattle.expand_forms.specs.Site.{site_at}
 use Rattle.law_expand.specs.Ready.{IsReady}
 use Rattle.load_import.specs.Names.{Labelled}
 use Rattle.run_library.specs.Loaded.{all_records}
@@ -74,7 +75,7 @@ StaysWhole own texts records (Err f) = NotStuck f.kind
 -- whatever form is expanded in a whole state
 abbrev pub FormsStayWhole : Type 0
 FormsStayWhole = (own : LibName) (texts : List CodeNo) (records : List CompiledLibrary) (room : ℕ) (place : Span) (level depth : ℕ) (t : Tree) (s : State)
-    → IsWholeState own texts records s → StaysWhole own texts records ((inside records room).form place level depth t s)
+    → IsWholeState own texts records s → StaysWhole own texts records ((inside records room).form (site_at place level depth) t s)
 
 -- and whatever the exports and forms of a library or program are, whose frame is of the library
 abbrev pub BodiesStayWhole : Type 0

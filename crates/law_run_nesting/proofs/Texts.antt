@@ -21,6 +21,7 @@ use Rattle.run_derived.specs.Names as derived_names
 use Rattle.eval_code.specs.Codes.{Codes, with_procedure, with_code}
 use Rattle.expand_forms.specs.Expanding.{ready, expression}
 use Rattle.expand_forms.specs.Expression.{full_room}
+use Rattle.expand_forms.specs.Site.{outermost}
 use Rattle.law_fresh.proofs.Eachs.{each_and}
 use Rattle.law_fresh.proofs.Trees.{OkHolds}
 use Rattle.run_library.specs.Library.{placed, tree_at, trees_at}
@@ -105,7 +106,7 @@ tree-in-fits n =
 expanded-fits : (n : ℕ) (r : Result Tree Fault) (s : State) → HoldsIn Fits s → OkHolds Fits r → Gave Fits fits-lawful (CodeHolds Fits) (expanded n r s)
 expanded-fits n (Err f) s h k = tt
 expanded-fits n (Ok t) s h k =
-    gave-after Fits fits-lawful (C Fits fits-lawful) (CodeHolds Fits) (expression [] (text_place n) 0 (stamp (first_frame library.Prelude) t) s) (λ c. give (procedure_of n c))
+    gave-after Fits fits-lawful (C Fits fits-lawful) (CodeHolds Fits) (expression [] (outermost (text_place n) 0) (stamp (first_frame library.Prelude) t) s) (λ c. give (procedure_of n c))
     ((inside-keeps Fits fits-lawful [] full_room tt).form (text_place n) 0 0 (stamp (first_frame library.Prelude) t) s h (fits-lawful.changed (change.Stamp (first_frame library.Prelude) ∷ []) t k)) (λ c u i y. (i, (y, tt)))
 
 code-fits : (n : ℕ) (s : State) → HoldsIn Fits s → Gave Fits fits-lawful (CodeHolds Fits) (text_code n s)

@@ -12,6 +12,8 @@ use Rattle.law_core.specs.Records.{defined}
 use Rattle.core_shapes.specs.At.{place_of}
 use Rattle.expand_standing.specs.State.{State}
 use Rattle.expand_standing.specs.Uses.{asks_variable}
+use Rattle.expand_heads.specs.declared.plan.HeadPlan.{HeadPlan}
+use Rattle.expand_heads.specs.declared.plan.HeadPlan.TheVariants as head_plans
 use Rattle.expand_heads.specs.Depth.{deeper, most_round}
 use Rattle.expand_heads.specs.Plan.{plan_of}
 use Rattle.expand_heads.specs.declared.plan.Plan.{Plan}
@@ -21,6 +23,7 @@ use Rattle.expand_forms.specs.Inside.{Inside}
 use Rattle.expand_forms.specs.ExpandUses.{next_form, too_many, set_step, step_of, step, planned_by, expand_uses_to, expand_uses}
 use Rattle.expand_forms.specs.declared.expand_uses.PlanOrUse.{PlanOrUse}
 use Rattle.expand_forms.specs.declared.expand_uses.PlanOrUse.TheVariants as steps
+use Rattle.expand_forms.specs.Site.{site_at}
 use Rattle.expand_forms.proofs.Linked.{linked-keeps}
 use Rattle.law_expand.proofs.Plans.{plan-later}
 use Rattle.law_expand.proofs.SparesAll.{inside-spares}
@@ -54,20 +57,10 @@ module _ (own : LibName) (texts : List CodeNo) (rs : List CompiledLibrary) (x : 
     set-goes place t l id true s b h = goes-self own texts rs s b h
     set-goes place t l id false s b h = tt
 
-    steps-go : (place : Span) (t : Tree) (p : Plan) (s : State) → Bs s → S s → Sure (R s) (step_of rs place t p s)
-    steps-go place t (plans.Done c) s b h = goes-self own texts rs s b h
-    steps-go place t (plans.Call operator operands) s b h = goes-self own texts rs s b h
-    steps-go place t (plans.Conditional test consequent other) s b h = goes-self own texts rs s b h
-    steps-go place t (plans.Assignment l value) s b h = goes-self own texts rs s b h
-    steps-go place t (plans.Sequence forms) s b h = goes-self own texts rs s b h
-    steps-go place t (plans.Lambda ids forms) s b h = goes-self own texts rs s b h
-    steps-go place t (plans.CaseLambda cs) s b h = goes-self own texts rs s b h
-    steps-go place t (plans.Letrec star bs forms) s b h = goes-self own texts rs s b h
-    steps-go place t (plans.Matching subject literals cs span) s b h = goes-self own texts rs s b h
-    steps-go place t (plans.Keywords recursive bs forms) s b h = goes-self own texts rs s b h
-    steps-go place t (plans.Quasi which template) s b h = goes-self own texts rs s b h
-    steps-go place t (plans.Use l) s b h = goes-self own texts rs s b h
-    steps-go place t (plans.SetUse l id) s b h =
+    steps-go : (place : Span) (t : Tree) (p : HeadPlan) (s : State) → Bs s → S s → Sure (R s) (step_of rs place t p s)
+    steps-go place t (head_plans.Plan p) s b h = goes-self own texts rs s b h
+    steps-go place t (head_plans.Use l) s b h = goes-self own texts rs s b h
+    steps-go place t (head_plans.SetUse l id) s b h =
         go own texts rs s (asks_variable rs (place_of t place) l s) (set_step place t l id) (asks-go own texts rs x (place_of t place) l s b h) (λ c u g. set-goes place t l id c u g.onward.0 g.safe)
 
     step-goes : (place : Span) (t : Tree) (s : State) → Bs s → S s → Sure (R s) (step rs place level t s)
@@ -94,7 +87,7 @@ module _ (own : LibName) (texts : List CodeNo) (rs : List CompiledLibrary) (x : 
   -- A form.
 
   module _ (inner : Inside) (holds : Holds own texts rs inner) where
-    performs : (place : Span) (level depth : ℕ) (t : Tree) (p : Plan) → Runs own texts rs x inner holds (perform inner place level depth t p)
+    performs : (place : Span) (level depth : ℕ) (t : Tree) (p : Plan) → Runs own texts rs x inner holds (perform inner (site_at place level depth) t p)
     unfolding perform
     performs place level depth t (plans.Done c) = gives own texts rs x inner holds c
     performs place level depth t (plans.Call operator operands) = application-runs own texts rs x inner holds place level (deeper depth) operator operands
@@ -107,10 +100,8 @@ module _ (own : LibName) (texts : List CodeNo) (rs : List CompiledLibrary) (x : 
     performs place level depth t (plans.Matching subject literals cs span) = syntax-case-runs own texts rs x inner holds place level (deeper depth) literals subject cs span
     performs place level depth t (plans.Keywords recursive bs forms) = keywords-form-runs own texts rs x inner holds place level (deeper depth) recursive bs forms
     performs place level depth t (plans.Quasi which template) = quasi-runs own texts rs x inner holds place level t (deeper depth) which template
-    performs place level depth t (plans.Use k) = λ s b h. tt
-    performs place level depth t (plans.SetUse l id) = λ s b h. tt
 
-    pub form-goes : (place : Span) (level depth : ℕ) (t : Tree) (s : State) → Bs s → S s → Sure (R s) (form_at inner place level depth t s)
+    pub form-goes : (place : Span) (level depth : ℕ) (t : Tree) (s : State) → Bs s → S s → Sure (R s) (form_at inner (site_at place level depth) t s)
     unfolding form_at
     form-goes place level depth t s b h =
         sure-if (R s) (nat_lt most_round depth) _ (after (expand_uses inner.earlier place level t s) (perform_settled inner level depth)) (λ e. tt)

@@ -37,6 +37,8 @@ use Rattle.expand_forms.specs.Body.{splice, no_value, value_of, finish_as, finis
 use Rattle.expand_forms.specs.Expression.{in_order, case_in, lambda_case, lambda, one_case, all_cases, case_lambda, one_init, all_inits, letrec_in, letrec_form, application, alternate, conditional, set, in_sequence, fender, clause_in, pattern_clause, all_clauses, syntax_case, keywords_form}
 use Rattle.expand_forms.specs.Inside.{Inside}
 use Rattle.expand_forms.specs.Keywords.{with_keywords}
+use Rattle.expand_forms.specs.Site.{site_at}
+use Rattle.expand_forms.specs.Forms.{if_parts, let_syntax_parts, letrec_parts, procedure_parts, syntax_case_parts}
 use Rattle.law_expand.proofs.Acts.{each-cons, each-nil}
 use Rattle.law_expand.proofs.Binding.{BindsAll, spec_label, binds-formals, binds-specs}
 use Rattle.law_expand.proofs.Changes.{BindsPattern, pattern-bound, pattern-adds}
@@ -90,35 +92,35 @@ module _ (own : LibName) (texts : List CodeNo) (rs : List CompiledLibrary) (x : 
       (λ a t g. goes-then own texts rs s t (cut (length s.scope) t) g (goes-cut own texts rs (length s.scope) t g.onward.0 g.safe)))
 
   module _ (place : Span) (level depth : ℕ) where
-    form-runs : (t : Tree) → Runs (inner.form place level depth t)
+    form-runs : (t : Tree) → Runs (inner.form (site_at place level depth) t)
     form-runs t s b y = holds.form place level depth t s b y
 
-    order-runs : (forms : List Tree) → Runs (in_order inner place level depth forms)
-    order-runs forms = each-runs (inner.form place level depth) form-runs forms
+    order-runs : (forms : List Tree) → Runs (in_order inner (site_at place level depth) forms)
+    order-runs forms = each-runs (inner.form (site_at place level depth)) form-runs forms
 
-    pub application-runs : (operator : Tree) (operands : List Tree) → Runs (application inner place level depth operator operands)
+    pub application-runs : (operator : Tree) (operands : List Tree) → Runs (application inner (site_at place level depth) operator operands)
     unfolding application
     application-runs operator operands =
-        runs (inner.form place level depth operator) (λ c s'. after (in_order inner place level depth operands s') (λ cs. give (call c (cores cs)))) (form-runs operator)
-        (λ c. runs (in_order inner place level depth operands) (λ cs. give (call c (cores cs))) (order-runs operands) (λ cs. gives (call c (cores cs))))
+        runs (inner.form (site_at place level depth) operator) (λ c s'. after (in_order inner (site_at place level depth) operands s') (λ cs. give (call c (cores cs)))) (form-runs operator)
+        (λ c. runs (in_order inner (site_at place level depth) operands) (λ cs. give (call c (cores cs))) (order-runs operands) (λ cs. gives (call c (cores cs))))
 
-    alternate-runs : (c d : PlainCore) (o : Option Tree) → Runs (alternate inner place level depth c d o)
+    alternate-runs : (c d : PlainCore) (o : Option Tree) → Runs (alternate inner (site_at place level depth) c d o)
     alternate-runs c d None = gives (one_armed c d)
-    alternate-runs c d (Some t) = runs (inner.form place level depth t) (λ e. give (two_armed c d e)) (form-runs t) (λ e. gives (two_armed c d e))
+    alternate-runs c d (Some t) = runs (inner.form (site_at place level depth) t) (λ e. give (two_armed c d e)) (form-runs t) (λ e. gives (two_armed c d e))
 
-    pub conditional-runs : (test consequent : Tree) (other : Option Tree) → Runs (conditional inner place level depth test consequent other)
+    pub conditional-runs : (test consequent : Tree) (other : Option Tree) → Runs (conditional inner (site_at place level depth) (if_parts test consequent other))
     unfolding conditional
     conditional-runs test consequent other =
-        runs (inner.form place level depth test) (λ c s'. after (inner.form place level depth consequent s') (λ d. alternate inner place level depth c d other)) (form-runs test)
-        (λ c. runs (inner.form place level depth consequent) (λ d. alternate inner place level depth c d other) (form-runs consequent) (λ d. alternate-runs c d other))
+        runs (inner.form (site_at place level depth) test) (λ c s'. after (inner.form (site_at place level depth) consequent s') (λ d. alternate inner (site_at place level depth) c d other)) (form-runs test)
+        (λ c. runs (inner.form (site_at place level depth) consequent) (λ d. alternate inner (site_at place level depth) c d other) (form-runs consequent) (λ d. alternate-runs c d other))
 
-    pub set-runs : (l : Label) (value : Tree) → Runs (set inner place level depth l value)
+    pub set-runs : (l : Label) (value : Tree) → Runs (set inner (site_at place level depth) l value)
     unfolding set
-    set-runs l value = runs (inner.form place level depth value) (λ c. give (assignment l c)) (form-runs value) (λ c. gives (assignment l c))
+    set-runs l value = runs (inner.form (site_at place level depth) value) (λ c. give (assignment l c)) (form-runs value) (λ c. gives (assignment l c))
 
-    pub sequence-runs : (forms : List Tree) → Runs (in_sequence inner place level depth forms)
+    pub sequence-runs : (forms : List Tree) → Runs (in_sequence inner (site_at place level depth) forms)
     unfolding in_sequence
-    sequence-runs forms = runs (in_order inner place level depth forms) (λ cs. give (sequence_of cs)) (order-runs forms) (λ cs. gives (sequence_of cs))
+    sequence-runs forms = runs (in_order inner (site_at place level depth) forms) (λ cs. give (sequence_of cs)) (order-runs forms) (λ cs. gives (sequence_of cs))
 
   -- The first pass over a body.
 
@@ -134,22 +136,22 @@ module _ (own : LibName) (texts : List CodeNo) (rs : List CompiledLibrary) (x : 
   -- The second pass.
 
   module _ (level : ℕ) where
-    value-runs : (place : Span) (depth : ℕ) (o : Option Tree) → Runs (value_of inner place level depth o)
+    value-runs : (place : Span) (depth : ℕ) (o : Option Tree) → Runs (value_of inner (site_at place level depth) o)
     value-runs place depth None = gives {A = PlainCore} no_value
     value-runs place depth (Some t) = form-runs place level depth t
 
-    line-runs : (place : Span) (depth : ℕ) (w : Waits) → Runs (finish_as inner level place depth w)
+    line-runs : (place : Span) (depth : ℕ) (w : Waits) → Runs (finish_as inner (site_at place level depth) w)
     unfolding finish_as fresh
     line-runs place depth (waits.Variable l value) s b y =
-        runs (value_of inner place level (deeper depth) value) (λ c. give (line.Define l c)) (value-runs place (deeper depth) value) (λ c. gives (line.Define l c)) s b y
+        runs (value_of inner (site_at place level (deeper depth)) value) (λ c. give (line.Define l c)) (value-runs place (deeper depth) value) (λ c. gives (line.Define l c)) s b y
     line-runs place depth (waits.Procedure l t ids forms) s b y =
         let start = goes-counted own texts rs s b y in
         let n : CodeNo = record { 0 = s.names } in
-        sure-less (R (counted s)) (R s) (after (inner.procedure place level (deeper depth) t ids forms (counted s)) (λ c. give (line.Define l (procedure n (cases (c ∷ [])) true))))
-        (runs (inner.procedure place level (deeper depth) t ids forms) (λ c. give (line.Define l (procedure n (cases (c ∷ [])) true))) (λ u c z. holds.procedure place level (deeper depth) t ids forms u c z)
+        sure-less (R (counted s)) (R s) (after (inner.procedure (site_at place level (deeper depth)) (procedure_parts t ids forms) (counted s)) (λ c. give (line.Define l (procedure n (cases (c ∷ [])) true))))
+        (runs (inner.procedure (site_at place level (deeper depth)) (procedure_parts t ids forms)) (λ c. give (line.Define l (procedure n (cases (c ∷ [])) true))) (λ u c z. holds.procedure place level (deeper depth) t ids forms u c z)
         (λ c. gives (line.Define l (procedure n (cases (c ∷ [])) true))) (counted s) start.onward.0 start.safe)
         (λ a u g. goes-then own texts rs s (counted s) u start g)
-    line-runs place depth (waits.Expression t) s b y = runs (inner.form place level depth t) (λ c. give (line.Expr c)) (form-runs place level depth t) (λ c. gives (line.Expr c)) s b y
+    line-runs place depth (waits.Expression t) s b y = runs (inner.form (site_at place level depth) t) (λ c. give (line.Expr c)) (form-runs place level depth t) (λ c. gives (line.Expr c)) s b y
 
     pub lines-run : (ws : List Waiting) → Runs (finish_all inner level ws)
     lines-run ws = each-runs (finish_one inner level) (λ w. line-runs w.place w.depth w.what) ws
@@ -163,11 +165,11 @@ module _ (own : LibName) (texts : List CodeNo) (rs : List CompiledLibrary) (x : 
         sure-if (R s) d.has_expression (after (finish_all inner level d.waiting s) (λ ls. give (body_core ls))) _
         (λ e. runs (finish_all inner level d.waiting) (λ ls. give (body_core ls)) (lines-run level d.waiting) (λ ls. gives (body_core ls)) s b y) (λ e. tt)
 
-    pub body-runs : (forms : List Tree) → Runs (body inner place level depth t forms)
+    pub body-runs : (forms : List Tree) → Runs (body inner (site_at place level depth) t forms)
     unfolding body
-    body-runs forms = within-runs (λ s. after (fresh_frame s) (body_in inner place level depth t forms)) (framed (body_in inner place level depth t forms) inside)
+    body-runs forms = within-runs (λ s. after (fresh_frame s) (body_in inner (site_at place level depth) t forms)) (framed (body_in inner (site_at place level depth) t forms) inside)
       where
-        inside : (f : FrameNo) → f.0.library ≡ own → Runs (body_in inner place level depth t forms f)
+        inside : (f : FrameNo) → f.0.library ≡ own → Runs (body_in inner (site_at place level depth) t forms f)
         inside f mine s b y =
             sure-after (Takes s) (R s) (splice inner (lambda_at f place level) depth begun (map (stamp f) forms) s) (finish inner place level t)
             (splice-goes (lambda_at f place level) depth begun (map (stamp f) forms) s ((λ e. absurd (cc)), mine) b y tt)
@@ -175,70 +177,70 @@ module _ (own : LibName) (texts : List CodeNo) (rs : List CompiledLibrary) (x : 
 
     -- Procedures.
 
-    pub case-runs : (ids : FormalIds) (forms : List Tree) → Runs (lambda_case inner place level depth t ids forms)
+    pub case-runs : (ids : FormalIds) (forms : List Tree) → Runs (lambda_case inner (site_at place level depth) (procedure_parts t ids forms))
     unfolding lambda_case
-    case-runs ids forms = within-runs (λ s. after (fresh_frame s) (case_in inner place level depth t ids forms)) (framed (case_in inner place level depth t ids forms) inside)
+    case-runs ids forms = within-runs (λ s. after (fresh_frame s) (case_in inner (site_at place level depth) (procedure_parts t ids forms))) (framed (case_in inner (site_at place level depth) (procedure_parts t ids forms)) inside)
       where
-        inside : (f : FrameNo) → f.0.library ≡ own → Runs (case_in inner place level depth t ids forms f)
+        inside : (f : FrameNo) → f.0.library ≡ own → Runs (case_in inner (site_at place level depth) (procedure_parts t ids forms) f)
         inside f mine s b y =
-            go own texts rs s (bind_formals f place level ids s) (λ fs u. after (body inner place level depth t (map (stamp f) forms) u) (λ c. give (record { formals = fs; body = c })))
+            go own texts rs s (bind_formals f place level ids s) (λ fs u. after (body inner (site_at place level depth) t (map (stamp f) forms) u) (λ c. give (record { formals = fs; body = c })))
             (sure-less (λ fs u. Light own texts rs s u × BindsAll own f s (formals_labels fs) u) (R s) (bind_formals f place level ids s)
             (sure-with (λ fs u. Light own texts rs s u) (λ fs u. BindsAll own f s (formals_labels fs) u) (bind_formals f place level ids s) (formals-light own texts rs f place level ids s y) (binds-formals own f place level ids s b.sound.next))
             (λ fs u k. goes-but own texts rs f false (formals_labels fs) [] s u b k.0 k.1.later k.1.adds))
-            (λ fs u g. runs (body inner place level depth t (map (stamp f) forms)) (λ c. give (record { formals = fs; body = c })) (body-runs (map (stamp f) forms)) (λ c. gives {A = Lambda} (record { formals = fs; body = c })) u g.onward.0 g.safe)
+            (λ fs u g. runs (body inner (site_at place level depth) t (map (stamp f) forms)) (λ c. give (record { formals = fs; body = c })) (body-runs (map (stamp f) forms)) (λ c. gives {A = Lambda} (record { formals = fs; body = c })) u g.onward.0 g.safe)
 
-    pub lambda-runs : (ids : FormalIds) (forms : List Tree) → Runs (lambda inner place level depth t ids forms)
+    pub lambda-runs : (ids : FormalIds) (forms : List Tree) → Runs (lambda inner (site_at place level depth) (procedure_parts t ids forms))
     unfolding lambda fresh
     lambda-runs ids forms s b y =
         let start = goes-counted own texts rs s b y in
         let n : CodeNo = record { 0 = s.names } in
-        sure-less (R (counted s)) (R s) (after (lambda_case inner place level depth t ids forms (counted s)) (λ c. give (procedure n (cases (c ∷ [])) true)))
-        (runs (lambda_case inner place level depth t ids forms) (λ c. give (procedure n (cases (c ∷ [])) true)) (case-runs ids forms) (λ c. gives (procedure n (cases (c ∷ [])) true)) (counted s) start.onward.0 start.safe)
+        sure-less (R (counted s)) (R s) (after (lambda_case inner (site_at place level depth) (procedure_parts t ids forms) (counted s)) (λ c. give (procedure n (cases (c ∷ [])) true)))
+        (runs (lambda_case inner (site_at place level depth) (procedure_parts t ids forms)) (λ c. give (procedure n (cases (c ∷ [])) true)) (case-runs ids forms) (λ c. gives (procedure n (cases (c ∷ [])) true)) (counted s) start.onward.0 start.safe)
         (λ a u g. goes-then own texts rs s (counted s) u start g)
 
-    pub cases-run : (cs : List LambdaCase) → Runs (case_lambda inner place level depth t cs)
+    pub cases-run : (cs : List LambdaCase) → Runs (case_lambda inner (site_at place level depth) t cs)
     unfolding case_lambda fresh
     cases-run cs s b y =
         let start = goes-counted own texts rs s b y in
         let n : CodeNo = record { 0 = s.names } in
-        sure-less (R (counted s)) (R s) (after (all_cases inner place level depth t cs (counted s)) (λ zs. give (procedure n (cases zs) false)))
-        (runs (all_cases inner place level depth t cs) (λ zs. give (procedure n (cases zs) false)) (each-runs (one_case inner place level depth t) (λ c. case-runs c.formals c.body) cs) (λ zs. gives (procedure n (cases zs) false)) (counted s) start.onward.0 start.safe)
+        sure-less (R (counted s)) (R s) (after (all_cases inner (site_at place level depth) t cs (counted s)) (λ zs. give (procedure n (cases zs) false)))
+        (runs (all_cases inner (site_at place level depth) t cs) (λ zs. give (procedure n (cases zs) false)) (each-runs (one_case inner (site_at place level depth) t) (λ c. case-runs c.formals c.body) cs) (λ zs. gives (procedure n (cases zs) false)) (counted s) start.onward.0 start.safe)
         (λ a u g. goes-then own texts rs s (counted s) u start g)
 
     -- `letrec`.
 
-    init-runs : (f : FrameNo) (z : BoundSpec) → Runs (one_init inner place level depth f z)
+    init-runs : (f : FrameNo) (z : BoundSpec) → Runs (one_init inner (site_at place level depth) f z)
     unfolding one_init
-    init-runs f z = runs (inner.form place level depth (stamp f z.init)) (λ c. give (record { label = z.label; value = c })) (form-runs place level depth (stamp f z.init)) (λ c. gives {A = Init} (record { label = z.label; value = c }))
+    init-runs f z = runs (inner.form (site_at place level depth) (stamp f z.init)) (λ c. give (record { label = z.label; value = c })) (form-runs place level depth (stamp f z.init)) (λ c. gives {A = Init} (record { label = z.label; value = c }))
 
-    pub letrec-runs : (star : Bool) (bs : List BindingSpec) (forms : List Tree) → Runs (letrec_form inner place level depth t star bs forms)
+    pub letrec-runs : (star : Bool) (bs : List BindingSpec) (forms : List Tree) → Runs (letrec_form inner (site_at place level depth) (letrec_parts t star bs forms))
     unfolding letrec_form
-    letrec-runs star bs forms = within-runs (λ s. after (fresh_frame s) (letrec_in inner place level depth t star bs forms)) (framed (letrec_in inner place level depth t star bs forms) inside)
+    letrec-runs star bs forms = within-runs (λ s. after (fresh_frame s) (letrec_in inner (site_at place level depth) (letrec_parts t star bs forms))) (framed (letrec_in inner (site_at place level depth) (letrec_parts t star bs forms)) inside)
       where
-        inside : (f : FrameNo) → f.0.library ≡ own → Runs (letrec_in inner place level depth t star bs forms f)
+        inside : (f : FrameNo) → f.0.library ≡ own → Runs (letrec_in inner (site_at place level depth) (letrec_parts t star bs forms) f)
         inside f mine s b y =
-            go own texts rs s (bind_specs f place level bs s) (λ ls s'. after (all_inits inner place level depth f ls s') (λ is s''. after (body inner place level depth t (map (stamp f) forms) s'') (λ c. give (letrec star (inits is) c))))
+            go own texts rs s (bind_specs f place level bs s) (λ ls s'. after (all_inits inner (site_at place level depth) f ls s') (λ is s''. after (body inner (site_at place level depth) t (map (stamp f) forms) s'') (λ c. give (letrec star (inits is) c))))
             (sure-less (λ zs u. Light own texts rs s u × BindsAll own f s (map spec_label zs) u) (R s) (bind_specs f place level bs s)
             (sure-with (λ zs u. Light own texts rs s u) (λ zs u. BindsAll own f s (map spec_label zs) u) (bind_specs f place level bs s) (specs-light own texts rs f place level bs s y) (binds-specs own f place level bs s b.sound.next))
             (λ zs u k. goes-but own texts rs f false (map spec_label zs) [] s u b k.0 k.1.later k.1.adds))
-            (λ zs u g. runs (all_inits inner place level depth f zs) (λ is s''. after (body inner place level depth t (map (stamp f) forms) s'') (λ c. give (letrec star (inits is) c))) (each-runs (one_init inner place level depth f) (init-runs f) zs)
-            (λ is. runs (body inner place level depth t (map (stamp f) forms)) (λ c. give (letrec star (inits is) c)) (body-runs (map (stamp f) forms)) (λ c. gives (letrec star (inits is) c))) u g.onward.0 g.safe)
+            (λ zs u g. runs (all_inits inner (site_at place level depth) f zs) (λ is s''. after (body inner (site_at place level depth) t (map (stamp f) forms) s'') (λ c. give (letrec star (inits is) c))) (each-runs (one_init inner (site_at place level depth) f) (init-runs f) zs)
+            (λ is. runs (body inner (site_at place level depth) t (map (stamp f) forms)) (λ c. give (letrec star (inits is) c)) (body-runs (map (stamp f) forms)) (λ c. gives (letrec star (inits is) c))) u g.onward.0 g.safe)
 
   -- `syntax-case`.
 
   module _ (place : Span) (level depth : ℕ) (literals : List Tree) where
-    fender-runs : (f : FrameNo) (o : Option Tree) → Runs (fender inner place level depth f o)
+    fender-runs : (f : FrameNo) (o : Option Tree) → Runs (fender inner (site_at place level depth) f o)
     fender-runs f None = gives {A = Option PlainCore} None
-    fender-runs f (Some t) = runs (inner.form place level depth (stamp f t)) (λ c. give (Some c)) (form-runs place level depth (stamp f t)) (λ c. gives {A = Option PlainCore} (Some c))
+    fender-runs f (Some t) = runs (inner.form (site_at place level depth) (stamp f t)) (λ c. give (Some c)) (form-runs place level depth (stamp f t)) (λ c. gives {A = Option PlainCore} (Some c))
 
-    clause-framed : (c : PatternCase) → Runs (λ s. after (fresh_frame s) (clause_in inner place level depth literals c))
+    clause-framed : (c : PatternCase) → Runs (λ s. after (fresh_frame s) (clause_in inner (site_at place level depth) literals c))
     unfolding fresh_frame
     clause-framed c s b y =
         let f = as_frame s.names in
         let z = counted s in
         let start = goes-counted own texts rs s b y in
         let moves = holds.spares.safe.moves in
-        sure-less (R z) (R s) (clause_in inner place level depth literals c f z)
+        sure-less (R z) (R s) (clause_in inner (site_at place level depth) literals c f z)
         (sure-after (λ p u. Light own texts rs z u × Patterned own z p u) (R z) (pattern_of literals place c.pattern z) _
         (sure-with (λ p u. Light own texts rs z u) (Patterned own z) (pattern_of literals place c.pattern z) (pattern-light own texts rs literals place c.pattern z b.sound.next start.safe) (pattern-later own literals place c.pattern z b.sound.next))
         (λ p u k. sure-after (λ (a : Unit {0}) v. Light own texts rs u v × BindsPattern own inner moves place level depth literals f z p v) (R z) (bind_pattern f place level p.variables u) _
@@ -247,26 +249,26 @@ module _ (own : LibName) (texts : List CodeNo) (rs : List CompiledLibrary) (x : 
         (λ a v j.
         let adds = pattern-adds own inner moves place level depth literals f p z v j.1 in
         let g = goes-but own texts rs f false _ _ z v start.onward.0 (light-then own texts rs z u v k.0 j.0) adds.0 adds.1.0 in
-        sure-less (R v) (R z) (after (fender inner place level depth f c.fender v) (λ e w. after (inner.form place level depth (stamp f c.output) w) (λ o. give (record { pattern = p.pattern; fender = e; output = o }))))
-        (runs (fender inner place level depth f c.fender) (λ e w. after (inner.form place level depth (stamp f c.output) w) (λ o. give (record { pattern = p.pattern; fender = e; output = o }))) (fender-runs f c.fender)
-        (λ e. runs (inner.form place level depth (stamp f c.output)) (λ o. give (record { pattern = p.pattern; fender = e; output = o })) (form-runs place level depth (stamp f c.output)) (λ o. gives {A = Clause} (record { pattern = p.pattern; fender = e; output = o })))
+        sure-less (R v) (R z) (after (fender inner (site_at place level depth) f c.fender v) (λ e w. after (inner.form (site_at place level depth) (stamp f c.output) w) (λ o. give (record { pattern = p.pattern; fender = e; output = o }))))
+        (runs (fender inner (site_at place level depth) f c.fender) (λ e w. after (inner.form (site_at place level depth) (stamp f c.output) w) (λ o. give (record { pattern = p.pattern; fender = e; output = o }))) (fender-runs f c.fender)
+        (λ e. runs (inner.form (site_at place level depth) (stamp f c.output)) (λ o. give (record { pattern = p.pattern; fender = e; output = o })) (form-runs place level depth (stamp f c.output)) (λ o. gives {A = Clause} (record { pattern = p.pattern; fender = e; output = o })))
         v g.onward.0 g.safe)
         (λ d w i. goes-then own texts rs z v w g i))))
         (λ d u g. goes-then own texts rs s z u start g)
 
-    clause-runs : (c : PatternCase) → Runs (pattern_clause inner place level depth literals c)
+    clause-runs : (c : PatternCase) → Runs (pattern_clause inner (site_at place level depth) literals c)
     unfolding pattern_clause
-    clause-runs c = within-runs (λ s. after (fresh_frame s) (clause_in inner place level depth literals c)) (clause-framed c)
+    clause-runs c = within-runs (λ s. after (fresh_frame s) (clause_in inner (site_at place level depth) literals c)) (clause-framed c)
 
-    pub syntax-case-runs : (subject : Tree) (cs : List PatternCase) (span : Span) → Runs (syntax_case inner place level depth subject literals cs span)
+    pub syntax-case-runs : (subject : Tree) (cs : List PatternCase) (span : Span) → Runs (syntax_case inner (site_at place level depth) (syntax_case_parts subject literals cs span))
     unfolding syntax_case
     syntax-case-runs subject cs span =
-        runs (inner.form place level depth subject) (λ c s'. after (check_literals place literals s') (λ _ s''. after (all_clauses inner place level depth literals cs s'') (λ zs. give (matching c (clauses zs) span)))) (form-runs place level depth subject)
-        (λ c. runs (check_literals place literals) (λ _ s''. after (all_clauses inner place level depth literals cs s'') (λ zs. give (matching c (clauses zs) span)))
+        runs (inner.form (site_at place level depth) subject) (λ c s'. after (check_literals place literals s') (λ _ s''. after (all_clauses inner (site_at place level depth) literals cs s'') (λ zs. give (matching c (clauses zs) span)))) (form-runs place level depth subject)
+        (λ c. runs (check_literals place literals) (λ _ s''. after (all_clauses inner (site_at place level depth) literals cs s'') (λ zs. give (matching c (clauses zs) span)))
         (λ s b y. goes-light own texts rs s (check_literals place literals s) b (literals-light own texts rs literals place s y) (literals-later own literals place s b.sound.next))
-        (λ a. runs (all_clauses inner place level depth literals cs) (λ zs. give (matching c (clauses zs) span)) (each-runs (pattern_clause inner place level depth literals) clause-runs cs) (λ zs. gives (matching c (clauses zs) span))))
+        (λ a. runs (all_clauses inner (site_at place level depth) literals cs) (λ zs. give (matching c (clauses zs) span)) (each-runs (pattern_clause inner (site_at place level depth) literals) clause-runs cs) (λ zs. gives (matching c (clauses zs) span))))
 
-  pub keywords-form-runs : (place : Span) (level depth : ℕ) (recursive : Bool) (bs : List BindingSpec) (forms : List Tree) → Runs (keywords_form inner place level depth recursive bs forms)
+  pub keywords-form-runs : (place : Span) (level depth : ℕ) (recursive : Bool) (bs : List BindingSpec) (forms : List Tree) → Runs (keywords_form inner (site_at place level depth) (let_syntax_parts recursive bs forms))
   unfolding keywords_form
   keywords-form-runs place level depth recursive bs forms =
-      runs (with_keywords inner place level depth recursive bs forms) (in_sequence inner place level depth) (λ s b y. keywords-go own texts rs x inner holds place level depth recursive bs forms s b y) (λ zs. sequence-runs place level depth zs)
+      runs (with_keywords inner (site_at place level depth) (let_syntax_parts recursive bs forms)) (in_sequence inner (site_at place level depth)) (λ s b y. keywords-go own texts rs x inner holds place level depth recursive bs forms s b y) (λ zs. sequence-runs place level depth zs)

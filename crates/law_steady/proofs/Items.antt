@@ -13,6 +13,8 @@ use Rattle.core_shapes.specs.declared.shape.BindingSpec.{BindingSpec}
 use Rattle.expand_standing.specs.State.{State, fault_word}
 use Rattle.expand_standing.specs.Uses.{asks_variable, bind_keyword}
 use Rattle.expand_standing.specs.declared.binders.BoundSpec.{BoundSpec}
+use Rattle.expand_heads.specs.declared.item.HeadItem.{HeadItem}
+use Rattle.expand_heads.specs.declared.item.HeadItem.TheVariants as head_items
 use Rattle.expand_heads.specs.Depth.{deeper, most_round}
 use Rattle.expand_heads.specs.Items.{any_changed, heads_like, is_mixed, is_top, keyword_in_time, define_keyword, item_plan}
 use Rattle.expand_heads.specs.declared.item.Item.{Item}
@@ -28,6 +30,8 @@ use Rattle.expand_forms.specs.ExpandUses.{next_form, too_many, at_use, set_item_
 use Rattle.expand_forms.specs.declared.expand_uses.ItemOrUse.{ItemOrUse}
 use Rattle.expand_forms.specs.declared.expand_uses.ItemOrUse.TheVariants as item_steps
 use Rattle.expand_forms.specs.declared.expand_uses.PlannedItem.{PlannedItem}
+use Rattle.expand_forms.specs.Site.{site_at}
+use Rattle.expand_forms.specs.Forms.{definition_parts, let_syntax_parts}
 use Rattle.law_expand.proofs.Acts.{gave-both}
 use Rattle.law_expand.proofs.BindingKeywords.{BindsKeywords}
 use Rattle.law_expand.proofs.Items.{defines-keyword, IsPlaced}
@@ -76,16 +80,16 @@ module _ (own : LibName) (texts : List CodeNo) (rs : List CompiledLibrary) (x : 
         (λ e. sure-after (λ y u. Pending own texts rs x s (y ∷ []) u) (λ y u. Pending own texts rs x s (y ∷ []) u) (bind_keyword at.frame at.place at.level b s) (λ y u. after (keyword_in_time at d b.id u) (λ _. give y))
         (keyword-pends own texts rs x at.frame at.place at.level b s h.sound.next k) (λ y u p. in-time at d b.id s u y p))
 
-    defines-go : (at : BodyAt) (depth : ℕ) (d : Taken) (t : Tree) (b : BindingSpec) (s : State) → Low at → Bs s → S s → Sure (G own texts rs s) (define_syntax inner at depth d t b s)
+    defines-go : (at : BodyAt) (depth : ℕ) (d : Taken) (t : Tree) (b : BindingSpec) (s : State) → Low at → Bs s → S s → Sure (G own texts rs s) (define_syntax inner at depth d (definition_parts t b) s)
     unfolding define_syntax
     defines-go at depth d t b s low h k =
-        sure-after (λ y u. Pending own texts rs x s (y ∷ []) u × (BindsKeywords own at.frame s (y ∷ []) u × Tells s.keywords u.keywords)) (G own texts rs s) (define_keyword at d t b s) (expand_transformer inner at.place at.level depth)
+        sure-after (λ y u. Pending own texts rs x s (y ∷ []) u × (BindsKeywords own at.frame s (y ∷ []) u × Tells s.keywords u.keywords)) (G own texts rs s) (define_keyword at d t b s) (expand_transformer inner (site_at at.place at.level depth))
         (sure-with (λ y u. Pending own texts rs x s (y ∷ []) u) (λ y u. BindsKeywords own at.frame s (y ∷ []) u × Tells s.keywords u.keywords) (define_keyword at d t b s) (defines at d t b s h k)
         (gave-both (λ y u. BindsKeywords own at.frame s (y ∷ []) u) (λ y u. Tells s.keywords u.keywords) (define_keyword at d t b s) (defines-keyword own s at s h.sound.next low.0 d t b) (defined-told own (given own texts rs) at low.0 d t b s)))
         (λ y u j.
         let o = onward-but own (given own texts rs) at.frame (is_top at.kind) [] [] s u j.1.0.later (j.1.0.adds (is_top at.kind)) j.1.1 h in
         let first = j.0.labels.0 in
-        sure-less (λ a v. Onward own (given own texts rs) u v × (S v × FreshBut own texts rs x y.label u v)) (G own texts rs s) (expand_transformer inner at.place at.level depth y u)
+        sure-less (λ a v. Onward own (given own texts rs) u v × (S v × FreshBut own texts rs x y.label u v)) (G own texts rs s) (expand_transformer inner (site_at at.place at.level depth) y u)
         (keyword-go own texts rs x inner holds at.place at.level depth y u o.0 j.0.safe (first.0, (first.1.1, j.0.free.0)))
         (λ a v i. one-pended own texts rs x inner holds s u v y j.0 o i.0 i.1.0 i.1.1))
 
@@ -94,14 +98,12 @@ module _ (own : LibName) (texts : List CodeNo) (rs : List CompiledLibrary) (x : 
     performs at low depth d t items.Nothing s b h k = (goes-self own texts rs s b h, k)
     performs at low depth d t (items.Forms forms) s b h k = splice-goes own texts rs x inner holds at (deeper depth) d forms s low b h k
     performs at low depth d t (items.Keyword z) s b h k =
-        sure-after (G own texts rs s) (λ e u. Goes own texts rs s u × W u e) (define_syntax inner at (deeper depth) d t z s) (λ _. give d) (defines-go at (deeper depth) d t z s low b h) (λ a u g. (g, unspent-all own s u (taken_labels d) g.onward.1 k))
+        sure-after (G own texts rs s) (λ e u. Goes own texts rs s u × W u e) (define_syntax inner at (deeper depth) d (definition_parts t z) s) (λ _. give d) (defines-go at (deeper depth) d t z s low b h) (λ a u g. (g, unspent-all own s u (taken_labels d) g.onward.1 k))
     performs at low depth d t (items.Keywords recursive bs forms) s b h k =
-        sure-after (G own texts rs s) (λ e u. Goes own texts rs s u × W u e) (with_keywords inner at.place at.level (deeper depth) recursive bs forms s) (splice inner at (deeper depth) d)
+        sure-after (G own texts rs s) (λ e u. Goes own texts rs s u × W u e) (with_keywords inner (site_at at.place at.level (deeper depth)) (let_syntax_parts recursive bs forms) s) (splice inner at (deeper depth) d)
         (keywords-go own texts rs x inner holds at.place at.level (deeper depth) recursive bs forms s b h)
         (λ zs u g. sure-less (λ e v. Goes own texts rs u v × W v e) (λ e v. Goes own texts rs s v × W v e) (splice inner at (deeper depth) d zs u)
         (splice-goes own texts rs x inner holds at (deeper depth) d zs u low g.onward.0 g.safe (unspent-all own s u (taken_labels d) g.onward.1 k)) (λ e v j. (goes-then own texts rs s u v g j.0, j.1)))
-    performs at low depth d t (items.Use l) s b h k = tt
-    performs at low depth d t (items.SetUse l) s b h k = tt
 
   -- Uses in a body are expanded.
 
@@ -117,13 +119,10 @@ module _ (own : LibName) (texts : List CodeNo) (rs : List CompiledLibrary) (x : 
     set-left at d t l true s h = (h, fresh-same own texts rs s s refl)
     set-left at d t l false s h = (h, fresh-same own texts rs s s refl)
 
-    step-of : (at : BodyAt) (t : Tree) (d : Taken) (i : Item) (s : State) → Bs s → S s → Sure (Left s) (item_step_of rs at depth t d i s)
-    step-of at t d items.Nothing s b h = (h, fresh-same own texts rs s s refl)
-    step-of at t d (items.Forms forms) s b h = (h, fresh-same own texts rs s s refl)
-    step-of at t d (items.Keyword z) s b h = (h, fresh-same own texts rs s s refl)
-    step-of at t d (items.Keywords recursive bs forms) s b h = (h, fresh-same own texts rs s s refl)
-    step-of at t d (items.Use l) s b h = (h, fresh-same own texts rs s s refl)
-    step-of at t d (items.SetUse l) s b h =
+    step-of : (at : BodyAt) (t : Tree) (d : Taken) (i : HeadItem) (s : State) → Bs s → S s → Sure (Left s) (item_step_of rs at depth t d i s)
+    step-of at t d (head_items.Item i) s b h = (h, fresh-same own texts rs s s refl)
+    step-of at t d (head_items.Use l) s b h = (h, fresh-same own texts rs s s refl)
+    step-of at t d (head_items.SetUse l) s b h =
         sure-after (G own texts rs s) (Left s) (asks_variable rs (place_of t at.place) l s) (set_item_step at depth d t l) (asks-go own texts rs x (place_of t at.place) l s b h) (λ c u g. same c u g)
       where
         same : (c : Bool) (u : State) → Goes own texts rs s u → Sure (Left s) (set_item_step at depth d t l c u)

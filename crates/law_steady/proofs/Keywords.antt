@@ -35,6 +35,8 @@ use Rattle.expand_heads.specs.declared.taken.BodyAt.{BodyAt}
 use Rattle.expand_heads.specs.declared.taken.Taken.{Taken}
 use Rattle.expand_forms.specs.Inside.{Inside}
 use Rattle.expand_forms.specs.Keywords.{expand_transformer, seen_in, expand_transformer_in, expand_transformers, keywords, with_keywords}
+use Rattle.expand_forms.specs.Site.{site_at}
+use Rattle.expand_forms.specs.Forms.{let_syntax_parts, procedure_parts}
 use Rattle.law_expand.specs.States.{IsOwn}
 use Rattle.law_expand.proofs.Acts.{gave-both}
 use Rattle.law_expand.proofs.Binding.{spec_label}
@@ -62,8 +64,8 @@ Placed own at = (is_top at.kind ≡ true → at.level ≡ 0) × (at.frame.0.libr
 pub record Holds (own : LibName) (texts : List CodeNo) (rs : List CompiledLibrary) (inner : Inside) : Type 0 where
   pub spares : Spares own (flat_map defined rs) inner
   pub earlier : inner.earlier ≡ rs
-  pub form : (place : Span) (level depth : ℕ) (t : Tree) (s : State) → B own texts rs s → Safe own texts rs s → Sure (G own texts rs s) (inner.form place level depth t s)
-  pub procedure : (place : Span) (level depth : ℕ) (t : Tree) (ids : FormalIds) (forms : List Tree) (s : State) → B own texts rs s → Safe own texts rs s → Sure (G own texts rs s) (inner.procedure place level depth t ids forms s)
+  pub form : (place : Span) (level depth : ℕ) (t : Tree) (s : State) → B own texts rs s → Safe own texts rs s → Sure (G own texts rs s) (inner.form (site_at place level depth) t s)
+  pub procedure : (place : Span) (level depth : ℕ) (t : Tree) (ids : FormalIds) (forms : List Tree) (s : State) → B own texts rs s → Safe own texts rs s → Sure (G own texts rs s) (inner.procedure (site_at place level depth) (procedure_parts t ids forms) s)
   pub item : (at : BodyAt) (depth : ℕ) (d : Taken) (t : Tree) (s : State) → Placed own at → B own texts rs s → Safe own texts rs s → AreUnspent own s (taken_labels d)
       → Sure (λ e u. Goes own texts rs s u × AreUnspent own u (taken_labels e)) (inner.item at depth d t s)
 
@@ -104,10 +106,10 @@ module _ (own : LibName) (texts : List CodeNo) (rs : List CompiledLibrary) (x : 
 
   -- The expression of a keyword is expanded with nothing in scope.
 
-  apart-go : (place : Span) (level depth : ℕ) (t : Tree) (s : State) → Bs s → S s → Sure (λ c w. (S w × Fresh own texts rs s w) × E s c w) (apart (inner.form place (level + 1) depth t) s)
+  apart-go : (place : Span) (level depth : ℕ) (t : Tree) (s : State) → Bs s → S s → Sure (λ c w. (S w × Fresh own texts rs s w) × E s c w) (apart (inner.form (site_at place (level + 1) depth) t) s)
   apart-go place level depth t s b h =
       let z : State = record s { scope = [] } in
-      let m = inner.form place (level + 1) depth t in
+      let m = inner.form (site_at place (level + 1) depth) t in
       sure-with (λ c w. S w × Fresh own texts rs s w) (E s) (apart m s)
       (sure-after (G own texts rs z) (λ c w. S w × Fresh own texts rs s w) (m z) (restoring s.scope)
       (holds.form place (level + 1) depth t z (nothing-begins own (given own texts rs) inner holds.spares s b) (safe-rest own texts rs s s.exports s.assigned [] s.uses_left s.record_types h))
@@ -131,13 +133,13 @@ module _ (own : LibName) (texts : List CodeNo) (rs : List CompiledLibrary) (x : 
       by (inr (inr is)) = inr (inr is)
 
   pub keyword-go : (place : Span) (level depth : ℕ) (b : BoundSpec) (s : State) → Bs s → S s → WaitsIn s b.label
-      → Sure (λ a v. O s v × (S v × FreshBut own texts rs x b.label s v)) (expand_transformer inner place level depth b s)
+      → Sure (λ a v. O s v × (S v × FreshBut own texts rs x b.label s v)) (expand_transformer inner (site_at place level depth) b s)
   unfolding expand_transformer
   keyword-go place level depth b s h k waits =
-      let r = after (apart (inner.form place (level + 1) depth b.init) s) (evaluate_transformer inner.earlier (place_of b.init place) b.label) in
+      let r = after (apart (inner.form (site_at place (level + 1) depth) b.init) s) (evaluate_transformer inner.earlier (place_of b.init place) b.label) in
       sure-less (λ (a : Unit {0}) v. (S v × FreshBut own texts rs x b.label s v) × (O s v × Unit {0})) (λ a v. O s v × (S v × FreshBut own texts rs x b.label s v)) r
       (sure-with (λ (a : Unit {0}) v. S v × FreshBut own texts rs x b.label s v) (λ a v. O s v × Unit {0}) r
-      (sure-after (λ c w. (S w × Fresh own texts rs s w) × E s c w) (λ (a : Unit {0}) v. S v × FreshBut own texts rs x b.label s v) (apart (inner.form place (level + 1) depth b.init) s) (evaluate_transformer inner.earlier (place_of b.init place) b.label)
+      (sure-after (λ c w. (S w × Fresh own texts rs s w) × E s c w) (λ (a : Unit {0}) v. S v × FreshBut own texts rs x b.label s v) (apart (inner.form (site_at place (level + 1) depth) b.init) s) (evaluate_transformer inner.earlier (place_of b.init place) b.label)
       (apart-go place level depth b.init s h k)
       (λ c w e. subst (λ (qs : List CompiledLibrary). Sure (λ (a : Unit {0}) v. S v × FreshBut own texts rs x b.label s v) (evaluate_transformer qs (place_of b.init place) b.label c w)) (sym holds.earlier) (finished c w e)))
       (spares-keyword own (given own texts rs) inner holds.spares place level depth b s h))
@@ -183,17 +185,17 @@ module _ (own : LibName) (texts : List CodeNo) (rs : List CompiledLibrary) (x : 
   seen-label false f b = refl
 
   all-go : (place : Span) (level depth : ℕ) (recursive : Bool) (f : FrameNo) (bs : List BoundSpec) (s : State) → Bs s → S s → Wait s bs → Once (map spec_label bs)
-      → Sure (λ (a : Unit {0}) u. O s u × (S u × FreshBeside (map spec_label bs) s u)) (expand_transformers inner place level depth recursive f bs s)
+      → Sure (λ (a : Unit {0}) u. O s u × (S u × FreshBeside (map spec_label bs) s u)) (expand_transformers inner (site_at place level depth) recursive f bs s)
   unfolding gather
   all-go place level depth recursive f [] s h k w once = (onward-self own (given own texts rs) s h, (k, (λ m e v i o. inl i)))
   all-go place level depth recursive f (b ∷ bs) s h k w once =
       let c = seen_in recursive f b in
-      sure-after (λ (a : Unit {0}) u. O s u × (S u × FreshBut own texts rs x c.label s u)) (λ (a : Unit {0}) u. O s u × (S u × FreshBeside (map spec_label (b ∷ bs)) s u)) (expand_transformer_in inner place level depth recursive f tt b s) (λ e. gather (expand_transformer_in inner place level depth recursive f) e bs)
+      sure-after (λ (a : Unit {0}) u. O s u × (S u × FreshBut own texts rs x c.label s u)) (λ (a : Unit {0}) u. O s u × (S u × FreshBeside (map spec_label (b ∷ bs)) s u)) (expand_transformer_in inner (site_at place level depth) recursive f tt b s) (λ e. gather (expand_transformer_in inner (site_at place level depth) recursive f) e bs)
       (keyword-go place level depth c s h k (subst (WaitsIn s) (sym (seen-label recursive f b)) w.0))
       (λ a u j.
       let but = subst (λ l. FreshBut own texts rs x l s u) (seen-label recursive f b) j.1.1 in
       let up = j.0.1.up in
-      sure-less (λ (d : Unit {0}) v. O u v × (S v × FreshBeside (map spec_label bs) u v)) (λ (d : Unit {0}) v. O s v × (S v × FreshBeside (map spec_label (b ∷ bs)) s v)) (expand_transformers inner place level depth recursive f bs u)
+      sure-less (λ (d : Unit {0}) v. O u v × (S v × FreshBeside (map spec_label bs) u v)) (λ (d : Unit {0}) v. O s v × (S v × FreshBeside (map spec_label (b ∷ bs)) s v)) (expand_transformers inner (site_at place level depth) recursive f bs u)
       (all-go place level depth recursive f bs u j.0.0 j.1.0 (wait-still s u b.label bs up but once.0 w.1) once.1)
       (λ d v i. (onward-then own (given own texts rs) s u v j.0 i.0, (i.1.0, (λ m e y p o. both s u b bs up but m e y o (i.1.1 m e y p o))))))
     where
@@ -245,20 +247,20 @@ module _ (own : LibName) (texts : List CodeNo) (rs : List CompiledLibrary) (x : 
       by m e w (inr (inl le)) = inr (inl le)
       by m e w (inr (inr is)) = inr (inr (inl is))
 
-  pub keywords-go : (place : Span) (level depth : ℕ) (recursive : Bool) (bs : List BindingSpec) (forms : List Tree) (s : State) → Bs s → S s → Sure (G own texts rs s) (with_keywords inner place level depth recursive bs forms s)
+  pub keywords-go : (place : Span) (level depth : ℕ) (recursive : Bool) (bs : List BindingSpec) (forms : List Tree) (s : State) → Bs s → S s → Sure (G own texts rs s) (with_keywords inner (site_at place level depth) (let_syntax_parts recursive bs forms) s)
   unfolding fresh_frame keywords
   keywords-go place level depth recursive bs forms s b h =
       let f = as_frame s.names in
       let z = counted s in
       let start = goes-counted own texts rs s b h in
-      sure-less (G own texts rs z) (G own texts rs s) (after (keywords inner place level depth recursive bs f z) (λ _. give (map (stamp f) forms)))
-      (go own texts rs z (keywords inner place level depth recursive bs f z) (λ _. give (map (stamp f) forms))
-      (sure-after (λ xs u. Pending own texts rs x z xs u × (BindsKeywords own f z xs u × Tells z.keywords u.keywords)) (G own texts rs z) (bind_keywords f place level bs z) (expand_transformers inner place level depth recursive f)
+      sure-less (G own texts rs z) (G own texts rs s) (after (keywords inner (site_at place level depth) recursive bs f z) (λ _. give (map (stamp f) forms)))
+      (go own texts rs z (keywords inner (site_at place level depth) recursive bs f z) (λ _. give (map (stamp f) forms))
+      (sure-after (λ xs u. Pending own texts rs x z xs u × (BindsKeywords own f z xs u × Tells z.keywords u.keywords)) (G own texts rs z) (bind_keywords f place level bs z) (expand_transformers inner (site_at place level depth) recursive f)
       (sure-with (λ xs u. Pending own texts rs x z xs u) (λ xs u. BindsKeywords own f z xs u × Tells z.keywords u.keywords) (bind_keywords f place level bs z) (keywords-pend own texts rs x f place level bs z b.sound.next start.safe)
       (gave-both (BindsKeywords own f z) (λ xs u. Tells z.keywords u.keywords) (bind_keywords f place level bs z) (binds-keywords own f place level bs z b.sound.next) (keywords-told f place level bs z)))
       (λ xs u k.
       let o = onward-but own (given own texts rs) f false [] [] z u k.1.0.later (k.1.0.adds false) k.1.1 start.onward.0 in
-      sure-less (λ (a : Unit {0}) v. O u v × (S v × FreshBeside (map spec_label xs) u v)) (G own texts rs z) (expand_transformers inner place level depth recursive f xs u) (all-go place level depth recursive f xs u o.0 k.0.safe (pending-waits z u xs k.0) k.0.once)
+      sure-less (λ (a : Unit {0}) v. O u v × (S v × FreshBeside (map spec_label xs) u v)) (G own texts rs z) (expand_transformers inner (site_at place level depth) recursive f xs u) (all-go place level depth recursive f xs u o.0 k.0.safe (pending-waits z u xs k.0) k.0.once)
       (λ a v j. pended-go z u v xs k.0 o j.0 j.1.0 j.1.1)))
       (λ a u g. goes-self own texts rs u g.onward.0 g.safe))
       (λ a u g. goes-then own texts rs s z u start g)

@@ -30,11 +30,13 @@ use Rattle.expand_standing.specs.declared.standing.Role.TheVariants as role
 use Rattle.expand_standing.specs.declared.standing.Standing.{Standing}
 use Rattle.expand_standing.specs.declared.standing.Standing.TheVariants as standing
 use Rattle.expand_standing.specs.declared.standing.Variable.{Variable}
+use Rattle.expand_heads.specs.declared.item.HeadItem.{HeadItem}
+use Rattle.expand_heads.specs.declared.item.HeadItem.TheVariants as head_items
+use Rattle.expand_heads.specs.declared.plan.HeadPlan.TheVariants as head_plans
 use Rattle.expand_heads.specs.Items as items_of
 use Rattle.expand_heads.specs.Items.{wait, keep, any_changed, heads_like, is_mixed, is_top, with_waiting, in_time, keyword_in_time, define, define_item, target_item, set_item, begin_item, keywords_item, core_item, headed_item, list_item, leaf_by, leaf_item, item_plan}
 use Rattle.expand_heads.specs.Plan as plans_of
 use Rattle.expand_heads.specs.Plan.{variable_at, refer, reference, constant, target_variable, target_by, assign_to, assign_by, assign, call_of, application, in_sequence, keywords_plan, operand_plan, shape_plan, keyword_plan, by_head, list_plan, plan_of}
-use Rattle.expand_heads.specs.declared.item.Item.{Item}
 use Rattle.expand_heads.specs.declared.item.Item.TheVariants as items
 use Rattle.expand_heads.specs.declared.plan.Plan.TheVariants as plans
 use Rattle.expand_heads.specs.declared.taken.BodyAt.{BodyAt}
@@ -136,7 +138,7 @@ module _ (own : LibName) (texts : List CodeNo) (rs : List CompiledLibrary) where
 
     operand-light : (t : Tree) (f : CoreForm) (operand : Tree) (s : State) → S s → Sure (M s) (operand_plan place level t f operand s)
     operand-light t core_forms.Syntax operand s h =
-        light own texts rs s (template_of place level operand s) (λ x. give (plans.Done (instance x (place_of t place)))) (template-light own texts rs place level operand s h) (λ x u k. self u k)
+        light own texts rs s (template_of place level operand s) (λ x. give (head_plans.Plan (plans.Done (instance x (place_of t place))))) (template-light own texts rs place level operand s h) (λ x u k. self u k)
     operand-light t core_forms.Quasiquote operand s h = self s h
     operand-light t core_forms.Quasisyntax operand s h = self s h
     operand-light t core_forms.Quote operand s h = tt
@@ -325,7 +327,7 @@ module _ (own : LibName) (texts : List CodeNo) (rs : List CompiledLibrary) where
       keywords-item-light d t f (shapes.Operand a) s h = tt
       keywords-item-light d t f (shapes.SyntaxCase a b c) s h = tt
 
-      shaped-item : (r : Result Shape Fault) (k : Shape → Does (Taken × Item)) (s : State) → Says r → ((x : Shape) → Sure (M s) (k x s)) → Sure (M s) (items_of.with_shape r k s)
+      shaped-item : (r : Result Shape Fault) (k : Shape → Does (Taken × HeadItem)) (s : State) → Says r → ((x : Shape) → Sure (M s) (k x s)) → Sure (M s) (items_of.with_shape r k s)
       shaped-item (Err e) k s h next = h
       shaped-item (Ok x) k s h next = next x
 
@@ -335,7 +337,7 @@ module _ (own : LibName) (texts : List CodeNo) (rs : List CompiledLibrary) where
       role-item d t f role.Sequence s h = shaped-item (shape f t at.place) (begin_item at d t) s (says-shape f t at.place) (λ x. begin-light d t x s h)
       role-item d t f role.Definition s h =
           shaped-item (shape f t at.place) (λ x. items_of.alone (define_item at depth d t x)) s (says-shape f t at.place)
-          (λ x. light own texts rs s (define_item at depth d t x s) (λ e. give (e, items.Nothing)) (definition-light d t x s h) (λ e u k. self u k))
+          (λ x. light own texts rs s (define_item at depth d t x s) (λ e. give (e, head_items.Item items.Nothing)) (definition-light d t x s h) (λ e u k. self u k))
       role-item d t f role.Keywords s h = shaped-item (shape f t at.place) (keywords_item at d t f) s (says-shape f t at.place) (λ x. keywords-item-light d t f x s h)
       role-item d t f role.Record s h = self s h
       role-item d t f role.RecordValue s h = self s h

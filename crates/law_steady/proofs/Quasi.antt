@@ -33,6 +33,8 @@ use Rattle.expand_standing.specs.Patterns.{bind_pattern, template_of}
 use Rattle.expand_standing.specs.State.{State, Does, fresh, fresh_frame}
 use Rattle.expand_forms.specs.Inside.{Inside}
 use Rattle.expand_forms.specs.Quasi.{part_core, parts_in_order, quasi_made, quasi_form}
+use Rattle.expand_forms.specs.Site.{site_at}
+use Rattle.expand_forms.specs.Forms.{template_parts}
 use Rattle.law_expand.proofs.Inserts.{Labelled, labelled, labelled-patterned, BindsInserts, inserts-bound, inserts-add}
 use Rattle.law_expand.proofs.Naming.{as_frame, counted}
 use Rattle.law_stuck.specs.Uses.{Around}
@@ -118,9 +120,9 @@ module _ (own : LibName) (texts : List CodeNo) (rs : List CompiledLibrary) (x : 
         by (Ok q) k = goes-self own texts rs s b h
         by (Err e) k = k
 
-    pub quasi-runs : (depth : ℕ) (which : Family) (template : Tree) → Do (quasi_form inner place level depth t which template)
+    pub quasi-runs : (depth : ℕ) (which : Family) (template : Tree) → Do (quasi_form inner (site_at place level depth) (template_parts t which template))
     unfolding quasi_form
     quasi-runs depth which template =
-        runs own texts rs x inner holds (form_of place t which template) (quasi_made inner place level depth t) (form-of-runs which template)
+        runs own texts rs x inner holds (form_of place t which template) (quasi_made inner (site_at place level depth) t) (form-of-runs which template)
         (λ q. runs own texts rs x inner holds (parts_in_order inner place level (parts_of t depth q)) (code_of place level t q)
         (each-runs own texts rs x inner holds (part_core inner place level) (λ p s b h. holds.form place level p.depth p.form s b h) (parts_of t depth q)) (λ cs. code-runs q cs))

@@ -20,6 +20,7 @@ use Rattle.core_language.specs.Core.{PlainCore, PlainCode, no_case, case}
 use Rattle.core_language.specs.declared.formals.Formals.{Formals}
 use Rattle.eval_code.specs.Codes.{Codes, with_procedure}
 use Rattle.expand_forms.specs.Expanding.{expression, ready}
+use Rattle.expand_forms.specs.Site.{outermost}
 use Rattle.run_prelude.specs.declared.prelude.Prelude.{Prelude}
 use Rattle.run_prelude.specs.declared.prelude.Prelude.TheVariants as preludes
 use Rattle.run_prelude.specs.Spent.{spent_behind}
@@ -84,7 +85,7 @@ procedure_of n c = record {
 
 abbrev pub expanded : ℕ → Result Tree Fault → Does PlainCode
 expanded n (Err f) s = Err f
-expanded n (Ok t) s = after (expression [] (text_place n) 0 (stamp (first_frame library.Prelude) t) s) (λ c. give (procedure_of n c))
+expanded n (Ok t) s = after (expression [] (outermost (text_place n) 0) (stamp (first_frame library.Prelude) t) s) (λ c. give (procedure_of n c))
 
 unfoldable pub text_code : ℕ → Does PlainCode
 text_code n s = expanded n (tree_in n) s

@@ -27,8 +27,8 @@ use base_data::symbol::Symbol;
 use base_fuel::fuel::Unspent;
 use core_language::code::{Code, Core, Lambda};
 use core_language::formals::Formals;
-use expand_forms::at::OuterAt;
 use expand_forms::expander::Expander;
+use expand_forms::site::Site;
 use expand_forms::tally::Tally;
 use expand_standing::means::{Counts, Means};
 use expand_standing::ready::ReadyRecords;
@@ -208,11 +208,12 @@ fn text_code<N: Ledger, L: Ledger>(
     let place = text_place(alloc, op)?;
     let tree = tree_in(alloc, *op, &place)?;
     let tree = tree.stamp(alloc, frame(alloc)?, counts.nodes)?;
-    let at = OuterAt {
+    let site = Site {
         place: &place,
         level: 0,
+        depth: 0,
     };
-    let core = expander.expression(&tree, &at, means, counts)?;
+    let core = expander.expression(&tree, &site, means, counts)?;
     Ok(procedure_of(alloc, *op, core)?)
 }
 

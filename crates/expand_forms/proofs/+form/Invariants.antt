@@ -7,16 +7,16 @@ use Rattle.expand_forms.specs.Quasi.{part_core, parts_in_order}
 use Rattle.expand_forms.proofs.+form.Given as goal
 
 abbrev pub invariant-expression::in_order-loop-form : goal.invariant-expression::in_order-loop-form
-invariant-expression::in_order-loop-form g l = each ((inside (g.M.Transformers.records l.at.means.now) l.at.room).form l.at.place.now l.at.level l.at.depth) l.done.items (map (λ t. t) (drop l.form-index l.forms)) l.state ≡ in_order (inside (g.M.Transformers.records l.at.means.now) l.at.room) l.at.place.now l.at.level l.at.depth l.forms l.fn.state
+invariant-expression::in_order-loop-form g l = each ((inside (g.M.Transformers.records l.at.means.now) l.at.room).form l.at.site.now) l.done.items (map (λ t. t) (drop l.form-index l.forms)) l.state ≡ in_order (inside (g.M.Transformers.records l.at.means.now) l.at.room) l.at.site.now l.forms l.fn.state
 
 abbrev pub invariant-expression::all_cases-loop-case : goal.invariant-expression::all_cases-loop-case
-invariant-expression::all_cases-loop-case g l = each (one_case (inside (g.M.Transformers.records l.at.means.now) l.at.room) l.at.place.now l.at.level l.at.depth l.form) l.done.items (map (λ c. c) (drop l.case-index l.cases)) l.state ≡ all_cases (inside (g.M.Transformers.records l.at.means.now) l.at.room) l.at.place.now l.at.level l.at.depth l.form l.cases l.fn.state
+invariant-expression::all_cases-loop-case g l = each (one_case (inside (g.M.Transformers.records l.at.means.now) l.at.room) l.at.site.now l.form) l.done.items (map (λ c. c) (drop l.case-index l.cases)) l.state ≡ all_cases (inside (g.M.Transformers.records l.at.means.now) l.at.room) l.at.site.now l.form l.cases l.fn.state
 
 abbrev pub invariant-expression::all_inits-loop-one : goal.invariant-expression::all_inits-loop-one
-invariant-expression::all_inits-loop-one g l = each (one_init (inside (g.M.Transformers.records l.at.means.now) l.at.room) l.at.place.now l.at.level l.at.depth l.frame) l.done.items (map (λ b. b) (drop l.one-index l.bound)) l.state ≡ all_inits (inside (g.M.Transformers.records l.at.means.now) l.at.room) l.at.place.now l.at.level l.at.depth l.frame l.bound l.fn.state
+invariant-expression::all_inits-loop-one g l = each (one_init (inside (g.M.Transformers.records l.at.means.now) l.at.room) l.at.site.now l.frame) l.done.items (map (λ b. b) (drop l.one-index l.bound)) l.state ≡ all_inits (inside (g.M.Transformers.records l.at.means.now) l.at.room) l.at.site.now l.frame l.bound l.fn.state
 
 abbrev pub invariant-body::finish_all-loop-one : goal.invariant-body::finish_all-loop-one
-invariant-body::finish_all-loop-one g l = each (finish_one (inside (g.M.Transformers.records l.at.means.now) l.at.room) l.at.level) l.lines.items (map (λ w. w) (drop l.one-index l.waiting)) l.state ≡ finish_all (inside (g.M.Transformers.records l.at.means.now) l.at.room) l.at.level l.waiting l.fn.state
+invariant-body::finish_all-loop-one g l = each (finish_one (inside (g.M.Transformers.records l.at.means.now) l.at.room) l.at.site.now.level) l.lines.items (map (λ w. w) (drop l.one-index l.waiting)) l.state ≡ finish_all (inside (g.M.Transformers.records l.at.means.now) l.at.room) l.at.site.now.level l.waiting l.fn.state
 
 abbrev pub decreases-expression::expression : goal.decreases-expression::expression
 decreases-expression::expression g l = 32 * l.at.now.room + 0
@@ -136,13 +136,13 @@ abbrev pub decreases-patterns::syntax_case : goal.decreases-patterns::syntax_cas
 decreases-patterns::syntax_case g l = 32 * l.at.now.room + 7
 
 abbrev pub invariant-keywords::expand_transformers-loop-one : goal.invariant-keywords::expand_transformers-loop-one
-invariant-keywords::expand_transformers-loop-one g l = gather (expand_transformer_in (inside (g.M.Transformers.records l.at.means.now) l.at.room) l.at.place.now l.at.level l.at.depth l.scope.recursive l.scope.frame.now) tt (map (λ b. b) (drop l.one-index l.bound)) l.state ≡ expand_transformers (inside (g.M.Transformers.records l.at.means.now) l.at.room) l.at.place.now l.at.level l.at.depth l.scope.recursive l.scope.frame.now l.bound l.fn.state
+invariant-keywords::expand_transformers-loop-one g l = gather (expand_transformer_in (inside (g.M.Transformers.records l.at.means.now) l.at.room) l.at.site.now l.scope.recursive l.scope.frame.now) tt (map (λ b. b) (drop l.one-index l.bound)) l.state ≡ expand_transformers (inside (g.M.Transformers.records l.at.means.now) l.at.room) l.at.site.now l.scope.recursive l.scope.frame.now l.bound l.fn.state
 
 abbrev pub invariant-patterns::all_clauses-loop-case : goal.invariant-patterns::all_clauses-loop-case
-invariant-patterns::all_clauses-loop-case g l = each (pattern_clause (inside (g.M.Transformers.records l.at.means.now) l.at.room) l.at.place.now l.at.level l.at.depth l.literals) l.done.items (map (λ c. c) (drop l.case-index l.cases)) l.state ≡ all_clauses (inside (g.M.Transformers.records l.at.means.now) l.at.room) l.at.place.now l.at.level l.at.depth l.literals l.cases l.fn.state
+invariant-patterns::all_clauses-loop-case g l = each (pattern_clause (inside (g.M.Transformers.records l.at.means.now) l.at.room) l.at.site.now l.literals) l.done.items (map (λ c. c) (drop l.case-index l.cases)) l.state ≡ all_clauses (inside (g.M.Transformers.records l.at.means.now) l.at.room) l.at.site.now l.literals l.cases l.fn.state
 
 abbrev pub invariant-quasi::parts_in_order-loop-part : goal.invariant-quasi::parts_in_order-loop-part
-invariant-quasi::parts_in_order-loop-part g l = each (part_core (inside (g.M.Transformers.records l.at.means.now) l.at.room) l.at.place.now l.at.level) l.done.items (map (λ p. p) (drop l.part-index l.parts)) l.state ≡ parts_in_order (inside (g.M.Transformers.records l.at.means.now) l.at.room) l.at.place.now l.at.level l.parts l.fn.state
+invariant-quasi::parts_in_order-loop-part g l = each (part_core (inside (g.M.Transformers.records l.at.means.now) l.at.room) l.at.site.now.place l.at.site.now.level) l.done.items (map (λ p. p) (drop l.part-index l.parts)) l.state ≡ parts_in_order (inside (g.M.Transformers.records l.at.means.now) l.at.room) l.at.site.now.place l.at.site.now.level l.parts l.fn.state
 
 abbrev pub decreases-quasi::parts_in_order : goal.decreases-quasi::parts_in_order
 decreases-quasi::parts_in_order g l = 32 * l.at.now.room + 1

@@ -7,8 +7,8 @@ use Rattle.expand_forms.proofs.top.finish_each.Given as goal
 
 abbrev pub invariant-loop-one : goal.invariant-loop-one
 invariant-loop-one g l =
-    each (finish_one (inside (earlier_in l.at.means.now.earlier) l.at.room) l.at.level) l.lines.items l.left.rest.items l.state
-    ≡ finish_all (inside (earlier_in l.at.means.now.earlier) l.at.room) l.at.level l.fn.waiting l.fn.state
+    each (finish_one (inside (earlier_in l.at.means.now.earlier) l.at.room) l.at.site.now.level) l.lines.items l.left.rest.items l.state
+    ≡ finish_all (inside (earlier_in l.at.means.now.earlier) l.at.room) l.at.site.now.level l.fn.waiting l.fn.state
 
 abbrev pub decreases-loop-one : goal.decreases-loop-one
 decreases-loop-one g l = length l.left.rest.items
