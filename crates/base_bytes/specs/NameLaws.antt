@@ -5,7 +5,7 @@ use Rattle.base_data.specs.declared.atom.Atom.TheVariants as a
 use Rattle.base_data.specs.declared.library.LibName.{LibName}
 use Rattle.base_data.specs.declared.library.LibName.TheVariants as n
 use Rattle.base_bytes.specs.Laws.{Lawful, mapped-lawful, then-lawful, text-lawful, u16-lawful, u32-lawful, u64-lawful, bool-lawful, int-lawful, blob-lawful, char-lawful, unit-lawful, tagged-lawful, or-lawful, last-lawful, listed-lawful, checked-lawful}
-use Rattle.base_bytes.specs.Names.{span, NameCases, name_to, name_from, library, name, label, mark, frame, code_number, op, AtomCases, atom_to, atom_from, atom}
+use Rattle.base_bytes.specs.Names.{span, NameCases, name_to, name_from, library, name, label, imported_name, mark, frame, code_number, op, AtomCases, atom_to, atom_from, atom}
 
 pub span-lawful : Lawful span
 unfolding span
@@ -38,6 +38,10 @@ name-lawful = mapped-lawful _ _ (λ p e. refl) (λ s. refl) (then-lawful library
 pub label-lawful : Lawful label
 unfolding label
 label-lawful = mapped-lawful _ _ (λ p e. refl) (λ s. refl) name-lawful
+
+pub imported_name-lawful : Lawful imported_name
+unfolding imported_name
+imported_name-lawful = mapped-lawful _ _ (λ p e. refl) (λ s. refl) (then-lawful text-lawful label-lawful)
 
 pub mark-lawful : Lawful mark
 unfolding mark

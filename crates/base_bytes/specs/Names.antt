@@ -5,6 +5,7 @@ use Rattle.base_data.specs.Named.{Named}
 use Rattle.base_data.specs.Op.{name_count}
 use Rattle.base_data.specs.declared.atom.Atom.{Atom}
 use Rattle.base_data.specs.declared.atom.Atom.TheVariants as a
+use Rattle.base_data.specs.declared.imported_name.ImportedName.{ImportedName}
 use Rattle.base_data.specs.declared.library.LibName.{LibName}
 use Rattle.base_data.specs.declared.library.LibName.TheVariants as n
 use Rattle.base_data.specs.declared.name.CodeNo.{CodeNo}
@@ -43,6 +44,9 @@ name = mapped (λ m. (m.library, m.number)) (λ p. record { library = p.0; numbe
 
 unfoldable pub label : Codec Label
 label = mapped (λ l. l.0) (λ m. record { 0 = m }) name
+
+unfoldable pub imported_name : Codec ImportedName
+imported_name = mapped (λ n. (n.name, n.label)) (λ p. record { name = p.0; label = p.1 }) (text then label)
 
 unfoldable pub mark : Codec Mark
 mark = mapped (λ l. l.0) (λ m. record { 0 = m }) name

@@ -14,6 +14,7 @@ use crate::spelled::{Spelled, put_all};
 use crate::texts::{blob_at, char_at, put_blob, put_char, put_text, text_at};
 use base_data::atom::Atom;
 use base_data::bytes::Bytes;
+use base_data::imported_name::ImportedName;
 use base_data::items::Items;
 use base_data::library::LibName;
 use base_data::memory::Memory;
@@ -192,6 +193,30 @@ impl Spelled for Label {
     ) -> Result<Option<(Label, &'a [u8])>, Memory> {
         match Name::at(libraries, bytes)? {
             Some((name, rest)) => Ok(Some((Label(name), rest))),
+            None => Ok(None),
+        }
+    }
+}
+
+impl Spelled for ImportedName {
+    ghost codec = { spell.imported_name };
+
+    #[tactic(auto, unfolding(crate::specs::Names::imported_name))]
+    fn put(&self, out: &mut Vec<u8>) -> Result<(), Memory> {
+        self.name.put(out)?;
+        self.label.put(out)
+    }
+
+    #[tactic(auto, unfolding(crate::specs::Names::imported_name))]
+    fn at<'a>(
+        libraries: &mut RecentLibraries,
+        bytes: &'a [u8],
+    ) -> Result<Option<(ImportedName, &'a [u8])>, Memory> {
+        let Some((name, rest)) = Symbol::at(libraries, bytes)? else {
+            return Ok(None);
+        };
+        match Label::at(libraries, rest)? {
+            Some((label, rest)) => Ok(Some((ImportedName { name, label }, rest))),
             None => Ok(None),
         }
     }

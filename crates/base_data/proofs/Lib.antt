@@ -4,3 +4,4 @@ pub mod Loops
 pub mod Parts
 pub mod HasherLemmas
 pub mod Heads
+pub mod ElementLemmas

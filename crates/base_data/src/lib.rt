@@ -21,6 +21,7 @@ pub mod fault;
 pub mod fault_line;
 pub mod head;
 pub mod hex;
+pub mod imported_name;
 pub mod items;
 pub mod library;
 pub mod map;

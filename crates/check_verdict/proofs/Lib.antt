@@ -9,3 +9,4 @@ mod VerdictLaw
 mod RunLaw
 mod Steps
 mod PrimitiveNames
+pub mod Same

@@ -14,10 +14,10 @@ use Rattle.core_codec.specs.Records.{lib_record, decode}
 use Rattle.core_language.specs.declared.record.CompiledLibrary.{CompiledLibrary}
 use Rattle.load_files.specs.declared.found.Source.{Source}
 
-header_is_long : (body : List ℕ) → length (codes "SXENTRY4" ++ sha256 body) ≡ 40
+pub header_is_long : (body : List ℕ) → length (codes "SXENTRY4" ++ sha256 body) ≡ 40
 header_is_long body = omega (arith, length-sha256 body, length-append (codes "SXENTRY4") (sha256 body))
 
-body_behind : (body : List ℕ) → drop 40 (sealed body) ≡ body
+pub body_behind : (body : List ℕ) → drop 40 (sealed body) ≡ body
 body_behind body = drop_at (codes "SXENTRY4" ++ sha256 body) body 40 (header_is_long body)
 
 pub sealed_so : (bytes body : List ℕ) → bytes ≡ sealed body → true ≡ is_sealed bytes

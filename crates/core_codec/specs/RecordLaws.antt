@@ -3,7 +3,7 @@ use Rattle.std.proofs.Common.{◌≡◌, ℕ, zero, suc, ◌+◌, Bool, true, Li
 use Rattle.std.specs.Prelude.{◌==◌, ◌&&◌, slice_get}
 use Rattle.std.proofs.lemmas.Bool.{eqb-true}
 use Rattle.base_bytes.specs.Laws.{Lawful, IsBytes, byte-lawful, found-lawful, both, mapped-lawful, then-lawful, text-lawful, u32-lawful, u64-lawful, bool-lawful, tagged-lawful, or-lawful, last-lawful, listed-lawful, optional-lawful, checked-lawful, all_takes, all_again}
-use Rattle.base_bytes.specs.NameLaws.{library-lawful, label-lawful, op-lawful}
+use Rattle.base_bytes.specs.NameLaws.{library-lawful, label-lawful, imported_name-lawful, op-lawful}
 use Rattle.core_codec.specs.CodeLaws.{core-lawful}
 use Rattle.core_codec.specs.ContextLaws.{frame_row-lawful}
 use Rattle.core_codec.specs.Records.{code, core_form, variable, LineCases, line_to, line_from, line, BindingCases, binding_to, binding_from, binding, bindings_rise, rows_rise, record_to, record_from, lib_record, encode, decode, has_spelling}
@@ -123,7 +123,7 @@ pub lib_record-lawful : Lawful lib_record
 unfolding lib_record
 lib_record-lawful = mapped-lawful record_to record_from (λ p e. refl) (λ r. refl)
     (then-lawful text-lawful (then-lawful library-lawful
-    (then-lawful (listed-lawful u64-lawful) (then-lawful (listed-lawful (then-lawful text-lawful label-lawful))
+    (then-lawful (listed-lawful u64-lawful) (then-lawful (listed-lawful imported_name-lawful)
     (then-lawful (checked-lawful bindings_rise (listed-lawful (then-lawful label-lawful binding-lawful)))
     (then-lawful (checked-lawful rows_rise (listed-lawful frame_row-lawful))
     (then-lawful (listed-lawful line-lawful) (listed-lawful library-lawful))))))))

@@ -4,12 +4,13 @@ use Rattle.std.proofs.Common.{inl, inr}
 use Rattle.std.specs.declared.cmp.Ordering.{Ordering}
 use Rattle.std.specs.declared.cmp.Ordering.TheVariants.{Less, Equal, Greater}
 use Rattle.base_data.specs.NameOrder.{name_cmp}
+use Rattle.base_data.specs.declared.imported_name.ImportedName.{ImportedName}
 use Rattle.base_data.specs.declared.library.LibName.{LibName}
 use Rattle.base_data.specs.declared.name.FrameNo.{FrameNo}
 use Rattle.base_data.specs.declared.name.Label.{Label}
 use Rattle.base_data.specs.declared.op.Op.{Op}
 use Rattle.base_bytes.specs.Codec.{Codec, byte, checked, found, u32, u64, bool, text, mapped, ◌then◌, optional, listed, tagged, last, ◌or◌, all_of}
-use Rattle.base_bytes.specs.Names.{library, label, op}
+use Rattle.base_bytes.specs.Names.{library, label, imported_name, op}
 use Rattle.core_codec.specs.Code.{core}
 use Rattle.core_codec.specs.Contexts.{frame_row}
 use Rattle.core_language.specs.Core.{PlainCore}
@@ -98,7 +99,7 @@ rows_rise [] = true
 rows_rise (r ∷ rs) = rows_rise_on r.frame rs
 
 abbrev pub Fields : Type 0
-Fields = List ℕ × (LibName × (List ℕ × (List (List ℕ × Label) × (List (Label × Binding) × (List FrameRow × (List Line × List LibName))))))
+Fields = List ℕ × (LibName × (List ℕ × (List ImportedName × (List (Label × Binding) × (List FrameRow × (List Line × List LibName))))))
 
 abbrev pub record_to : CompiledLibrary → Fields
 record_to r = (r.path, (r.name, (r.version, (r.exports, (r.bindings, (r.frames, (r.run, r.refs)))))))
@@ -107,7 +108,7 @@ abbrev pub record_from : Fields → CompiledLibrary
 record_from p = record { path = p.0; name = p.1.0; version = p.1.1.0; exports = p.1.1.1.0; bindings = p.1.1.1.1.0; frames = p.1.1.1.1.1.0; run = p.1.1.1.1.1.1.0; refs = p.1.1.1.1.1.1.1 }
 
 unfoldable pub lib_record : Codec CompiledLibrary
-lib_record = mapped record_to record_from (text then library then listed u64 then listed (text then label)
+lib_record = mapped record_to record_from (text then library then listed u64 then listed imported_name
     then checked bindings_rise (listed (label then binding)) then checked rows_rise (listed frame_row) then listed line then listed library)
 
 -- the spelling of a record

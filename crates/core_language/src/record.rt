@@ -2,6 +2,7 @@
 
 use crate::binding::Binding;
 use crate::code::Core;
+use base_data::imported_name::ImportedName;
 use base_data::items::Items;
 use base_data::library::LibName;
 use base_data::name::Label;
@@ -24,7 +25,7 @@ pub struct CompiledLibrary {
     pub name: LibName,
     pub version: Items<u64>,
     /// The labels that it exports, each with its external name.
-    pub exports: Items<(Symbol, Label)>,
+    pub exports: Items<ImportedName>,
     /// What its own labels are bound to.
     pub bindings: Items<(Label, Binding)>,
     /// The rows of its own frames.

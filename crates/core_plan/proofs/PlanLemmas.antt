@@ -14,7 +14,7 @@ use Rattle.core_plan.specs.Planned.{followed_by, followed, begun, plan_of}
 
 -- ---- lists that rise, with the same elements
 
-rises_above : (low n : ℕ) (xs : List ℕ) → RisesFrom low xs → Contains xs n → low ≤ n
+pub rises_above : (low n : ℕ) (xs : List ℕ) → RisesFrom low xs → Contains xs n → low ≤ n
 rises_above low n [] h c = absurd (let l : c.0 < 0 = c.1 in omega arith)
 rises_above low n (x ∷ xs) h c = go (λ d. rises_above (suc x) n xs h.1 d) (contains_cases x n xs c)
   where

@@ -33,7 +33,7 @@ chain_back (leaf s x c) = refl
 chain_back (pair s a d) = ap (pair None (unspanned a)) (chain_back d)
 chain_back (vector s d) = refl
 
-nil_atom : (a : Atom) → is_nil_atom a ≡ true → a ≡ atoms.Nil
+pub nil_atom : (a : Atom) → is_nil_atom a ≡ true → a ≡ atoms.Nil
 nil_atom atoms.Nil h = refl
 nil_atom _ h = absurd (cc)
 

@@ -74,13 +74,13 @@ pair_opened x y (vector s d) h = absurd h
 
 -- The pattern of a tree, by its level.
 module _ (c : PatternScope) where
-  elements_are : (t : Tree) → element_patterns c t ≡ map (with_pattern c) (elements t)
+  pub elements_are : (t : Tree) → element_patterns c t ≡ map (with_pattern c) (elements t)
   elements_are (atom s a) = refl
   elements_are (leaf s x k) = refl
   elements_are (pair s a d) = ap (λ (xs : List Element). (a, pattern c a) ∷ xs) (elements_are d)
   elements_are (vector s d) = refl
 
-  tail_is : (t : Tree) → tail_pattern c t ≡ pattern c (tail_of t)
+  pub tail_is : (t : Tree) → tail_pattern c t ≡ pattern c (tail_of t)
   tail_is (atom s a) = refl
   tail_is (leaf s x k) = refl
   tail_is (pair s a d) = tail_is d

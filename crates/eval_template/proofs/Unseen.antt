@@ -17,12 +17,12 @@ use Rattle.eval_template.proofs.Measured.{known_cost}
 abbrev pub Alike : ℕ → List ℕ → List ℕ → Type 0
 Alike r xs ys = (d : ℕ) → d ≤ r → innermost d xs ≡ innermost d ys
 
-drop_before : (n : ℕ) (is : List ℕ) (i : ℕ) → n ≤ length is → drop n (is ++ i ∷ []) ≡ drop n is ++ i ∷ []
+pub drop_before : (n : ℕ) (is : List ℕ) (i : ℕ) → n ≤ length is → drop n (is ++ i ∷ []) ≡ drop n is ++ i ∷ []
 drop_before zero is i h = refl
 drop_before (suc n) [] i h = absurd (omega arith)
 drop_before (suc n) (j ∷ is) i h = drop_before n is i (omega arith)
 
-innermost_more : (m : ℕ) (turns : List ℕ) (i : ℕ) → innermost (suc m) (turns ++ i ∷ []) ≡ innermost m turns ++ i ∷ []
+pub innermost_more : (m : ℕ) (turns : List ℕ) (i : ℕ) → innermost (suc m) (turns ++ i ∷ []) ≡ innermost m turns ++ i ∷ []
 innermost_more m turns i =
     let e : length (turns ++ i ∷ []) - suc m ≡ length turns - m = omega (arith, length-append turns (i ∷ [])) in
     ap (λ n. drop n (turns ++ i ∷ [])) e ∙ drop_before (length turns - m) turns i (omega arith)

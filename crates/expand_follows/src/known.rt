@@ -8,12 +8,12 @@ ghost use Rattle.law_core.specs.Words.{each};
 ghost use Rattle.expand_follows.specs.Pieces.{index_of_binding, known_by, with_index, with_indices};
 
 use crate::earlier::NeededEarlier;
+use base_data::imported_name::ImportedName;
 use base_data::library::LibName;
 use base_data::map::{NameMap, new_map};
 use base_data::memory::Memory;
 use base_data::name::Label;
 use base_data::op::NAME_COUNT;
-use base_data::symbol::Symbol;
 use core_language::binding::Binding;
 use core_language::record::CompiledLibrary;
 use load_builtin::exports::DERIVED;
@@ -102,14 +102,14 @@ fn is_known(own: &NameMap<Label, Option<u64>>, earlier: &NeededEarlier, label: &
 }
 
 fn exports_are_known(
-    exports: &[(Symbol, Label)],
+    exports: &[ImportedName],
     own: &NameMap<Label, Option<u64>>,
     earlier: &NeededEarlier,
 ) -> bool
-    ensures { result ≡ each (known_by own.now.entries (flat_map bound_labels earlier.now)) (map (λ e. e.1) exports.now) }
+    ensures { result ≡ each (known_by own.now.entries (flat_map bound_labels earlier.now)) (map (λ e. e.label) exports.now) }
 {
     for row in exports {
-        if !is_known(own, earlier, &row.1) {
+        if !is_known(own, earlier, &row.label) {
             return false;
         }
     }

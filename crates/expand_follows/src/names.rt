@@ -15,6 +15,7 @@ ghost use Rattle.expand_follows.specs.Pieces.{all_once, all_own, binders_in, exp
 
 use crate::earlier::NeededEarlier;
 use crate::keys::rows_once;
+use base_data::imported_name::ImportedName;
 use base_data::items::Items;
 use base_data::library::LibName;
 use base_data::memory::Memory;
@@ -229,12 +230,12 @@ fn add_name(names: &mut Items<Symbol>, name: &Symbol) -> Result<(), Memory>
     names.push(name)
 }
 
-fn names_of_exports(alloc: Global, exports: &[(Symbol, Label)]) -> Result<Items<Symbol>, Memory>
-    ensures { IfOk result (λ ns. ns ≡ map (λ e. e.0) exports.now) }
+fn names_of_exports(alloc: Global, exports: &[ImportedName]) -> Result<Items<Symbol>, Memory>
+    ensures { IfOk result (λ ns. ns ≡ map (λ e. e.name) exports.now) }
 {
     let mut names = Items::new(alloc);
     for row in exports {
-        add_name(&mut names, &row.0)?;
+        add_name(&mut names, &row.name)?;
     }
     Ok(names)
 }

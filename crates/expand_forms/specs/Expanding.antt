@@ -3,10 +3,10 @@ use Rattle.std.specs.Prelude.{ℕ, Bool, false, List, [], None, Result, refl}
 use Rattle.std.specs.Coded.{Coded, code_by, coded×, coded_ℕ, coded_list, coded_bool}
 use Rattle.base_data.specs.declared.atom.Atom.TheVariants.{Nil}
 use Rattle.base_data.specs.declared.fault.Fault.{Fault}
+use Rattle.base_data.specs.declared.imported_name.ImportedName.{ImportedName}
 use Rattle.base_data.specs.declared.library.LibName.{LibName}
 use Rattle.base_data.specs.contracts.name.FrameNo as frames
 use Rattle.base_data.specs.declared.name.FrameNo.{FrameNo}
-use Rattle.base_data.specs.declared.name.Label.{Label}
 use Rattle.base_data.specs.declared.span.Span.{Span}
 use Rattle.stx_tree.specs.Tree.{Tree, atom}
 use Rattle.core_language.specs.Core.{PlainCore}
@@ -33,7 +33,7 @@ expanding_code =
     (λ e. (e.state, (e.frame, (e.path, e.failed)))) (λ p. record { state = p.0; frame = p.1.0; path = p.1.1.0; failed = p.1.1.1 }) (λ _. refl)
 
 -- an expander that is ready for a library
-abbrev pub ready : LibName → List ℕ → List CompiledLibrary → List (List ℕ × Label) → Codes → Expanding
+abbrev pub ready : LibName → List ℕ → List CompiledLibrary → List ImportedName → Codes → Expanding
 ready library path records imports codes = record { state = started library records imports codes; frame = first_frame library; path = path; failed = false }
 
 -- an expression, behind these records

@@ -4,6 +4,7 @@ use Rattle.base_data.specs.Act.{after, give, each}
 use Rattle.base_data.specs.Same.{same_library}
 use Rattle.base_data.specs.declared.fault.Fault.{Fault}
 use Rattle.base_data.specs.declared.fault.FaultKind.TheVariants as kind
+use Rattle.base_data.specs.declared.imported_name.ImportedName.{ImportedName}
 use Rattle.base_data.specs.declared.library.LibName.{LibName}
 use Rattle.base_data.specs.declared.library.LibName.TheVariants as library
 use Rattle.base_data.specs.declared.name.Label.{Label}
@@ -32,18 +33,18 @@ use Rattle.expand_forms.specs.declared.top.TopAt.{TopAt}
 
 -- The exports, which are looked for between the two passes.
 
-abbrev pub stands_for : Span → List ℕ → Tree → Option Label → Does (List ℕ × Label)
+abbrev pub stands_for : Span → List ℕ → Tree → Option Label → Does ImportedName
 stands_for place external id None = fault_word kind.ExportUnbound id id place
-stands_for place external id (Some l) = give (external, l)
+stands_for place external id (Some l) = give (record { name = external; label = l })
 
 -- the label that an export stands for in the library's frame, with its external name
-unfoldable pub export : TopAt → List ℕ × Tree → Does (List ℕ × Label)
+unfoldable pub export : TopAt → List ℕ × Tree → Does ImportedName
 export at e s = stands_for at.place e.0 (stamp at.frame e.1) (stands s.frames (stamp at.frame e.1)) s
 
-abbrev pub all_exports : TopAt → List (List ℕ × Tree) → Does (List (List ℕ × Label))
+abbrev pub all_exports : TopAt → List (List ℕ × Tree) → Does (List ImportedName)
 all_exports at = each (export at) []
 
-unfoldable pub exports : TopAt → List (List ℕ × Tree) → Does (List (List ℕ × Label))
+unfoldable pub exports : TopAt → List (List ℕ × Tree) → Does (List ImportedName)
 exports at es s = after (all_exports at es s) (λ ls s'. after (export_labels ls s') (λ _. give ls))
 
 -- The libraries that the lines refer to.
@@ -69,7 +70,7 @@ refs_of own lines = with_lines_of own [] lines
 
 -- The record.
 
-abbrev pub record_of : TopAt → List (List ℕ × Label) → List Line → State → CompiledLibrary
+abbrev pub record_of : TopAt → List ImportedName → List Line → State → CompiledLibrary
 record_of at exports lines s = record {
   path = at.path;
   name = s.library;
@@ -81,7 +82,7 @@ record_of at exports lines s = record {
   refs = refs_of s.library lines;
 }
 
-abbrev pub give_record : TopAt → List (List ℕ × Label) → List Line → Does CompiledLibrary
+abbrev pub give_record : TopAt → List ImportedName → List Line → Does CompiledLibrary
 give_record at es lines s = Ok (record_of at es lines s, s)
 
 -- a record alone, without the state that is left

@@ -14,6 +14,7 @@ use crate::expression::{stamp_all, with_room};
 use crate::inside::ROOM;
 use crate::site::Site;
 use base_data::fault::{FaultKind, Stop};
+use base_data::imported_name::ImportedName;
 use base_data::items::Items;
 use base_data::library::LibName;
 use base_data::memory::Memory;
@@ -70,13 +71,16 @@ fn export<N: Ledger, L: Ledger>(
     external: &Symbol,
     id: &Syn,
     nodes: &mut Steps<N>,
-) -> Result<(Symbol, Label), Stop>
+) -> Result<ImportedName, Stop>
     ensures { GivesAfter (λ e. e) result state.new (export at.now (external.now, id.now) state.old) }
 {
     let id = id.stamp(state.alloc(), at.frame.share()?, nodes)?;
     match state.stands(&id)? {
         None => Err(state.fault_word(FaultKind::ExportUnbound, &id, &id, &at.place)),
-        Some(label) => Ok((external.share()?, label)),
+        Some(label) => {
+            let name = external.share()?;
+            Ok(ImportedName { name, label })
+        }
     }
 }
 
@@ -85,7 +89,7 @@ fn all_exports<N: Ledger, L: Ledger>(
     at: &TopAt,
     list: &[(Symbol, Syn)],
     nodes: &mut Steps<N>,
-) -> Result<Items<(Symbol, Label)>, Stop>
+) -> Result<Items<ImportedName>, Stop>
     ensures { GivesAfter (λ es. es) result state.new (all_exports at.now list.now state.old) }
 {
     let mut done = Items::new(state.alloc());
@@ -103,7 +107,7 @@ fn exports<N: Ledger, L: Ledger>(
     at: &TopAt,
     list: &[(Symbol, Syn)],
     nodes: &mut Steps<N>,
-) -> Result<Items<(Symbol, Label)>, Stop>
+) -> Result<Items<ImportedName>, Stop>
     ensures { GivesAfter (λ es. es) result state.new (exports at.now list.now state.old) }
 {
     let done = all_exports(state, at, list, nodes)?;
@@ -163,7 +167,7 @@ fn refs_of(alloc: Global, own: &LibName, lines: &[Line]) -> Result<Items<LibName
 fn record_of<L: Ledger>(
     state: &mut Expansion<L>,
     at: TopAt,
-    exports: Items<(Symbol, Label)>,
+    exports: Items<ImportedName>,
     lines: Vec<Line>,
 ) -> Result<CompiledLibrary, Memory>
     ensures given { IfOk result (λ r. r ≡ record_of at exports lines.items state.old) }

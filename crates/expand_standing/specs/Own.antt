@@ -1,5 +1,6 @@
 -- What a library itself binds and exports.
 use Rattle.std.specs.Prelude.{ℕ, zero, suc, Bool, List, [], ◌∷◌, ◌++◌, Option, None, Some, Ok}
+use Rattle.base_data.specs.declared.imported_name.ImportedName.{ImportedName}
 use Rattle.base_data.specs.declared.name.Label.{Label}
 use Rattle.core_language.specs.Bindings.{bound_to}
 use Rattle.core_language.specs.Labels.{has_label, with_label}
@@ -9,12 +10,12 @@ use Rattle.core_language.specs.Core.{PlainCore}
 use Rattle.eval_stage.specs.Stage.{expression_of}
 use Rattle.expand_standing.specs.State.{State, Does, stage_of}
 
-abbrev pub labels_with : List Label → List (List ℕ × Label) → List Label
+abbrev pub labels_with : List Label → List ImportedName → List Label
 labels_with done [] = done
-labels_with done (e ∷ es) = labels_with (with_label done e.1) es
+labels_with done (e ∷ es) = labels_with (with_label done e.label) es
 
 -- the labels that the library exports, each with its external name
-abbrev pub export_labels : List (List ℕ × Label) → Does (Unit {0})
+abbrev pub export_labels : List ImportedName → Does (Unit {0})
 export_labels es s = Ok (tt, record s { exports = labels_with [] es })
 
 -- an assignment to a variable of the library

@@ -1,6 +1,7 @@
 -- The state that the expansion of a library begins with (R6RS 7.1).
 use Rattle.std.specs.Prelude.{ℕ, List, [], ◌∷◌, ◌++◌, Option, None, Some, map, slice_get}
 use Rattle.base_data.specs.Named.{Named}
+use Rattle.base_data.specs.declared.imported_name.ImportedName.{ImportedName}
 use Rattle.base_data.specs.declared.library.LibName.{LibName}
 use Rattle.base_data.specs.declared.name.FrameNo.{FrameNo}
 use Rattle.base_data.specs.declared.name.Label.{Label}
@@ -40,12 +41,12 @@ abbrev pub first_frame : LibName → FrameNo
 first_frame library = record { 0 = first_name library }
 
 -- an imported name stands for its label, under no marks
-abbrev pub import_row : FrameNo → List ℕ × Label → FrameRow
-import_row frame n = record { frame = frame; symbol = n.0; marks = []; label = n.1 }
+abbrev pub import_row : FrameNo → ImportedName → FrameRow
+import_row frame n = record { frame = frame; symbol = n.name; marks = []; label = n.label }
 
 -- what the records before it bind, the frame of what record forms introduce, and the names that it imports; at most 1,000,000 keywords are used. The codes are those of the
 -- procedures that are texts.
-unfoldable pub started : LibName → List CompiledLibrary → List (List ℕ × Label) → Codes → State
+unfoldable pub started : LibName → List CompiledLibrary → List ImportedName → Codes → State
 started library records imports codes = record {
   library = library;
   names = second_name library;

@@ -8,22 +8,22 @@ ghost use Rattle.expand_standing.specs.Own.{export_labels, mark_assigned, labels
 
 use crate::expansion::Expansion;
 use base_data::fault::Stop;
+use base_data::imported_name::ImportedName;
 use base_data::items::Items;
 use base_data::library::LibName;
 use base_data::memory::Memory;
 use base_data::name::{Label, Name};
-use base_data::symbol::Symbol;
 use core_language::binding::{Binding, Expression, VarInfo};
 use core_language::labels::Labels;
 use std::rc::Rc;
 use std::sync::ledger::Ledger;
 use stx_tree::frame_row::FrameRow;
 
-fn add_labels(labels: &mut Labels, exports: &[(Symbol, Label)]) -> Result<(), Memory>
+fn add_labels(labels: &mut Labels, exports: &[ImportedName]) -> Result<(), Memory>
     ensures { OnOk result (labels.new ≡ labels_with labels.old exports.now) }
 {
-    for (_, label) in exports {
-        labels.add(label)?;
+    for export in exports {
+        labels.add(&export.label)?;
     }
     Ok(())
 }
@@ -79,7 +79,7 @@ impl<L: Ledger> Expansion<L> {
     }
 
     /// Takes the labels that the library exports, each with its external name.
-    pub fn export_labels(&mut self, exports: &[(Symbol, Label)]) -> Result<(), Stop>
+    pub fn export_labels(&mut self, exports: &[ImportedName]) -> Result<(), Stop>
         ensures { GivesAfter (λ _. tt) result self.new (export_labels exports.now self.old) }
     {
         let mut labels = Labels::new(self.alloc);

@@ -10,12 +10,12 @@ ghost use Rattle.expand_standing.specs.Start.{second_name, first_frame, import_r
 use crate::expansion::Expansion;
 use crate::in_scope::InScope;
 use crate::ready::ReadyRecords;
+use base_data::imported_name::ImportedName;
 use base_data::items::Items;
 use base_data::library::LibName;
 use base_data::map::NameMap;
 use base_data::memory::Memory;
-use base_data::name::{CodeNo, FrameNo, FreeNames, Label, Name};
-use base_data::symbol::Symbol;
+use base_data::name::{CodeNo, FrameNo, FreeNames, Name};
 use base_fuel::fuel::Unspent;
 use core_known::known::KnownBindings;
 use core_language::code::Code;
@@ -45,17 +45,12 @@ fn marks_of(alloc: Global, needs: &[bool]) -> Result<Rc<Items<bool>>, Memory>
 }
 
 /// The row of an imported name in the library's frame.
-fn import_row(
-    alloc: Global,
-    frame: &FrameNo,
-    symbol: &Symbol,
-    label: &Label,
-) -> Result<FrameRow, Memory>
-    ensures { IfOk result (λ r. r ≡ import_row frame.now (symbol.now, label.now)) }
+fn import_row(alloc: Global, frame: &FrameNo, import: &ImportedName) -> Result<FrameRow, Memory>
+    ensures { IfOk result (λ r. r ≡ import_row frame.now import.now) }
 {
     let frame = frame.share()?;
-    let symbol = symbol.share()?;
-    let label = label.share()?;
+    let symbol = import.name.share()?;
+    let label = import.label.share()?;
     Ok(FrameRow {
         frame,
         symbol,
@@ -67,13 +62,13 @@ fn import_row(
 fn import_rows(
     alloc: Global,
     frame: &FrameNo,
-    imports: &[(Symbol, Label)],
+    imports: &[ImportedName],
 ) -> Result<Vec<FrameRow>, Memory>
     ensures { IfOk result (λ rs. rs.items ≡ map (import_row frame.now) imports.now) }
 {
     let mut rows = Vec::new(alloc);
-    for (symbol, label) in imports {
-        let row = import_row(alloc, frame, symbol, label)?;
+    for import in imports {
+        let row = import_row(alloc, frame, import)?;
         rows.push(row)?;
     }
     Ok(rows)
@@ -84,7 +79,7 @@ fn adopt_imports(
     alloc: Global,
     frames: &mut Frames,
     frame: &FrameNo,
-    imports: &[(Symbol, Label)],
+    imports: &[ImportedName],
 ) -> Result<(), Memory>
     ensures { OnOk result (frames.new ≡ adopted frames.old (map (import_row frame.now) imports.now)) }
 {
@@ -112,7 +107,7 @@ fn adopt_both(
     frames: &mut Frames,
     records: &[FrameRow],
     frame: &FrameNo,
-    imports: &[(Symbol, Label)],
+    imports: &[ImportedName],
 ) -> Result<(), Memory>
     ensures { OnOk result (frames.new ≡ adopted frames.old (records.now ++ map (import_row frame.now) imports.now)) }
 {
@@ -146,7 +141,7 @@ pub struct Environment<'a> {
     /// Which of them the library needs.
     pub needs: &'a [bool],
     /// The names that it imports, with their labels.
-    pub imports: &'a [(Symbol, Label)],
+    pub imports: &'a [ImportedName],
 }
 
 /// What an expansion begins with, but for the codes.

@@ -1,31 +1,11 @@
 -- The walk over a form doesn't see spans.
-use Rattle.std.proofs.Common.{◌≡◌, ℕ, suc, List, length, Option, Some, None, refl, ap, ◌∙◌, cond}
+use Rattle.std.proofs.Common.{◌≡◌, ℕ, suc, List, length, Option, None, refl, ap, ◌∙◌, cond}
 use Rattle.std.specs.Prelude.{◌==◌, ◌||◌, ◌&&◌, nat_le}
 use Rattle.base_data.specs.Datum.{PlainDatum, atom, symbol, pair, vector, unspanned, is_nil, elements, symbol_text}
 use Rattle.check_verdict.specs.Survey.{Step, on, left, bound_by, entered, mentioned, defined_by}
 use Rattle.check_verdict.specs.Walk.{Operands, is_armed, is_row, is_quotation, is_quoted, by_form, form_by, form_of, name_in, with_name_in, init_name, formal, formals, init_names, expression, expressions, one, assigned, init, procedure, cases, inits, recursive, definition, is_define, line_form}
-use Rattle.check_verdict.specs.declared.form.Form.{Form}
-use Rattle.check_verdict.specs.declared.form.Form.TheVariants as form
 use Rattle.check_verdict.specs.declared.survey.Survey.{Survey}
-
-on_alike : (o : Option Survey) (f g : Step) → ((s : Survey) → f s ≡ g s) → on o f ≡ on o g
-on_alike None f g h = refl
-on_alike (Some s) f g h = h s
-
-name_alike : (o : Option (List ℕ)) (f g : List ℕ → Option Survey) → ((x : List ℕ) → f x ≡ g x) → with_name_in o f ≡ with_name_in o g
-name_alike None f g h = refl
-name_alike (Some x) f g h = h x
-
-forms_alike : (k : Form) (o p : Operands) (s : Survey) → o.armed ≡ p.armed → o.row ≡ p.row → o.quoted ≡ p.quoted → o.operator ≡ p.operator → ((s : Survey) → o.all s ≡ p.all s) → ((s : Survey) → o.assigned s ≡ p.assigned s)
-    → ((s : Survey) → o.procedure s ≡ p.procedure s) → ((s : Survey) → o.cases s ≡ p.cases s) → ((s : Survey) → o.recursive s ≡ p.recursive s) → by_form k o s ≡ by_form k p s
-forms_alike form.Quote o p s m n q f g h i j k = rw q refl
-forms_alike form.If o p s m n q f g h i j k = rw (m, g s) refl
-forms_alike form.Assignment o p s m n q f g h i j k = h s
-forms_alike form.Sequence o p s m n q f g h i j k = rw (n, g s) refl
-forms_alike form.Lambda o p s m n q f g h i j k = i s
-forms_alike form.CaseLambda o p s m n q f g h i j k = j s
-forms_alike form.Letrec o p s m n q f g h i j k = k s
-forms_alike form.Application o p s m n q f g h i j k = ap (λ (r : Step). on (r s) o.all) f ∙ on_alike (p.operator s) o.all p.all g
+use Rattle.check_verdict.proofs.Same.{on_alike, name_alike, forms_alike}
 
 bare_symbol : (d : PlainDatum) → symbol_text (unspanned d) ≡ symbol_text d
 bare_symbol (atom t c) = refl

@@ -8,6 +8,7 @@ use Rattle.base_data.specs.Datum.{PlainDatum}
 use Rattle.base_data.specs.Named.{Named}
 use Rattle.base_data.specs.declared.atom.Atom.{Atom}
 use Rattle.base_data.specs.declared.atom.Atom.TheVariants as a
+use Rattle.base_data.specs.declared.imported_name.ImportedName.{ImportedName}
 use Rattle.base_data.specs.declared.library.LibName.TheVariants as n
 use Rattle.base_data.specs.declared.name.CodeNo.{CodeNo}
 use Rattle.base_data.specs.declared.name.FrameNo.{FrameNo}
@@ -16,7 +17,7 @@ use Rattle.base_data.specs.declared.name.Mark.{Mark}
 use Rattle.base_data.specs.declared.op.Op.{Op}
 use Rattle.base_data.specs.declared.span.Span.{Span}
 use Rattle.base_bytes.specs.Codec.{Codec, bool, u16, u32, u64, int, halves, text, blob, char, optional}
-use Rattle.base_bytes.specs.Names.{library, name, label, mark, frame, code_number, op, span, atom}
+use Rattle.base_bytes.specs.Names.{library, name, label, imported_name, mark, frame, code_number, op, span, atom}
 use Rattle.core_codec.specs.Code.{split, item_list, core_list, init_list, case_list, clause_list}
 use Rattle.core_codec.specs.Code.{formals, elements, pattern, pattern_level, items, template, template_level, core, core_level, core_parts, inits, cases, clauses}
 use Rattle.core_codec.specs.Contexts.{stamp, context, frame_row}
@@ -69,6 +70,7 @@ pub record LayoutOfNames : Type 0 where
   pub of_user : (parts : List (List ℕ)) → library.put (n.User parts) ≡ 4 ∷ counted text.put parts
   pub of_name : (x : Named) → name.put x ≡ library.put x.library ++ u64.put x.number
   pub of_label : (x : Label) → label.put x ≡ name.put x.0
+  pub of_imported_name : (x : ImportedName) → imported_name.put x ≡ text.put x.name ++ label.put x.label
   pub of_mark : (x : Mark) → mark.put x ≡ name.put x.0
   pub of_frame : (x : FrameNo) → frame.put x ≡ name.put x.0
   pub of_code : (x : CodeNo) → code_number.put x ≡ name.put x.0
@@ -172,7 +174,7 @@ pub record LayoutOfRecords : Type 0 where
   pub of_expression : (x : PlainCore) → line.put (l.Expr x) ≡ 1 ∷ (core 8193).put x
   pub of_row : (x : FrameRow) → frame_row.put x ≡ frame.put x.frame ++ (text.put x.symbol ++ (counted mark.put x.marks ++ label.put x.label))
   pub of_record : (x : CompiledLibrary) → lib_record.put x
-      ≡ text.put x.path ++ (library.put x.name ++ (counted u64.put x.version ++ (counted (λ y. text.put y.0 ++ label.put y.1) x.exports
+      ≡ text.put x.path ++ (library.put x.name ++ (counted u64.put x.version ++ (counted imported_name.put x.exports
       ++ (counted (λ y. label.put y.0 ++ binding.put y.1) x.bindings ++ (counted frame_row.put x.frames
       ++ (counted line.put x.run ++ counted library.put x.refs))))))
 
@@ -196,7 +198,7 @@ texts_laid_out = record {
 }
 
 pub names_laid_out : LayoutOfNames
-unfolding library name label mark frame code_number op span
+unfolding library name label imported_name mark frame code_number op span
 names_laid_out = record {
   of_core = refl;
   of_derived = refl;
@@ -205,6 +207,7 @@ names_laid_out = record {
   of_user = λ parts. refl;
   of_name = λ x. refl;
   of_label = λ x. refl;
+  of_imported_name = λ x. refl;
   of_mark = λ x. refl;
   of_frame = λ x. refl;
   of_code = λ x. refl;

@@ -3,6 +3,7 @@ use Rattle.std.proofs.Common.{◌≡◌, ℕ, zero, suc, ◌+◌, ◌≤◌, Boo
 use Rattle.std.specs.Prelude.{nat_eq}
 use Rattle.std.specs.Cmp.{unsigned_Decides}
 use Rattle.std.proofs.lemmas.Bool.Decides.{nat_tests}
+use Rattle.base_data.specs.Elements.{Each}
 use Rattle.base_data.specs.Gives.{◌>>=◌}
 use Rattle.base_data.specs.declared.atom.Atom.TheVariants.{Nil}
 use Rattle.base_data.specs.declared.fault.Fault.{Fault}
@@ -24,7 +25,7 @@ use Rattle.core_shapes.specs.Lists.{is_nil, elements, tail_of}
 use Rattle.law_shapes.specs.Grammar.{IsId, IsList}
 use Rattle.law_shapes.specs.Grammar as g
 use Rattle.law_shapes.specs.Records.{IsKeywordIdentifier}
-use Rattle.eval_value.specs.Cells.{Each}
+use Rattle.law_shapes.proofs.Complete.{list-elements}
 use Rattle.eval_pattern.specs.Keywords.{is_form, is_ellipsis}
 use Rattle.eval_template.specs.Compile.{TemplateScope, bound_made, label_made, is_special, TemplateElement, dots, dots_behind, reach, with_ellipses, fitted, item_made, walked, template_of, items_of, list_joined, vector_joined, escape_of, unescaped, list_parts, list_made, vector_made, template, tail_made, with_template}
 use Rattle.eval_template.proofs.Levels.{elements_are}
@@ -35,7 +36,7 @@ use Rattle.law_compiled.specs.Templates as r
 use Rattle.law_patterns.proofs.Words.{form-is, ellipsis-is, untold}
 use Rattle.law_patterns.proofs.Patterns.{chain-elements, chain-tail}
 use Rattle.law_compiled.proofs.Joining.{Made, MadeItem, unescaped-template, Tells, then-tells, tells-if, both-tell, Part, list-joins, vector-joins}
-use Rattle.law_compiled.proofs.Templates.{unspanned-chain, unspanned-list, list-elements, Gave, Told, IsBadIn, Skips, none_skipped, one_skipped, Walks, all-items, after-item, walk-told, list-template, list-template-is, told, all-told, tail-told}
+use Rattle.law_compiled.proofs.Templates.{unspanned-chain, unspanned-list, Gave, Told, IsBadIn, Skips, none_skipped, one_skipped, Walks, all-items, after-item, walk-told, list-template, list-template-is, told, all-told, tail-told}
 
 -- no ellipsis is left
 past : (es : List Tree) (n : ℕ) → length es ≤ n → slice_get es n ≡ None

@@ -4,6 +4,7 @@ use Rattle.std.specs.Prelude.{◌⊎◌, max, nat_eq}
 use Rattle.std.specs.Cmp.{unsigned_Decides}
 use Rattle.std.proofs.Math.Nat.{le-max_left, le-max_right}
 use Rattle.std.proofs.lemmas.Bool.Decides.{nat_tests}
+use Rattle.base_data.specs.Elements.{Each}
 use Rattle.base_data.specs.Gives.{◌>>=◌}
 use Rattle.base_data.specs.declared.atom.Atom.{Atom}
 use Rattle.base_data.specs.declared.fault.Fault.{Fault}
@@ -26,7 +27,7 @@ use Rattle.law_shapes.specs.Grammar.{IsId, IsList}
 use Rattle.law_shapes.specs.Grammar as g
 use Rattle.law_shapes.specs.Records.{IsKeywordIdentifier}
 use Rattle.law_shapes.proofs.Sound.{proper, some-is}
-use Rattle.eval_value.specs.Cells.{Each}
+use Rattle.law_shapes.proofs.Complete.{list-elements}
 use Rattle.eval_pattern.specs.Keywords.{is_ellipsis}
 use Rattle.eval_template.specs.Compile.{TemplateScope, bad, variable_made, bound_made, label_made, is_special, TemplateElement, dots, dots_behind, reach, with_ellipses, fitted, item_made, walked, template_of, items_of, reaches, is_fixed, all_fixed, is_changed, any_changed, trees, list_joined, vector_joined, escape_of, unescaped, list_parts, list_made, vector_made, template, tail_made, with_template}
 use Rattle.eval_template.proofs.Levels.{elements_are, tail_is}
@@ -47,10 +48,6 @@ unspanned-chain (p.chain_next {x = x} h) = ap (pair None (unspanned x)) (unspann
 pub unspanned-list : {xs : List Tree} {t : Tree} → IsList xs t → unspanned t ≡ chain (map unspanned xs) nil
 unspanned-list g.end = refl
 unspanned-list (g.next {x = x} h) = ap (pair None (unspanned x)) (unspanned-list h)
-
-pub list-elements : {xs : List Tree} {t : Tree} → IsList xs t → elements t ≡ xs
-list-elements g.end = refl
-list-elements (g.next {x = x} h) = ap (λ ys. x ∷ ys) (list-elements h)
 
 chain-list : {xs : List Tree} {e t : Tree} → IsChain xs e t → is_nil e ≡ true → IsList xs t
 chain-list {xs} {e} {t} h n = proper t xs (ap (λ b. if b then Some (elements t) else None) (ap is_nil (chain-tail h) ∙ n) ∙ ap Some (chain-elements h))

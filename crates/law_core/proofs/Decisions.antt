@@ -4,6 +4,7 @@ use Rattle.std.specs.Prelude.{◌&&◌, not, nat_le, nat_eq}
 use Rattle.std.specs.Bool.{Decides}
 use Rattle.std.specs.Cmp.{unsigned_Decides}
 use Rattle.std.proofs.lemmas.Bool.Decides.{Decides-and, Decides-or, Decides-not, nat_tests}
+use Rattle.base_data.specs.Elements.{Each, Among, Once}
 use Rattle.base_data.specs.Named.{Named}
 use Rattle.base_data.specs.Same.{same_name, same_name_cases, texts_decides}
 use Rattle.base_data.specs.declared.name.CodeNo.{CodeNo}
@@ -11,7 +12,7 @@ use Rattle.base_data.specs.declared.name.FrameNo.{FrameNo}
 use Rattle.base_data.specs.declared.name.Label.{Label}
 use Rattle.core_language.specs.Labels.{same_label}
 use Rattle.stx_tree.specs.SameMarks.{same_marks, same_marks_decides}
-use Rattle.law_core.specs.Words.{Each, Among, Once, each, among, once}
+use Rattle.law_core.specs.Words.{each, among, once}
 use Rattle.law_core.specs.Templates.{same_depth}
 use Rattle.law_core.specs.WellMade.{same_code}
 use Rattle.law_core.specs.Records.{same_text}

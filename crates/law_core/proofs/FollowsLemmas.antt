@@ -5,6 +5,7 @@ use Rattle.std.specs.List.{flat_map}
 use Rattle.std.specs.Bool.{Decides}
 use Rattle.std.specs.Cmp.Lexicographic.{pointwise, pointwise_decides}
 use Rattle.std.proofs.lemmas.Bool.Decides.{Decides-and, Decides-or, Decides-not, Decides-like, Decides-ltb}
+use Rattle.base_data.specs.Elements.{Each, Among, Once}
 use Rattle.base_data.specs.Named.{Named}
 use Rattle.load_builtin.specs.Exports.{derived_place}
 use Rattle.base_data.specs.Op.{name_count}
@@ -17,7 +18,7 @@ use Rattle.core_language.specs.Labels.{same_label}
 use Rattle.core_language.specs.declared.binding.Binding.{Binding}
 use Rattle.core_language.specs.declared.binding.Binding.TheVariants as binding
 use Rattle.core_language.specs.declared.record.CompiledLibrary.{CompiledLibrary}
-use Rattle.law_core.specs.Words.{Each, Among, Once, each, among, once}
+use Rattle.law_core.specs.Words.{each, among, once}
 use Rattle.law_core.specs.Scope.{closed}
 use Rattle.law_core.specs.WellMade.{is_well_made, same_code}
 use Rattle.law_core.specs.Records.{defined, same_text}

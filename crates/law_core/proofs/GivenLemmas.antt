@@ -1,13 +1,13 @@
 -- What closed core code mentions and doesn't bind is given.
 use Rattle.std.proofs.Common.{◌≡◌, Bool, true, false, List, [], ◌∷◌, ◌++◌, cond, refl, sym, ap, ◌∙◌, inl, inr}
 use Rattle.std.specs.Prelude.{◌||◌, ◌⊎◌, not}
+use Rattle.base_data.specs.Elements.{Each, Among}
 use Rattle.base_data.specs.declared.name.Label.{Label}
 use Rattle.core_language.specs.Core.{PlainCore, quoted, variable, primitive, one_armed, two_armed, assignment, sequence, procedure, letrec, call, instance, matching}
 use Rattle.core_language.specs.Core.{PlainCores, none, more, PlainInits, no_init, init, PlainCases, no_case, case, PlainClauses, no_clause, clause, fended}
 use Rattle.core_language.specs.Labels.{same_label, has_label, with_label, with_labels, without}
 use Rattle.core_language.specs.References.{variables, formals_labels, binders, all_binders, init_binders, case_binders, clause_binders}
 use Rattle.core_language.specs.References.{mentions, all_mentions, init_mentions, case_mentions, clause_mentions}
-use Rattle.law_core.specs.Words.{Each, Among}
 use Rattle.law_core.specs.Parts.{init_labels}
 use Rattle.law_core.specs.Scope.{Closed, AllClosed, InitsClosed, CasesClosed, ClausesClosed}
 use Rattle.law_core.specs.Given.{ReferencesAreGiven}

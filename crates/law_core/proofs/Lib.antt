@@ -7,3 +7,4 @@ pub mod FollowsLemmas
 pub mod ExampleLemmas
 pub mod GivenLemmas
 pub mod FollowingLemmas
+pub mod LabelLemmas

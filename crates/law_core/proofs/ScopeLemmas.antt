@@ -3,12 +3,13 @@ use Rattle.std.proofs.Common.{List, ◌++◌}
 use Rattle.std.specs.Prelude.{◌&&◌}
 use Rattle.std.specs.Bool.{Decides}
 use Rattle.std.proofs.lemmas.Bool.Decides.{Decides-and}
+use Rattle.base_data.specs.Elements.{Among}
 use Rattle.base_data.specs.declared.name.Label.{Label}
 use Rattle.core_language.specs.Core.{quoted, variable, primitive, one_armed, two_armed, assignment, sequence, procedure, letrec, call, instance, matching}
 use Rattle.core_language.specs.Core.{PlainCores, none, more, PlainInits, no_init, init, PlainCases, no_case, case, PlainClauses, no_clause, clause, fended}
 use Rattle.core_language.specs.Labels.{same_label}
 use Rattle.core_language.specs.References.{variables, formals_labels}
-use Rattle.law_core.specs.Words.{Among, among}
+use Rattle.law_core.specs.Words.{among}
 use Rattle.law_core.specs.Parts.{init_labels}
 use Rattle.law_core.specs.Scope.{template_labels, AllClosed, InitsClosed, CasesClosed, ClausesClosed, closed, all_closed, inits_closed, cases_closed, clauses_closed}
 use Rattle.law_core.specs.Decided.{ClosedIsDecided}

@@ -4,6 +4,7 @@ use Rattle.std.specs.Prelude.{not, nat_lt}
 use Rattle.std.specs.List.{flat_map}
 use Rattle.std.specs.Bool.{Decides}
 use Rattle.std.proofs.lemmas.Bool.Decides.{Decides-and, Decides-not, Decides-like, Decides-ltb, Decides-eqb}
+use Rattle.base_data.specs.Elements.{Each, Among, Once}
 use Rattle.base_data.specs.Op.{name_count}
 use Rattle.base_data.specs.declared.name.Label.{Label}
 use Rattle.stx_tree.specs.Tree as tree
@@ -11,7 +12,7 @@ use Rattle.stx_tree.specs.Tree.{Tree}
 use Rattle.core_language.specs.Core.{PlainCore, quoted, variable, primitive, one_armed, two_armed, assignment, sequence, procedure, letrec, call, instance, matching}
 use Rattle.core_language.specs.Labels.{same_label}
 use Rattle.core_language.specs.References.{binders, mentions}
-use Rattle.law_core.specs.Words.{Each, Among, Once, each, among, once}
+use Rattle.law_core.specs.Words.{each, among, once}
 use Rattle.law_core.specs.Parts.{parts, core_count, case_count, literals, ops, code_numbers, patterns, pattern_variables}
 use Rattle.law_core.specs.Templates.{Depths, TemplatesSuit}
 use Rattle.law_core.specs.WellMade.{IsLeaf, is_leaf, HasForm, has_form, same_code, given_labels, IsWellMade, is_well_made}

@@ -3,6 +3,7 @@ use Rattle.std.specs.Prelude.{◌≡◌, ℕ, Bool, true, false, List, [], ◌�
 use Rattle.base_data.specs.Op.{name_count}
 use Rattle.base_data.specs.Datum as datum
 use Rattle.base_data.specs.declared.atom.Atom.TheVariants as a
+use Rattle.base_data.specs.declared.imported_name.ImportedName.{ImportedName}
 use Rattle.base_data.specs.declared.library.LibName.{LibName}
 use Rattle.base_data.specs.declared.library.LibName.TheVariants as library
 use Rattle.base_data.specs.declared.name.CodeNo.{CodeNo}
@@ -129,7 +130,10 @@ variable_row l symbol index top = (l, binding.Variable (record { symbol = symbol
 abbrev keyword_row : Label → Option PlainCore → Label × Binding
 keyword_row l expression = (l, binding.Macro 0 expression)
 
-abbrev recorded : LibName → List (List ℕ × Label) → List (Label × Binding) → List Line → List LibName → CompiledLibrary
+abbrev export_row : List ℕ → Label → ImportedName
+export_row name label = record { name = name; label = label }
+
+abbrev recorded : LibName → List ImportedName → List (Label × Binding) → List Line → List LibName → CompiledLibrary
 recorded l exports bindings run refs = record {
   path = codes "p.sps";
   name = l;
@@ -168,7 +172,7 @@ abbrev z : Label
 z = label_of util 0
 
 abbrev defines_z : CompiledLibrary
-defines_z = recorded util ((codes "z", z) ∷ []) (variable_row z (codes "z") (Some 0) true ∷ []) (line.Define z one ∷ []) []
+defines_z = recorded util (export_row (codes "z") z ∷ []) (variable_row z (codes "z") (Some 0) true ∷ []) (line.Define z one ∷ []) []
 
 -- a program whose line mentions that variable
 abbrev mentions_z : List LibName → CompiledLibrary
@@ -192,11 +196,11 @@ pub record FollowsExamples : Type 0 where
       (variable_row x (codes "x") (Some 0) true ∷ keyword_row y (Some (variable x)) ∷ []) (line.Define x one ∷ []) []) [] ≡ false
   -- an export of its own, of an earlier record, of a name that is given, and of none
   pub exported : follows defines_z [] ≡ true
-  pub reexported : follows (recorded library.Program ((codes "z", z) ∷ []) [] [] []) (defines_z ∷ []) ≡ true
-  pub given_export : follows (recorded library.Program ((codes "car", label_of library.Core names.PARENT_RTD) ∷ []) [] [] []) [] ≡ true
-  pub derived_export : follows (recorded library.Program ((codes "let", label_of library.Core names.LET) ∷ []) [] [] []) [] ≡ false
-  pub unknown_export : follows (recorded library.Program ((codes "z", z) ∷ []) [] [] []) [] ≡ false
-  pub exported_twice : follows (recorded library.Program ((codes "z", z) ∷ (codes "z", z) ∷ []) [] [] []) (defines_z ∷ []) ≡ false
+  pub reexported : follows (recorded library.Program (export_row (codes "z") z ∷ []) [] [] []) (defines_z ∷ []) ≡ true
+  pub given_export : follows (recorded library.Program (export_row (codes "car") (label_of library.Core names.PARENT_RTD) ∷ []) [] [] []) [] ≡ true
+  pub derived_export : follows (recorded library.Program (export_row (codes "let") (label_of library.Core names.LET) ∷ []) [] [] []) [] ≡ false
+  pub unknown_export : follows (recorded library.Program (export_row (codes "z") z ∷ []) [] [] []) [] ≡ false
+  pub exported_twice : follows (recorded library.Program (export_row (codes "z") z ∷ export_row (codes "z") z ∷ []) [] [] []) (defines_z ∷ []) ≡ false
   -- the libraries that it mentions
   pub referring : follows (mentions_z (util ∷ [])) (defines_z ∷ []) ≡ true
   pub not_referring : follows (mentions_z []) (defines_z ∷ []) ≡ false

@@ -3,9 +3,11 @@ use Rattle.std.specs.Prelude.{◌≡◌, ◌⊎◌, ℕ, ◌<◌, nat_lt, nat_eq
 use Rattle.std.specs.List.{flat_map}
 use Rattle.std.specs.Map.{lookup}
 use Rattle.std.specs.Cmp.Lexicographic.{pointwise}
+use Rattle.base_data.specs.Elements.{Each, Among, Once}
 use Rattle.base_data.specs.Named.{Named}
 use Rattle.base_data.specs.Op.{name_count}
 use Rattle.base_data.specs.Same.{same_library, same_name}
+use Rattle.base_data.specs.declared.imported_name.ImportedName.{ImportedName}
 use Rattle.base_data.specs.declared.library.LibName.{LibName}
 use Rattle.base_data.specs.declared.library.LibName.TheVariants as library
 use Rattle.base_data.specs.declared.name.CodeNo.{CodeNo}
@@ -22,7 +24,7 @@ use Rattle.core_language.specs.declared.binding.Binding.{Binding}
 use Rattle.core_language.specs.declared.binding.Binding.TheVariants as binding
 use Rattle.core_language.specs.declared.record.CompiledLibrary.{CompiledLibrary}
 use Rattle.core_language.specs.declared.record.Line.{Line}
-use Rattle.law_core.specs.Words.{Each, Among, Once, each, among, once}
+use Rattle.law_core.specs.Words.{each, among, once}
 use Rattle.law_core.specs.Parts.{code_numbers, bound_variables}
 use Rattle.law_core.specs.Scope.{Closed, closed}
 use Rattle.law_core.specs.WellMade.{IsWellMade, is_well_made, same_code}
@@ -32,10 +34,10 @@ abbrev pub names_of : List CompiledLibrary → List LibName
 names_of rs = map (λ (r : CompiledLibrary). r.name) rs
 
 abbrev pub export_names : CompiledLibrary → List (List ℕ)
-export_names r = map (λ (e : List ℕ × Label). e.0) r.exports
+export_names r = map (λ (e : ImportedName). e.name) r.exports
 
 abbrev pub export_labels : CompiledLibrary → List Label
-export_labels r = map (λ (e : List ℕ × Label). e.1) r.exports
+export_labels r = map (λ (e : ImportedName). e.label) r.exports
 
 abbrev pub bound_labels : CompiledLibrary → List Label
 bound_labels r = map (λ (b : Label × Binding). b.0) r.bindings

@@ -1,9 +1,9 @@
 -- What closed core code mentions and doesn't bind is given.
 use Rattle.std.specs.Prelude.{List}
+use Rattle.base_data.specs.Elements.{Each, Among}
 use Rattle.base_data.specs.declared.name.Label.{Label}
 use Rattle.core_language.specs.Core.{PlainCore}
 use Rattle.core_language.specs.References.{references}
-use Rattle.law_core.specs.Words.{Each, Among}
 use Rattle.law_core.specs.Scope.{Closed}
 
 abbrev pub ReferencesAreGiven : Type 0

@@ -2,6 +2,7 @@
 use Rattle.std.specs.Prelude.{ℕ, ◌==◌, nat_eq, Bool, ◌&&◌, List, [], ◌∷◌, ◌++◌, Option, None, Some, if◌then◌else◌}
 use Rattle.std.specs.List.{flat_map}
 use Rattle.std.specs.Cmp.Lexicographic.{pointwise}
+use Rattle.base_data.specs.Elements.{Each, Once}
 use Rattle.base_data.specs.declared.name.Label.{Label}
 use Rattle.core_language.specs.Core.{PlainCore}
 use Rattle.core_language.specs.Labels.{same_label}
@@ -12,7 +13,7 @@ use Rattle.core_language.specs.declared.record.CompiledLibrary.{CompiledLibrary}
 use Rattle.core_language.specs.declared.record.Line.{Line}
 use Rattle.core_language.specs.declared.record.Line.TheVariants as line
 use Rattle.core_naming.specs.Generated.{generated_name}
-use Rattle.law_core.specs.Words.{Each, Once, each, once}
+use Rattle.law_core.specs.Words.{each, once}
 use Rattle.law_core.specs.Scope.{Closed, closed}
 
 abbrev pub line_core : Line → PlainCore

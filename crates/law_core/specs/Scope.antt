@@ -1,5 +1,6 @@
 -- Closed core code: each label in it lies in the scope of its binder, or is one that is given.
 use Rattle.std.specs.Prelude.{Bool, true, ◌&&◌, List, [], ◌∷◌, ◌++◌}
+use Rattle.base_data.specs.Elements.{Each, Among}
 use Rattle.base_data.specs.declared.name.Label.{Label}
 use Rattle.core_language.specs.Core.{PlainCore, quoted, variable, primitive, one_armed, two_armed, assignment, sequence, procedure, letrec, call, instance, matching}
 use Rattle.core_language.specs.Core.{PlainCores, none, more, PlainInits, no_init, init, PlainCases, no_case, case, PlainClauses, no_clause, clause, fended}
@@ -7,7 +8,7 @@ use Rattle.core_language.specs.Labels.{same_label}
 use Rattle.core_language.specs.References.{variables, formals_labels}
 use Rattle.core_language.specs.Template as template
 use Rattle.core_language.specs.Template.{PlainTemplate, PlainItems}
-use Rattle.law_core.specs.Words.{Each, Among, each, among}
+use Rattle.law_core.specs.Words.{each, among}
 use Rattle.law_core.specs.Parts.{init_labels}
 
 -- the variables of a template, from left to right

@@ -1,5 +1,6 @@
 -- Templates that suit the pattern variables round them (libraries report 12.4).
 use Rattle.std.specs.Prelude.{ℕ, zero, suc, ◌+◌, ◌≤◌, ◌<◌, nat_le, nat_eq, ◌⊎◌, Bool, true, false, ◌&&◌, ◌||◌, List, [], ◌∷◌, ◌++◌}
+use Rattle.base_data.specs.Elements.{Among}
 use Rattle.base_data.specs.declared.name.Label.{Label}
 use Rattle.core_language.specs.Core.{PlainCore, quoted, variable, primitive, one_armed, two_armed, assignment, sequence, procedure, letrec, call, instance, matching}
 use Rattle.core_language.specs.Core.{PlainCores, none, more, PlainInits, no_init, init, PlainCases, no_case, case, PlainClauses, no_clause, clause, fended}
@@ -8,7 +9,7 @@ use Rattle.core_language.specs.Pattern as pattern
 use Rattle.core_language.specs.Pattern.{PlainPattern, PlainPatterns}
 use Rattle.core_language.specs.Template as template
 use Rattle.core_language.specs.Template.{PlainTemplate, PlainItems}
-use Rattle.law_core.specs.Words.{Among, among}
+use Rattle.law_core.specs.Words.{among}
 
 -- pattern variables, each with its depth: under how many ellipses it stands
 abbrev pub Depths : Type 0

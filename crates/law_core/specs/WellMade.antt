@@ -1,6 +1,7 @@
 -- Well made core code.
 use Rattle.std.specs.Prelude.{◌≡◌, ℕ, ◌≤◌, ◌<◌, nat_le, nat_lt, ◌==◌, Bool, true, false, not, ◌&&◌, List, ◌++◌, map}
 use Rattle.std.specs.List.{flat_map}
+use Rattle.base_data.specs.Elements.{Each, Among, Once}
 use Rattle.base_data.specs.Op.{name_count}
 use Rattle.base_data.specs.Same.{same_name}
 use Rattle.base_data.specs.declared.name.Label.{Label}
@@ -10,7 +11,7 @@ use Rattle.stx_tree.specs.Tree.{Tree}
 use Rattle.core_language.specs.Core.{PlainCore, quoted, variable, primitive, one_armed, two_armed, assignment, sequence, procedure, letrec, call, instance, matching}
 use Rattle.core_language.specs.Labels.{same_label}
 use Rattle.core_language.specs.References.{binders, mentions}
-use Rattle.law_core.specs.Words.{Each, Among, Once, each, among, once}
+use Rattle.law_core.specs.Words.{each, among, once}
 use Rattle.law_core.specs.Parts.{parts, core_count, case_count, literals, ops, code_numbers, patterns, pattern_variables}
 use Rattle.law_core.specs.Templates.{Depths, TemplatesSuit, templates_suit}
 

@@ -5,12 +5,13 @@ use Rattle.std.specs.Prelude.{◌⊎◌, slice_get, if◌then◌else◌}
 use Rattle.std.specs.List.{flat_map}
 use Rattle.std.specs.Map.{lookup}
 use Rattle.indexmap.specs.IndexMap.{insert_entry}
+use Rattle.base_data.proofs.ElementLemmas.{each-at, among-map}
+use Rattle.base_data.specs.Elements.{Each, Among, Once}
 use Rattle.base_data.specs.declared.name.Label.{Label}
 use Rattle.core_language.specs.Labels.{same_label}
 use Rattle.core_language.specs.declared.binding.Binding.{Binding}
 use Rattle.core_language.specs.declared.binding.Binding.TheVariants as binding
 use Rattle.core_language.specs.declared.record.CompiledLibrary.{CompiledLibrary}
-use Rattle.law_core.specs.Words.{Each, Among, Once}
 use Rattle.law_core.proofs.Decisions.{label_decides}
 use Rattle.core_output.specs.CoreText.{VariableNames}
 use Rattle.core_output.specs.Naming.{with_index, with_name, with_names}
@@ -117,21 +118,11 @@ given_in cs l x e = by_part (given_by cs [] l x e) where
   by_part (inl g) = g
   by_part (inr f) = absurd (no_name x f)
 
-among_each : {A : Type 0} (P : A → Type 0) (xs : List A) (x : A) → Each P xs → Among xs x → P x
-among_each P [] x h a = elim a [ ]
-among_each P (y ∷ ys) x h (inl e) = subst P (sym e) h.0
-among_each P (y ∷ ys) x h (inr a) = among_each P ys x h.1 a
-
-among_map : {A B : Type 0} (f : A → B) (xs : List A) (x : A) → Among xs x → Among (map f xs) (f x)
-among_map f [] x a = elim a [ ]
-among_map f (y ∷ ys) x (inl e) = inl (ap f e)
-among_map f (y ∷ ys) x (inr a) = inr (among_map f ys x a)
-
 once_same : {A B : Type 0} (f : A → B) (xs : List A) (x y : A) → Once (map f xs) → Among xs x → Among xs y → f x ≡ f y → x ≡ y
 once_same f [] x y h a b e = elim a [ ]
 once_same f (z ∷ zs) x y h (inl a) (inl b) e = a ∙ sym b
-once_same f (z ∷ zs) x y h (inl a) (inr b) e = absurd (h.0 (subst (λ w. Among (map f zs) w) (sym e ∙ ap f a) (among_map f zs y b)))
-once_same f (z ∷ zs) x y h (inr a) (inl b) e = absurd (h.0 (subst (λ w. Among (map f zs) w) (e ∙ ap f b) (among_map f zs x a)))
+once_same f (z ∷ zs) x y h (inl a) (inr b) e = absurd (h.0 (subst (λ w. Among (map f zs) w) (sym e ∙ ap f a) (among-map f zs y b)))
+once_same f (z ∷ zs) x y h (inr a) (inl b) e = absurd (h.0 (subst (λ w. Among (map f zs) w) (e ∙ ap f b) (among-map f zs x a)))
 once_same f (z ∷ zs) x y h (inr a) (inr b) e = once_same f zs x y h.1 a b e
 
 -- each row has a generated name
@@ -169,8 +160,8 @@ apart cs h once l m x e f =
     let bs : List Bound = flat_map bound_in cs in
     let v = a.0.variable in
     let w = b.0.variable in
-    let is : IsTold a.0 = among_each IsTold bs a.0 h a.1.0 in
-    let was : IsTold b.0 = among_each IsTold bs b.0 h b.1.0 in
+    let is : IsTold a.0 = each-at IsTold bs a.0 h a.1.0 in
+    let was : IsTold b.0 = each-at IsTold bs b.0 h b.1.0 in
     let told = place_told v.library w.library v.symbol w.symbol v.number w.number is was (a.1.1.name ∙ sym b.1.1.name) in
     let same : a.0 ≡ b.0 = once_same place bs a.0 b.0 once a.1.0 b.1.0 (λ i. (told.0 i, told.1 i)) in
     sym a.1.1.label ∙ ap (λ (c : Bound). c.label) same ∙ b.1.1.label

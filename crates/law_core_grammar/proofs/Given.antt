@@ -1,15 +1,16 @@
 -- Each variable that is bound has a name.
-use Rattle.std.proofs.Common.{◌≡◌, ℕ, Bool, true, false, List, [], ◌∷◌, ◌++◌, refl, sym, ap, subst, Option, Some, None}
+use Rattle.std.proofs.Common.{◌≡◌, ℕ, Bool, true, false, List, [], ◌∷◌, refl, sym, ap, subst, Option, Some, None}
 use Rattle.std.proofs.Common.{inl, inr}
 use Rattle.std.specs.Prelude.{◌⊎◌, if◌then◌else◌}
 use Rattle.std.specs.List.{flat_map}
 use Rattle.std.specs.Map.{lookup}
 use Rattle.indexmap.specs.IndexMap.{insert_entry}
+use Rattle.base_data.proofs.ElementLemmas.{among-parts}
+use Rattle.base_data.specs.Elements.{Among}
 use Rattle.base_data.specs.declared.name.Label.{Label}
 use Rattle.core_language.specs.Labels.{same_label}
 use Rattle.core_language.specs.declared.binding.Binding.{Binding}
 use Rattle.core_language.specs.declared.binding.Binding.TheVariants as binding
-use Rattle.law_core.specs.Words.{Among}
 use Rattle.law_core.proofs.Decisions.{label_decides}
 use Rattle.core_output.specs.CoreText.{VariableNames}
 use Rattle.core_output.specs.Naming.{with_index, with_name, with_names}
@@ -78,17 +79,9 @@ name_has names k (binding.Macro level expression) b a = elim a [ ]
 name_has names k (binding.Core form) b a = elim a [ ]
 name_has names k (binding.Primitive o) b a = elim a [ ]
 
-among_parts : {A : Type 0} (xs ys : List A) (x : A) → Among (xs ++ ys) x → Among xs x ⊎ Among ys x
-among_parts [] ys x a = inr a
-among_parts (z ∷ zs) ys x (inl e) = inl (inl e)
-among_parts (z ∷ zs) ys x (inr a) = behind (among_parts zs ys x a) where
-  behind : Among zs x ⊎ Among ys x → Among (z ∷ zs) x ⊎ Among ys x
-  behind (inl b) = inl (inr b)
-  behind (inr b) = inr b
-
 names_have : (cs : List (Label × Binding)) (names : VariableNames) (b : Bound) → Among (flat_map bound_in cs) b → HasName (with_names names cs) b.label
 names_have [] names b a = elim a [ ]
-names_have (c ∷ cs) names b a = by_part (among_parts (bound_in c) (flat_map bound_in cs) b a) (λ g. names_have cs (with_name names c.0 c.1) b g) where
+names_have (c ∷ cs) names b a = by_part (among-parts (bound_in c) (flat_map bound_in cs) b a) (λ g. names_have cs (with_name names c.0 c.1) b g) where
   by_part : Among (bound_in c) b ⊎ Among (flat_map bound_in cs) b → (Among (flat_map bound_in cs) b → HasName (with_names (with_name names c.0 c.1) cs) b.label)
       → HasName (with_names (with_name names c.0 c.1) cs) b.label
   by_part (inl h) f = names_keep cs (with_name names c.0 c.1) b.label (name_has names c.0 c.1 b h)

@@ -8,3 +8,4 @@ pub mod Whole
 pub mod Bound
 mod Examples
 mod Given
+pub mod Called

@@ -1,41 +1,25 @@
 -- Names whose text, as symbols, they are themselves.
-use Rattle.std.proofs.Common.{◌≡◌, ℕ, zero, suc, ◌<◌, Bool, true, false, List, [], ◌∷◌, ◌++◌, arith, refl, ap, ◌∙◌}
+use Rattle.std.proofs.Common.{◌≡◌, ℕ, ◌<◌, Bool, true, false, List, [], ◌∷◌, ◌++◌, arith, refl, ap, ◌∙◌}
 use Rattle.std.specs.Prelude.{◌&&◌, ◌||◌, if◌then◌else◌}
 use Rattle.std.specs.List.{list_all}
-use Rattle.std.specs.Str.{IsAscii, chars}
+use Rattle.std.specs.Str.{chars}
 use Rattle.std.proofs.lemmas.Bool.{and_parts}
 use Rattle.std.proofs.lemmas.Bool.Decides.{nat_tests}
 use Rattle.std.proofs.lemmas.Str.{encode_ascii, chars-IsAscii, IsUtf8-from_ascii}
-use Rattle.read_printer.specs.Symbols.{symbol_text, name_text, initial_text, is_initial, is_peculiar, subsequent_text, subsequents_text, is_subsequent}
+use Rattle.read_printer.specs.Symbols.{symbol_text, name_text, initial_text, is_initial, is_peculiar, subsequents_text, is_subsequent}
 use Rattle.law_round.specs.Readable.{IsName}
+use Rattle.law_names.proofs.Reading.{ascii, all_themselves}
 
 -- an identifier in ASCII without escapes
 abbrev pub is_plain_name : List ℕ → Bool
 is_plain_name [] = false
 is_plain_name (b ∷ bs) = list_all is_subsequent (b ∷ bs) && (is_initial b || is_peculiar (b ∷ bs))
 
-subsequent_ascii : (b : ℕ) → is_subsequent b ≡ true → b < 0x80
-subsequent_ascii b h = grind (arith, nat_tests)
-
 initial_ascii : (b : ℕ) → is_initial b ≡ true → b < 0x80
 initial_ascii b h = grind (arith, nat_tests)
 
-ascii : (bs : List ℕ) → list_all is_subsequent bs ≡ true → IsAscii bs
-ascii [] h i = omega arith
-ascii (b ∷ bs) h zero = subsequent_ascii b ((and_parts (is_subsequent b) (list_all is_subsequent bs) h).0)
-ascii (b ∷ bs) h (suc i) = ascii bs ((and_parts (is_subsequent b) (list_all is_subsequent bs) h).1) i
-
-itself : (b : ℕ) → is_subsequent b ≡ true → subsequent_text b ≡ b ∷ []
-itself b h = rw h (encode_ascii b (subsequent_ascii b h))
-
 first_itself : (b : ℕ) → is_initial b ≡ true → initial_text b ≡ b ∷ []
 first_itself b h = rw h (encode_ascii b (initial_ascii b h))
-
-all_themselves : (bs : List ℕ) → list_all is_subsequent bs ≡ true → subsequents_text bs ≡ bs
-all_themselves [] h = refl
-all_themselves (b ∷ bs) h =
-    let both = and_parts (is_subsequent b) (list_all is_subsequent bs) h in
-    ap (λ (w : List ℕ). w ++ subsequents_text bs) (itself b both.0) ∙ ap (λ (w : List ℕ). b ∷ w) (all_themselves bs both.1)
 
 by_either : (p : Bool) (xs ys zs : List ℕ) → (p ≡ true → xs ≡ zs) → (p ≡ false → ys ≡ zs) → (if p then xs else ys) ≡ zs
 by_either true xs ys zs f g = f refl

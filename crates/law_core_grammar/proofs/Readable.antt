@@ -1,14 +1,15 @@
 -- A spelling can be read where the constants of its code can be, and it has no spans.
 use Rattle.std.proofs.Common.{◌≡◌, ℕ, zero, suc, ◌+◌, Bool, true, false, List, [], ◌∷◌, ◌++◌, map, arith, refl, Option, None}
 use Rattle.std.specs.Prelude.{codes}
+use Rattle.base_data.proofs.ElementLemmas.{each-first, each-last, each-flat}
 use Rattle.base_data.specs.Datum as datum
 use Rattle.base_data.specs.Datum.{PlainDatum, nil, unspanned}
+use Rattle.base_data.specs.Elements.{Each}
 use Rattle.base_data.specs.Op.{op_text}
 use Rattle.base_data.specs.declared.atom.Atom.TheVariants as a
 use Rattle.base_data.specs.declared.name.Label.{Label}
 use Rattle.core_language.specs.Core.{PlainCore, PlainCores, PlainInits, PlainCases}
 use Rattle.core_language.specs.declared.record.Line.{Line}
-use Rattle.law_core.specs.Words.{Each}
 use Rattle.law_core.specs.Parts.{parts, all_parts, init_parts, case_parts}
 use Rattle.law_core.specs.Records.{line_core}
 use Rattle.core_output.specs.CoreText.{VariableNames}
@@ -23,7 +24,6 @@ use Rattle.law_core_grammar.specs.Spellable.{CanBeRead, own_constant, constants}
 use Rattle.law_core_grammar.specs.Laws.{SpellingsCanBeRead}
 use Rattle.law_core_grammar.proofs.Plain.{plain_name}
 use Rattle.law_core_grammar.proofs.Called.{generated_plain, called_percented, primitive_free}
-use Rattle.law_core_grammar.proofs.Spellings.{left, right, each_own}
 
 -- spans don't matter
 mutual
@@ -150,41 +150,41 @@ module _ (names : VariableNames) (good : AreGenerated names) where
     reads (s.reference {l} {x} h) f = called_reads l x h
     reads (s.primitive o h) f = word_reads (op_text o.0) (plain_name (op_text o.0) ((primitive_free o.0 h).plain))
     reads (s.one_armed {t} {c} {d} {e} p q) f =
-        form_reads (codes "if") (two d e) if_name (two_end d e (reads p (left IsFine (parts t) (parts c) f.1)) (reads q (right IsFine (parts t) (parts c) f.1)))
+        form_reads (codes "if") (two d e) if_name (two_end d e (reads p (each-first IsFine (parts t) (parts c) f.1)) (reads q (each-last IsFine (parts t) (parts c) f.1)))
     reads (s.two_armed {t} {c} {a = b} {d} {e} {f = g} p q r) f =
-        let k = right IsFine (parts t) (parts c ++ parts b) f.1 in
+        let k = each-last IsFine (parts t) (parts c ++ parts b) f.1 in
         form_reads (codes "if") (three d e g) if_name
-        (three_end d e g (reads p (left IsFine (parts t) (parts c ++ parts b) f.1)) (reads q (left IsFine (parts c) (parts b) k)) (reads r (right IsFine (parts c) (parts b) k)))
+        (three_end d e g (reads p (each-first IsFine (parts t) (parts c ++ parts b) f.1)) (reads q (each-first IsFine (parts c) (parts b) k)) (reads r (each-last IsFine (parts c) (parts b) k)))
     reads (s.assignment {l} {x} {c} {d} h p) f = form_reads (codes "set!") (two (word x) d) set_name (two_end (word x) d (called_reads l x h) (reads p f.1))
     reads (s.sequence {c} {cs} {d} {e} p ps) f =
-        form_reads (codes "begin") (before d e) begin_name (pair_ends d e (reads p (left IsFine (parts c) (all_parts cs) f.1)) (all_end ps (right IsFine (parts c) (all_parts cs) f.1)))
+        form_reads (codes "begin") (before d e) begin_name (pair_ends d e (reads p (each-first IsFine (parts c) (all_parts cs) f.1)) (all_end ps (each-last IsFine (parts c) (all_parts cs) f.1)))
     reads (s.lambda {f = g} {c} {d} {e} n fs p) f =
-        form_reads (codes "lambda") (two d e) lambda_name (two_end d e (formals_read fs) (reads p (left IsFine (parts c) [] f.1)))
+        form_reads (codes "lambda") (two d e) lambda_name (two_end d e (formals_read fs) (reads p (each-first IsFine (parts c) [] f.1)))
     reads (s.case_lambda {cs} {e} n ps) f = form_reads (codes "case-lambda") e case_lambda_name (cases_end ps f.1)
     reads (s.letrec {is} {c} {d} {e} ordered ps p) f =
         form_reads (letrec_keyword ordered) (two d e) (letrec_name ordered)
-        (two_end d e (inits_read ps (left IsFine (init_parts is) (parts c) f.1)) (reads p (right IsFine (init_parts is) (parts c) f.1)))
+        (two_end d e (inits_read ps (each-first IsFine (init_parts is) (parts c) f.1)) (reads p (each-last IsFine (init_parts is) (parts c) f.1)))
     reads (s.application {c} {cs} {d} {e} p ps) f =
-        pair_reads d e (reads p (left IsFine (parts c) (all_parts cs) f.1)) (all_end ps (right IsFine (parts c) (all_parts cs) f.1))
+        pair_reads d e (reads p (each-first IsFine (parts c) (all_parts cs) f.1)) (all_end ps (each-last IsFine (parts c) (all_parts cs) f.1))
 
     all_end : {cs : PlainCores} {e : PlainDatum} → SpellsAllCode names cs e → Fine (all_parts cs) → CanEnd e
     all_end s.no_more f = nil_ends
-    all_end (s.more {c} {cs} {d} {e} p ps) f = pair_ends d e (reads p (left IsFine (parts c) (all_parts cs) f)) (all_end ps (right IsFine (parts c) (all_parts cs) f))
+    all_end (s.more {c} {cs} {d} {e} p ps) f = pair_ends d e (reads p (each-first IsFine (parts c) (all_parts cs) f)) (all_end ps (each-last IsFine (parts c) (all_parts cs) f))
 
     cases_end : {cs : PlainCases} {e : PlainDatum} → SpellsCases names cs e → Fine (case_parts cs) → CanEnd e
     cases_end s.no_case f = nil_ends
     cases_end (s.case {f = k} {c} {cs} {d} {e} {g} fs p ps) f =
-        pair_ends (two d e) g (two_read d e (formals_read fs) (reads p (left IsFine (parts c) (case_parts cs) f))) (cases_end ps (right IsFine (parts c) (case_parts cs) f))
+        pair_ends (two d e) g (two_read d e (formals_read fs) (reads p (each-first IsFine (parts c) (case_parts cs) f))) (cases_end ps (each-last IsFine (parts c) (case_parts cs) f))
 
     inits_end : {is : PlainInits} {e : PlainDatum} → SpellsInits names is e → Fine (init_parts is) → CanEnd e
     inits_end s.no_init f = nil_ends
     inits_end (s.init {l} {x} {c} {is} {d} {e} h p ps) f =
-        pair_ends (two (word x) d) e (two_read (word x) d (called_reads l x h) (reads p (left IsFine (parts c) (init_parts is) f))) (inits_end ps (right IsFine (parts c) (init_parts is) f))
+        pair_ends (two (word x) d) e (two_read (word x) d (called_reads l x h) (reads p (each-first IsFine (parts c) (init_parts is) f))) (inits_end ps (each-last IsFine (parts c) (init_parts is) f))
 
     inits_read : {is : PlainInits} {e : PlainDatum} → SpellsInits names is e → Fine (init_parts is) → CanBeRead e
     inits_read s.no_init f = nil_reads
     inits_read (s.init {l} {x} {c} {is} {d} {e} h p ps) f =
-        pair_reads (two (word x) d) e (two_read (word x) d (called_reads l x h) (reads p (left IsFine (parts c) (init_parts is) f))) (inits_end ps (right IsFine (parts c) (init_parts is) f))
+        pair_reads (two (word x) d) e (two_read (word x) d (called_reads l x h) (reads p (each-first IsFine (parts c) (init_parts is) f))) (inits_end ps (each-last IsFine (parts c) (init_parts is) f))
 
   line_reads : {l : Line} {d : PlainDatum} → SpellsLine names l d → Fine (parts (line_core l)) → CanBeRead d
   line_reads (definition {l} {x} {c} {d} h p) f = form_reads (codes "define") (two (word x) d) define_name (two_end (word x) d (called_reads l x h) (reads p f))
@@ -192,7 +192,7 @@ module _ (names : VariableNames) (good : AreGenerated names) where
 
   pub lines_read : {ls : List Line} {ds : List PlainDatum} → SpellLines names ls ds → Each (λ l. Each CanBeRead (constants (line_core l))) ls → Each CanBeRead ds
   lines_read no_line h = tt
-  lines_read (further {l} {ls} p ps) h = (line_reads p (each_own CanBeRead own_constant (parts (line_core l)) h.0), lines_read ps h.1)
+  lines_read (further {l} {ls} p ps) h = (line_reads p (each-flat CanBeRead own_constant (parts (line_core l)) h.0), lines_read ps h.1)
 
   -- a spelling has no spans
   formals_bare : {ls : List Label} {r : Option Label} {d : PlainDatum} → SpellsFormals names ls r d → unspanned d ≡ d
@@ -236,4 +236,4 @@ module _ (names : VariableNames) (good : AreGenerated names) where
   lines_bare (further p ps) = λ i. line_bare p i ∷ lines_bare ps i
 
 pub spellings_can_be_read : SpellingsCanBeRead
-spellings_can_be_read names c d good h p = reads names good p (each_own CanBeRead own_constant (parts c) h)
+spellings_can_be_read names c d good h p = reads names good p (each-flat CanBeRead own_constant (parts c) h)

@@ -1,7 +1,8 @@
 -- The spelling of core code: it is one, and there is no other.
 use Rattle.std.proofs.Common.{◌≡◌, ℕ, Bool, true, false, List, [], ◌∷◌, ◌++◌, arith, refl, sym, ap, ◌∙◌, Option, Some, None, Ok, Err}
 use Rattle.std.specs.Prelude.{codes, if◌then◌else◌}
-use Rattle.std.specs.List.{flat_map}
+use Rattle.base_data.proofs.ElementLemmas.{each-first, each-last, each-flat}
+use Rattle.base_data.specs.Elements.{Each}
 use Rattle.base_data.specs.Gives.{◌>>=◌}
 use Rattle.base_data.specs.Datum.{PlainDatum, nil, unspanned}
 use Rattle.base_data.specs.Op.{op_text}
@@ -12,7 +13,6 @@ use Rattle.core_language.specs.Core as core
 use Rattle.core_language.specs.Core.{PlainCore, PlainCores, PlainInits, PlainCases}
 use Rattle.core_language.specs.References.{rest_labels, formals_labels, binders, all_binders, init_binders, case_binders, mentions, all_mentions, init_mentions, case_mentions}
 use Rattle.core_language.specs.declared.record.Line.TheVariants as line
-use Rattle.law_core.specs.Words.{Each}
 use Rattle.law_core.specs.Parts.{parts, all_parts, init_parts, case_parts, own_op, case_count}
 use Rattle.law_core.specs.WellMade.{HasForm}
 use Rattle.core_output.specs.CoreText.{VariableNames, name_of}
@@ -111,20 +111,6 @@ module _ (names : VariableNames) where
 pub one_spelling : OneSpelling
 one_spelling names c d e p q = only names p ∙ sym (only names q)
 
--- lists of two parts
-pub left : {A : Type 0} (P : A → Type 0) (xs ys : List A) → Each P (xs ++ ys) → Each P xs
-left P [] ys h = tt
-left P (x ∷ xs) ys h = (h.0, left P xs ys h.1)
-
-pub right : {A : Type 0} (P : A → Type 0) (xs ys : List A) → Each P (xs ++ ys) → Each P ys
-right P [] ys h = h
-right P (x ∷ xs) ys h = right P xs ys h.1
-
--- what holds of each that a part has
-pub each_own : {A B : Type 0} (P : B → Type 0) (f : A → List B) (xs : List A) → Each P (flat_map f xs) → Each (λ x. Each P (f x)) xs
-each_own P f [] h = tt
-each_own P f (x ∷ xs) h = (left P (f x) (flat_map f xs) h, each_own P f xs (right P (f x) (flat_map f xs) h))
-
 bind_ok : (r q : Checked) → (r >>= λ _. q) ≡ written → (r ≡ written) × (q ≡ written)
 bind_ok (Ok u) q h = (refl, h)
 bind_ok (Err f) q h = absurd (cc)
@@ -143,11 +129,11 @@ module _ (names : VariableNames) where
 
   asked_left : (bs cs ms ns : List Label) (ps qs : List PlainCore) (j k : Checked) → Asked (bs ++ cs) (ms ++ ns) (ps ++ qs) (j >>= λ _. k) → Asked bs ms ps j
   asked_left bs cs ms ns ps qs j k h =
-      record { binds = left (HasName names) bs cs h.binds; says = left (HasName names) ms ns h.says; formed = left HasForm ps qs h.formed; named = left Own ps qs h.named; clean = (bind_ok j k h.clean).0 }
+      record { binds = each-first (HasName names) bs cs h.binds; says = each-first (HasName names) ms ns h.says; formed = each-first HasForm ps qs h.formed; named = each-first Own ps qs h.named; clean = (bind_ok j k h.clean).0 }
 
   asked_right : (bs cs ms ns : List Label) (ps qs : List PlainCore) (j k : Checked) → Asked (bs ++ cs) (ms ++ ns) (ps ++ qs) (j >>= λ _. k) → Asked cs ns qs k
   asked_right bs cs ms ns ps qs j k h =
-      record { binds = right (HasName names) bs cs h.binds; says = right (HasName names) ms ns h.says; formed = right HasForm ps qs h.formed; named = right Own ps qs h.named; clean = (bind_ok j k h.clean).1 }
+      record { binds = each-last (HasName names) bs cs h.binds; says = each-last (HasName names) ms ns h.says; formed = each-last HasForm ps qs h.formed; named = each-last Own ps qs h.named; clean = (bind_ok j k h.clean).1 }
 
   -- without the first part
   asked_inside : (bs ms : List Label) (p : PlainCore) (ps : List PlainCore) (k : Checked) → Asked bs ms (p ∷ ps) k → Asked bs ms ps k
@@ -180,7 +166,7 @@ module _ (names : VariableNames) where
 
   -- without the first bound labels
   asked_behind : (fs bs ms : List Label) (ps : List PlainCore) (k : Checked) → Asked (fs ++ bs) ms ps k → Asked bs ms ps k
-  asked_behind fs bs ms ps k h = record { binds = right (HasName names) fs bs h.binds; says = h.says; formed = h.formed; named = h.named; clean = h.clean }
+  asked_behind fs bs ms ps k h = record { binds = each-last (HasName names) fs bs h.binds; says = h.says; formed = h.formed; named = h.named; clean = h.clean }
 
   mutual
     spells : (c : PlainCore) → AskedCore c → SpellsCode names c (spelling names c)
@@ -234,7 +220,7 @@ module _ (names : VariableNames) where
     spells_cases core.no_case h = s.no_case
     spells_cases (core.case f c cs) h =
         let k = asked_behind (formals_labels f) (binders c ++ case_binders cs) (mentions c ++ case_mentions cs) (parts c ++ case_parts cs) (checked c >>= λ _. cases_checked cs) h in
-        s.case (spells_formals f.required f.rest (left (HasName names) (formals_labels f) (binders c ++ case_binders cs) h.binds))
+        s.case (spells_formals f.required f.rest (each-first (HasName names) (formals_labels f) (binders c ++ case_binders cs) h.binds))
         (spells c (asked_left (binders c) (case_binders cs) (mentions c) (case_mentions cs) (parts c) (case_parts cs) (checked c) (cases_checked cs) k))
         (spells_cases cs (asked_right (binders c) (case_binders cs) (mentions c) (case_mentions cs) (parts c) (case_parts cs) (checked c) (cases_checked cs) k))
 
@@ -244,12 +230,12 @@ module _ (names : VariableNames) where
     spells_lambda n core.no_case e h = absurd (omega (arith, e))
     spells_lambda n (core.case f c core.no_case) e h =
         let k = asked_behind (formals_labels f) (binders c ++ []) (mentions c ++ []) (parts c ++ []) (checked c >>= λ _. written) h in
-        s.lambda n (spells_formals f.required f.rest (left (HasName names) (formals_labels f) (binders c ++ []) h.binds))
+        s.lambda n (spells_formals f.required f.rest (each-first (HasName names) (formals_labels f) (binders c ++ []) h.binds))
         (spells c (asked_left (binders c) [] (mentions c) [] (parts c) [] (checked c) written k))
     spells_lambda n (core.case f c (core.case g d cs)) e h = absurd (omega (arith, e))
 
   asked_of : (c : PlainCore) → checked c ≡ written → IsSpellable names c → AskedCore c
-  asked_of c k h = record { binds = h.bound; says = h.mentioned; formed = h.forms; named = each_own IsPrimitive own_op (parts c) h.primitives; clean = k }
+  asked_of c k h = record { binds = h.bound; says = h.mentioned; formed = h.forms; named = each-flat IsPrimitive own_op (parts c) h.primitives; clean = k }
 
 pub code_is_spelled : CodeIsSpelled
 code_is_spelled names c k h = (spelling names c, spells names c (asked_of names c k h))

@@ -2,12 +2,12 @@
 use Rattle.std.proofs.Common.{◌≡◌, ℕ, ◌+◌, ◌≤◌, List, [], ◌∷◌, ◌++◌, map, arith, refl, sym, ap, ◌∙◌, append_assoc, subst, Option, Some, None, Result, Ok, Err, All}
 use Rattle.std.proofs.lemmas.List.Elements.{All-nil, All-cons}
 use Rattle.std.specs.Prelude.{codes, slice_get}
+use Rattle.base_data.specs.Elements.{Each}
 use Rattle.base_data.specs.Gives.{◌>>=◌}
 use Rattle.base_data.specs.Datum.{PlainDatum, unspanned, nil}
 use Rattle.base_data.specs.declared.fault.Fault.{Fault}
 use Rattle.core_language.specs.declared.record.CompiledLibrary.{CompiledLibrary}
 use Rattle.core_language.specs.declared.record.Line.{Line}
-use Rattle.law_core.specs.Words.{Each}
 use Rattle.core_output.specs.CoreText.{VariableNames, line_text, lines_text}
 use Rattle.core_output.specs.Syntax.{Checked, written, line_checked, lines_checked}
 use Rattle.core_output.specs.Whole.{record_checked, plan_checked, record_text, plan_text, all_names, all_text, core_text}
@@ -43,19 +43,19 @@ checked_both : (r q : Checked) → (r >>= λ _. q) ≡ written → (r ≡ writte
 checked_both (Ok u) q h = (refl, h)
 checked_both (Err f) q h = absurd (cc)
 
-ok_same : (v w : List ℕ) → ◌≡◌ {A = Result (List ℕ) Fault} (Ok v) (Ok w) → v ≡ w
+pub ok_same : (v w : List ℕ) → ◌≡◌ {A = Result (List ℕ) Fault} (Ok v) (Ok w) → v ≡ w
 ok_same v w e = cc
 
 -- the lines of the planned records, and those of the program
-lines_append : (names : VariableNames) (ks ls : List Line) → lines_text names (ks ++ ls) ≡ lines_text names ks ++ lines_text names ls
+pub lines_append : (names : VariableNames) (ks ls : List Line) → lines_text names (ks ++ ls) ≡ lines_text names ks ++ lines_text names ls
 lines_append names [] ls = refl
 lines_append names (k ∷ ks) ls = ap (λ w. line_text names k ++ w) (lines_append names ks ls) ∙ sym (append_assoc (line_text names k) (lines_text names ks) (lines_text names ls))
 
-record_text_is : (names : VariableNames) (r : Option CompiledLibrary) → record_text names r ≡ lines_text names (record_lines r)
+pub record_text_is : (names : VariableNames) (r : Option CompiledLibrary) → record_text names r ≡ lines_text names (record_lines r)
 record_text_is names None = refl
 record_text_is names (Some r) = refl
 
-plan_text_is : (records : List CompiledLibrary) (names : VariableNames) (plan : List ℕ) (program : CompiledLibrary)
+pub plan_text_is : (records : List CompiledLibrary) (names : VariableNames) (plan : List ℕ) (program : CompiledLibrary)
     → plan_text records names plan ++ lines_text names program.run ≡ lines_text names (all_lines records plan program)
 plan_text_is records names [] program = refl
 plan_text_is records names (p ∷ ps) program =

@@ -1,12 +1,12 @@
 -- The variables that get names, from what the labels of records are bound to.
 use Rattle.std.specs.Prelude.{ℕ, List, [], ◌∷◌, ◌++◌, map, Option, None, Some, slice_get}
 use Rattle.std.specs.List.{flat_map}
+use Rattle.base_data.specs.Elements.{Each, Among, Once}
 use Rattle.base_data.specs.declared.library.LibName.{LibName}
 use Rattle.base_data.specs.declared.name.Label.{Label}
 use Rattle.core_language.specs.declared.binding.Binding.{Binding}
 use Rattle.core_language.specs.declared.binding.Binding.TheVariants as binding
 use Rattle.core_language.specs.declared.record.CompiledLibrary.{CompiledLibrary}
-use Rattle.law_core.specs.Words.{Each, Among, Once}
 use Rattle.core_output.specs.Whole.{all_names}
 use Rattle.law_names.specs.Variable.{NamedVariable, IsNamed}
 use Rattle.law_core_grammar.specs.Names.{AreGenerated, TellApart}

@@ -1,10 +1,10 @@
 -- What holds of the spelling of core code.
 use Rattle.std.specs.Prelude.{◌≡◌, ℕ, List, ◌++◌, map, Ok, codes}
 use Rattle.base_data.specs.Datum.{PlainDatum}
+use Rattle.base_data.specs.Elements.{Each}
 use Rattle.core_language.specs.Core.{PlainCore}
 use Rattle.core_language.specs.declared.record.CompiledLibrary.{CompiledLibrary}
 use Rattle.core_language.specs.declared.record.Line.{Line}
-use Rattle.law_core.specs.Words.{Each}
 use Rattle.law_core.specs.Records.{line_core}
 use Rattle.core_output.specs.CoreText.{VariableNames, text, line_text}
 use Rattle.core_output.specs.Syntax.{checked, line_checked, written}

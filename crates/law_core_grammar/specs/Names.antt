@@ -1,10 +1,10 @@
 -- Which names variables and primitives have in core text.
 use Rattle.std.specs.Prelude.{◌≡◌, ℕ, ◌<◌, false, List, Some}
 use Rattle.std.specs.Map.{lookup}
+use Rattle.base_data.specs.Elements.{Each}
 use Rattle.base_data.specs.Op.{name_count, is_keyword}
 use Rattle.base_data.specs.declared.name.Label.{Label}
 use Rattle.core_language.specs.Labels.{same_label}
-use Rattle.law_core.specs.Words.{Each}
 use Rattle.core_output.specs.CoreText.{VariableNames}
 use Rattle.law_names.specs.Variable.{NamedVariable}
 use Rattle.law_names.specs.Variable as variables

@@ -2,11 +2,11 @@
 use Rattle.std.specs.Prelude.{ℕ, List, [], ◌∷◌}
 use Rattle.std.specs.List.{flat_map}
 use Rattle.base_data.specs.Datum.{PlainDatum}
+use Rattle.base_data.specs.Elements.{Each}
 use Rattle.base_data.specs.declared.name.Label.{Label}
 use Rattle.core_language.specs.Core.{PlainCore, quoted}
 use Rattle.core_language.specs.References.{binders, mentions}
 use Rattle.core_language.specs.declared.record.Line.{Line}
-use Rattle.law_core.specs.Words.{Each}
 use Rattle.law_core.specs.Parts.{parts, ops}
 use Rattle.law_core.specs.Records.{line_core, line_labels}
 use Rattle.law_core.specs.WellMade.{HasForm}

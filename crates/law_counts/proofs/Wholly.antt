@@ -1,6 +1,7 @@
 -- Uses are counted over the expansion of a library.
 use Rattle.std.proofs.Common.{◌≡◌, ◌+◌, ℕ, List, [], Option, None, Some, refl, arith}
 use Rattle.base_data.specs.Act.{after, give}
+use Rattle.base_data.specs.declared.imported_name.ImportedName.{ImportedName}
 use Rattle.base_data.specs.declared.library.LibName.{LibName}
 use Rattle.base_data.specs.declared.name.Label.{Label}
 use Rattle.stx_tree.specs.Changes.{stamp}
@@ -34,7 +35,7 @@ unfolding exports
 exports-keep at es s =
     keeps-after s (all_exports at es s) (λ ls t. after (export_labels ls t) (λ _. give ls)) (keeps-each (export at) (λ e t. export-keeps at e t) [] es s) (λ ls t. refl)
 
-record-counted : (libs : List LibName) (own : LibName) (records : List CompiledLibrary) (imports : List (List ℕ × Label)) (codes : Codes) (at : TopAt) (es : List (List ℕ × Tree)) (fs : List Tree) (r : CompiledLibrary)
+record-counted : (libs : List LibName) (own : LibName) (records : List CompiledLibrary) (imports : List ImportedName) (codes : Codes) (at : TopAt) (es : List (List ℕ × Tree)) (fs : List Tree) (r : CompiledLibrary)
     (h : RunIsRight libs own records (started own records imports codes) at es fs r) → (items_made h.taking + lines_made h.ends) + h.last.uses_left ≡ 1000000
 record-counted libs own records imports codes at es fs r h =
     let begins = uses-counted.starts own records imports codes in

@@ -1,7 +1,7 @@
 -- Uses of keywords are counted over whole expansions.
 use Rattle.std.specs.Prelude.{◌≡◌, ◌+◌, ℕ, List, Ok}
+use Rattle.base_data.specs.declared.imported_name.ImportedName.{ImportedName}
 use Rattle.base_data.specs.declared.library.LibName.{LibName}
-use Rattle.base_data.specs.declared.name.Label.{Label}
 use Rattle.base_data.specs.declared.span.Span.{Span}
 use Rattle.stx_tree.specs.Tree.{Tree}
 use Rattle.core_language.specs.Core.{PlainCore}
@@ -50,7 +50,7 @@ pub record UsesAreCountedInWhole : Type 0 where
       (h : Take rs at depth done ts s end u es) → items_made h + u.uses_left ≡ s.uses_left
   pub second : (rs : List CompiledLibrary) (level : ℕ) (ws : List Waiting) (s u : State) (xs : List NotedLine)
       (h : Finish rs level ws s xs u) → lines_made h + u.uses_left ≡ s.uses_left
-  pub libraries : (libs : List LibName) (own : LibName) (records : List CompiledLibrary) (imports : List (List ℕ × Label)) (codes : Codes) (at : TopAt)
+  pub libraries : (libs : List LibName) (own : LibName) (records : List CompiledLibrary) (imports : List ImportedName) (codes : Codes) (at : TopAt)
       (exports : List (List ℕ × Tree)) (forms : List Tree) (r : CompiledLibrary)
       (h : RunIsRight libs own records (started own records imports codes) at exports forms r)
       → (items_made h.taking + lines_made h.ends) + h.last.uses_left ≡ 1000000

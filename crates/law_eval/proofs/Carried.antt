@@ -35,7 +35,7 @@ use Rattle.eval_code.specs.Spread.{Call, apply_args, parted, before_last, with_e
 use Rattle.eval_code.specs.State.{WorldState, Outcome, done, faulted, unfit, Go, then_do, charged, made, store, next_place}
 use Rattle.eval_code.specs.Variables.{found, assigned, all_assigned}
 use Rattle.eval_code.specs.Meaning.{Evaluator, answer_made, primitive_called, variable_read, variable_value, quoted_value, by_case, by_code, procedure_called, text_value_called, by_text, op_called, value_called, first_called, applied, operands, in_sequence, one_arm, two_arms, in_turn, at_once, by_letrec, fender_passed, output_given, fender_asked, on_match, tried, expressed, evaluates, eval_of}
-use Rattle.eval_code.proofs.Fuel.{Within, Same, Alike, AlikeCalls, Same-of, Same-then, Same-spread_to, Same-text_value, Same-first, Same-operands, Same-in_sequence, Same-one_arm, Same-two_arms, Same-in_turn, Same-at_once, Same-fender_passed, Same-on_match, Same-tried, Same-expressed, Alike-evaluates, Alike-eval_of, eval_of_is}
+use Rattle.eval_code.proofs.Fuel.{Within, Same, Alike, AlikeCalls, Same-of, Same-then, Same-spread_to, Same-text_value, Same-first, Same-operands, Same-in_sequence, Same-one_arm, Same-two_arms, Same-in_turn, Same-at_once, Same-fender_passed, Same-on_match, Same-tried, Same-expressed, Alike-evaluates, Alike-eval_of, eval_of_is, Within-more}
 use Rattle.eval_code.proofs.Paid.{within_or_past, charged_paid, charged_short}
 use Rattle.eval_code.proofs.Spreading.{args_shorter}
 use Rattle.law_eval.specs.MoreFuel.{more_left, IsSpent, MoreIsLeft, LeavesAtLeast, LeftIsNotNeeded, SpendsPast, SpentWhereMoreIsNeeded, LeavesAtMost, FuelFalls}
@@ -159,12 +159,12 @@ abbrev or_nothing : Option (List Value × Value) → List Value × Value
 or_nothing None = ([], value.Unspecified)
 or_nothing (Some q) = q
 
-front_length : (xs : List Value) (x : Value) → suc (length xs) ≡ length (before_last x (parted xs)).0 + 1
+pub front_length : (xs : List Value) (x : Value) → suc (length xs) ≡ length (before_last x (parted xs)).0 + 1
 front_length [] x = refl
 front_length (y ∷ ys) x = omega (arith, front_length ys y)
 
 -- all but the last are one less
-front_shorter : (xs : List Value) (p : List Value × Value) → parted xs ≡ Some p → length xs ≡ length p.0 + 1
+pub front_shorter : (xs : List Value) (p : List Value × Value) → parted xs ≡ Some p → length xs ≡ length p.0 + 1
 front_shorter [] p e = cc
 front_shorter (x ∷ xs) p e = front_length xs x ∙ ap (λ (q : List Value × Value). length q.0 + 1) (ap or_nothing e)
 
@@ -498,11 +498,6 @@ module _ (b : ℕ) where
 self_alike : (w : PlainSetting) (m : ℕ) → Alike m (eval_of w) (eval_of w)
 self_alike w m c scope s n le = Same-of m (eval_of w c scope s n) (Alike-eval_of w m c scope s n le).within
 
-within_more : (b : ℕ) (o : Outcome) → Within b o → Within (suc b) o
-within_more b (done v s n) h = omega (arith, h)
-within_more b (faulted f s n) h = omega (arith, h)
-within_more b unfit h = tt
-
 module _ (w : PlainSetting) where
   unrolled-falls : (c : PlainCore) (scope : Place) (s : WorldState) (n : ℕ) → Within n (expressed w (eval_of w) c scope s n)
   unrolled-falls c scope s n = (Same-expressed n w (eval_of w) (eval_of w) (self_alike w n) c scope s n (omega arith)).within
@@ -540,7 +535,7 @@ module _ (w : PlainSetting) where
       subst (λ o. Carried (suc b) o (λ k. eval_of w c scope s (suc n + k))) (sym (eval_of_is w c scope s (suc n)))
       (carried-cong (suc b) (expressed w (eval_of w) c scope s n) (λ k. expressed w (eval_of w) c scope s (n + k)) (λ k. eval_of w c scope s (suc n + k))
       (λ k. sym (eval_of_is w c scope s (suc (n + k))) ∙ ap (eval_of w c scope s) (next_unit n k))
-      (record { carries = inner.carries; within = within_more b (expressed w (eval_of w) c scope s n) inner.within }))
+      (record { carries = inner.carries; within = Within-more b (expressed w (eval_of w) c scope s n) inner.within }))
 
   alike_calls : (vs : List Value) (s : WorldState) (n : ℕ) → Carried n (applied w (eval_of w) vs s n) (λ k. applied w (eval_of w) vs s (n + k))
   alike_calls vs s n = carried-applied n w (eval_of w) (alike_more n) (self_alike w) vs s n (omega arith)

@@ -60,7 +60,7 @@ GoKeeps s g = (v : Value) (t : WorldState) (n : ℕ) → LaterWorld s t → Ends
 later_refl : (s : WorldState) → LaterWorld s s
 later_refl s = record { cells = keeps_refl s.cells; library = refl; names = omega arith }
 
-later_then : (r s t : WorldState) → LaterWorld r s → LaterWorld s t → LaterWorld r t
+pub later_then : (r s t : WorldState) → LaterWorld r s → LaterWorld s t → LaterWorld r t
 later_then r s t h k = record { cells = keeps_then r.cells s.cells t.cells h.cells k.cells; library = k.library ∙ h.library; names = omega (arith, h.names, k.names) }
 
 -- more cells alone
@@ -216,7 +216,7 @@ all_assigned_keeps x cells place no_init vs h k = k
 all_assigned_keeps x cells place (init l c is) [] h k = k
 all_assigned_keeps x cells place (init l c is) (v ∷ vs) h k = all_assigned_keeps x (assigned cells place l v) place is vs h (assigned_keeps x cells place l v h k)
 
-later_with : (s : WorldState) (c : Cell) → LaterWorld s (with_cell c s)
+pub later_with : (s : WorldState) (c : Cell) → LaterWorld s (with_cell c s)
 later_with s c = later_cells s (s.cells ++ c ∷ []) (keeps-one s.cells c)
 
 later_assigned : (r t : WorldState) (place : Place) (l : Label) (v : Value) → length r.cells ≤ place.0 → LaterWorld r t → LaterWorld r (store (assigned t.cells place l v) t.names)

@@ -1,9 +1,9 @@
 -- Records that serve, one after another.
 use Rattle.std.proofs.Common.{List, [], ◌∷◌, ◌++◌, sym, subst, inl, inr, append-nil, append_assoc}
+use Rattle.base_data.specs.Elements.{Among}
 use Rattle.base_data.specs.declared.library.LibName.{LibName}
 use Rattle.base_data.specs.declared.name.Label.{Label}
 use Rattle.core_language.specs.declared.record.CompiledLibrary.{CompiledLibrary}
-use Rattle.law_core.specs.Words.{Among}
 use Rattle.law_core.specs.Follows.{names_of, row_labels, export_labels}
 use Rattle.law_expand.specs.Serves.{IsLabelThere, Serves, AllServe}
 use Rattle.law_expand.proofs.Fresh.{each-map}

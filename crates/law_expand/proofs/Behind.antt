@@ -3,9 +3,12 @@ use Rattle.std.proofs.Common.{◌≡◌, ℕ, ◌<◌, Bool, true, false, cond, 
 use Rattle.std.specs.Prelude.{◌⊎◌, filter}
 use Rattle.std.specs.List.{flat_map}
 use Rattle.std.proofs.lemmas.Grind.{flat_map-append}
+use Rattle.base_data.proofs.ElementLemmas.{each-at, each-of, each-append, among-first, among-second, among-parts}
 use Rattle.base_data.specs.Act.{after, give}
+use Rattle.base_data.specs.Elements.{Each, Among, Once}
 use Rattle.base_data.specs.Op.{name_count}
 use Rattle.base_data.specs.declared.fault.Fault.{Fault}
+use Rattle.base_data.specs.declared.imported_name.ImportedName.{ImportedName}
 use Rattle.base_data.specs.declared.library.LibName.{LibName}
 use Rattle.base_data.specs.declared.library.LibName.TheVariants as library
 use Rattle.base_data.specs.declared.name.FrameNo.{FrameNo}
@@ -32,7 +35,6 @@ use Rattle.law_core.specs.Following.{AllFollow}
 use Rattle.law_core.specs.Records.{defined, line_core, run_binders}
 use Rattle.law_core.specs.Scope.{Closed}
 use Rattle.law_core.specs.WellMade.{IsWellMade}
-use Rattle.law_core.specs.Words.{Each, Among, Once}
 use Rattle.eval_code.specs.Codes.{Codes}
 use Rattle.core_records.specs.Frame.{core_row, rows_for, introduced_numbers, record_frame}
 use Rattle.stx_scope.specs.Stands.{stands, row_for}
@@ -52,7 +54,7 @@ use Rattle.law_expand.specs.Ready.{IsReady}
 use Rattle.law_expand.specs.Serves.{IsThere, AllServe}
 use Rattle.law_expand.specs.States.{IsOwn, IsOwnOrEllipsis, IsBound, IsNumbered, row_key, AreKeyed, RowsAreBound}
 use Rattle.law_expand.proofs.Acts.{Gave, gave-after, gave-any, gave-each}
-use Rattle.law_expand.proofs.Fresh.{each-at, each-of, each-append, each-map, among-parts, among-first, among-second}
+use Rattle.law_expand.proofs.Fresh.{each-map}
 use Rattle.law_expand.proofs.GoodKeywords.{keywords-good}
 use Rattle.law_expand.proofs.Records.{Runs, record-runs, records-good}
 use Rattle.law_expand.proofs.RunReferences.{references-owed, references-known}
@@ -61,7 +63,7 @@ use Rattle.law_expand.proofs.Shown.{IsShown, among-filter, row-shown}
 use Rattle.law_expand.proofs.Started.{rows-hold, started-sound}
 use Rattle.law_expand.proofs.Variables.{own-bound, variables-indexed}
 
-each-mapped : {A B : Type 0} (P : B → Type 0) (g : A → B) (xs : List A) → Each (λ x. P (g x)) xs → Each P (map g xs)
+pub each-mapped : {A B : Type 0} (P : B → Type 0) (g : A → B) (xs : List A) → Each (λ x. P (g x)) xs → Each P (map g xs)
 each-mapped P g [] h = tt
 each-mapped P g (x ∷ xs) h = (h.0, each-mapped P g xs h.1)
 
@@ -81,17 +83,17 @@ map-among g (x ∷ xs) y (inr a) = let k = map-among g xs y a in (k.0, (inr k.1.
 
 -- The external names of a record are those of its exports.
 
-abbrev external : List ℕ × Label → List ℕ
-external e = e.0
+abbrev external : ImportedName → List ℕ
+external e = e.name
 
 abbrev pub asked : List ℕ × Tree → List ℕ
 asked e = e.0
 
-export-named : (at : TopAt) (e : List ℕ × Tree) (s : State) → Gave (λ x t. x.0 ≡ e.0) (export at e s)
+export-named : (at : TopAt) (e : List ℕ × Tree) (s : State) → Gave (λ x t. x.name ≡ e.0) (export at e s)
 unfolding export
 export-named at e s = by (stands s.frames (stamp at.frame e.1))
   where
-    by : (o : Option Label) → Gave (λ x t. x.0 ≡ e.0) (stands_for at.place e.0 (stamp at.frame e.1) o s)
+    by : (o : Option Label) → Gave (λ x t. x.name ≡ e.0) (stands_for at.place e.0 (stamp at.frame e.1) o s)
     by None = tt
     by (Some l) = refl
 
@@ -99,7 +101,7 @@ exports-named : (at : TopAt) (es : List (List ℕ × Tree)) (s : State) → Gave
 unfolding exports
 exports-named at es s =
     gave-after (λ xs t. map external xs ≡ map asked es) (λ xs t. map external xs ≡ map asked es) (all_exports at es s) (λ ls t. after (standing.export_labels ls t) (λ _. give ls))
-    (gave-each (export at) (λ e t x u. x.0 ≡ e.0) (λ ys t xs u. map external xs ≡ map asked ys) (λ t. Unit {0}) (λ t k. refl) (λ e t k. export-named at e t) (λ e t u x k j. tt)
+    (gave-each (export at) (λ e t x u. x.name ≡ e.0) (λ ys t xs u. map external xs ≡ map asked ys) (λ t. Unit {0}) (λ t k. refl) (λ e t k. export-named at e t) (λ e t u x k j. tt)
     (λ e ys t u v x xs k j a. λ i. j i ∷ a i) es s tt)
     (λ xs t k. k)
 
@@ -110,7 +112,7 @@ top-named go at es forms s =
     (λ d t k. gave-after (λ xs u. map external xs ≡ map asked es) (λ r v. export_names r ≡ map asked es) (exports at es t) (λ ls u. after (finish_all go 0 d.waiting u) (λ lines. give_record at ls lines)) (exports-named at es t)
     (λ xs u j. gave-after (λ ys v. Unit {0}) (λ r v. export_names r ≡ map asked es) (finish_all go 0 d.waiting u) (λ lines. give_record at xs lines) (gave-any (λ ys v. Unit {0}) (finish_all go 0 d.waiting u) (λ ys v. tt)) (λ ys v i. j)))
 
-pub record-named : (own : LibName) (path : List ℕ) (records : List CompiledLibrary) (imports : List (List ℕ × Label)) (version : List ℕ) (place : Span) (es : List (List ℕ × Tree)) (forms : List Tree) (codes : Codes) (r : CompiledLibrary)
+pub record-named : (own : LibName) (path : List ℕ) (records : List CompiledLibrary) (imports : List ImportedName) (version : List ℕ) (place : Span) (es : List (List ℕ × Tree)) (forms : List Tree) (codes : Codes) (r : CompiledLibrary)
     → library_record (ready own path records imports codes) records version place es forms ≡ Ok r → export_names r ≡ map asked es
 record-named own path records imports version place es forms codes r e =
     by (top (inside records full_room) (body_of (ready own path records imports codes) version place) es forms (started own records imports codes))
@@ -174,7 +176,7 @@ filter-others own f o [] ys h = refl
 filter-others own f o (x ∷ xs) ys h =
     ap (λ (b : Bool). cond b (x ∷ filter (in_frame f) (xs ++ ys)) (filter (in_frame f) (xs ++ ys))) (other-frame own f x.frame o h.0) ∙ filter-others own f o xs ys h.1
 
-imports-key : (f g : FrameNo) (es : List (List ℕ × Label)) (x : List ℕ) (ms : List Mark) → Among (map row_key (map row_in (filter (in_frame f) (map (import_row g) es)))) (x, ms) → Among (map external es) x
+imports-key : (f g : FrameNo) (es : List ImportedName) (x : List ℕ) (ms : List Mark) → Among (map row_key (map row_in (filter (in_frame f) (map (import_row g) es)))) (x, ms) → Among (map external es) x
 imports-key f g [] x ms a = elim a [ ]
 imports-key f g (e ∷ es) x ms a = by (same_frame f g) a (imports-key f g es x ms)
   where
@@ -184,12 +186,12 @@ imports-key f g (e ∷ es) x ms a = by (same_frame f g) a (imports-key f g es x 
     by true (inr c) rest = inr (rest c)
     by false c rest = inr (rest c)
 
-imports-keyed : (f g : FrameNo) (es : List (List ℕ × Label)) → Once (map external es) → Once (map row_key (map row_in (filter (in_frame f) (map (import_row g) es))))
+imports-keyed : (f g : FrameNo) (es : List ImportedName) → Once (map external es) → Once (map row_key (map row_in (filter (in_frame f) (map (import_row g) es))))
 imports-keyed f g [] once = tt
 imports-keyed f g (e ∷ es) once = by (same_frame f g) (imports-keyed f g es once.1)
   where
     by : (b : Bool) → Once (map row_key (map row_in (filter (in_frame f) (map (import_row g) es)))) → Once (map row_key (map row_in (cond b (import_row g e ∷ filter (in_frame f) (map (import_row g) es)) (filter (in_frame f) (map (import_row g) es)))))
-    by true h = ((λ a. once.0 (imports-key f g es e.0 [] a)), h)
+    by true h = ((λ a. once.0 (imports-key f g es e.name [] a)), h)
     by false h = h
 
 core-frames : (own : LibName) → (own ≡ library.Core → ⊥) → (ns : List ℕ) → Each (λ (r : FrameRow). IsOwn own r.frame.0 → ⊥) (map core_row ns)
@@ -203,7 +205,7 @@ record-frames own earlier (r ∷ rs) h new =
     each-append (λ (x : FrameRow). IsOwn own x.frame.0 → ⊥) r.frames (rows_of rs) (each-map (λ (x : FrameRow). x.frame.0.library ≡ r.name) (λ (x : FrameRow). IsOwn own x.frame.0 → ⊥) r.frames h.0.own_frames (λ x e o. new (inl (sym o ∙ e))))
     (record-frames own (earlier ++ r ∷ []) rs h.1 (λ a. new (inr a)))
 
-module _ (own : LibName) (records : List CompiledLibrary) (imports : List (List ℕ × Label)) (codes : Codes) where
+module _ (own : LibName) (records : List CompiledLibrary) (imports : List ImportedName) (codes : Codes) where
   pub started-keyed : AllServe [] records → (Among (names_of records) own → ⊥) → (own ≡ library.Core → ⊥) → Once (map external imports) → AreKeyed own (started own records imports codes).frames
   unfolding started record_frame rows_for
   started-keyed serve new apart once f o =
@@ -256,7 +258,7 @@ rows-known all earlier (r ∷ rs) h before these =
     one l (inl a) = bound l (among-parts (bound_labels r) (flat_map bound_labels earlier) l a)
     one l (inr g) = inr g
 
-imports-known : (records : List CompiledLibrary) (f : FrameNo) (es : List (List ℕ × Label)) → Each (λ (e : List ℕ × Label). IsKnownBefore records e.1) es → Each (λ (x : FrameRow). IsKnownBefore records x.label) (map (import_row f) es)
+imports-known : (records : List CompiledLibrary) (f : FrameNo) (es : List ImportedName) → Each (λ (e : ImportedName). IsKnownBefore records e.label) es → Each (λ (x : FrameRow). IsKnownBefore records x.label) (map (import_row f) es)
 imports-known records f [] h = tt
 imports-known records f (e ∷ es) h = (h.0, imports-known records f es h.1)
 
@@ -271,7 +273,7 @@ numbers-known : (records : List CompiledLibrary) (ns : List ℕ) → AreGiven ns
 numbers-known records [] h = tt
 numbers-known records (n ∷ ns) h = (inr (refl, h.0), numbers-known records ns h.1)
 
-module _ (own : LibName) (records : List CompiledLibrary) (imports : List (List ℕ × Label)) (codes : Codes) (follow : AllFollow [] records) (known : Each (λ (e : List ℕ × Label). IsKnownBefore records e.1) imports) where
+module _ (own : LibName) (records : List CompiledLibrary) (imports : List ImportedName) (codes : Codes) (follow : AllFollow [] records) (known : Each (λ (e : ImportedName). IsKnownBefore records e.label) imports) where
   started-known : (f : FrameNo) → Each (λ (x : Row). IsKnownBefore records x.label) (rows_at f (started own records imports codes).frames)
   unfolding started record_frame rows_for
   started-known f =
@@ -297,7 +299,7 @@ ellipsis-given = (refl, (omega arith, refl))
 
 -- The record.
 
-module _ (own : LibName) (path : List ℕ) (records : List CompiledLibrary) (imports : List (List ℕ × Label)) (version : List ℕ) (place : Span) (es : List (List ℕ × Tree)) (forms : List Tree) (codes : Codes) (r : CompiledLibrary)
+module _ (own : LibName) (path : List ℕ) (records : List CompiledLibrary) (imports : List ImportedName) (version : List ℕ) (place : Span) (es : List (List ℕ × Tree)) (forms : List Tree) (codes : Codes) (r : CompiledLibrary)
     (h : IsFollower own records imports es) (e : library_record (ready own path records imports codes) records version place es forms ≡ Ok r) where
   is-ready : IsReady own records
   is-ready = record { new = h.new; earlier = followers-serve records h.earlier }
@@ -352,7 +354,7 @@ module _ (own : LibName) (path : List ℕ) (records : List CompiledLibrary) (imp
   record-follows =
       let good = records-good own path records imports version place es forms codes r is-ready e in
       let kept = keywords-good own path records imports version place es forms codes r is-ready e in
-      let there = each-map (λ (x : List ℕ × Label). IsKnownBefore records x.1) (λ (x : List ℕ × Label). IsThere records x.1.0.library) imports h.known (λ x k. known-there records h.earlier x.1 k) in
+      let there = each-map (λ (x : ImportedName). IsKnownBefore records x.label) (λ (x : ImportedName). IsThere records x.label.0.library) imports h.known (λ x k. known-there records h.earlier x.label k) in
       let serves = records-serve own path records imports version place es forms codes r is-ready there e in
       let variables = variables-indexed own path records imports version place es forms codes r is-ready e in
       let mine : (l : Label) → Among (run_binders r) l → l.0.library ≡ r.name = λ l a. each-at (λ (m : Label). m.0.library ≡ r.name) (run_binders r) l good.0.bound_here a in
@@ -379,7 +381,7 @@ module _ (own : LibName) (path : List ℕ) (records : List CompiledLibrary) (imp
         };
         bindings = record { kinds = serves.kinds; tops_defined = serves.tops_defined; defined_top = variables.defined_top };
         labels = record {
-          exports = each-mapped (IsKnown r records) (λ (x : List ℕ × Label). x.1) r.exports (each-map (λ (x : List ℕ × Label). IsShown runs.ended.frames x.1) (λ (x : List ℕ × Label). IsKnown r records x.1) r.exports runs.exports (λ x k. shown-known x.1 k));
+          exports = each-mapped (IsKnown r records) (λ (x : ImportedName). x.label) r.exports (each-map (λ (x : ImportedName). IsShown runs.ended.frames x.label) (λ (x : ImportedName). IsKnown r records x.label) r.exports runs.exports (λ x k. shown-known x.label k));
           rows = each-mapped (IsKnown r records) (λ (x : FrameRow). x.label) r.frames (each-of (λ (x : FrameRow). IsKnown r records x.label) r.frames (λ x a. frame-known x a));
         };
         code = record { lines = lines; indexed = variables.indexed; indexed_once = variables.indexed_once; transformers = both-each (keywords r) kept.well_made kept.closed };
@@ -392,7 +394,7 @@ module _ (own : LibName) (path : List ℕ) (records : List CompiledLibrary) (imp
     where
       frame-known : (x : FrameRow) → Among r.frames x → IsKnown r records x.label
       frame-known x a =
-          let serves-so = records-serve own path records imports version place es forms codes r is-ready (each-map (λ (y : List ℕ × Label). IsKnownBefore records y.1) (λ (y : List ℕ × Label). IsThere records y.1.0.library) imports h.known (λ y k. known-there records h.earlier y.1 k)) e in
+          let serves-so = records-serve own path records imports version place es forms codes r is-ready (each-map (λ (y : ImportedName). IsKnownBefore records y.label) (λ (y : ImportedName). IsThere records y.label.0.library) imports h.known (λ y k. known-there records h.earlier y.label k)) e in
           let mine = each-at (λ (y : FrameRow). y.frame.0.library ≡ r.name) r.frames x serves-so.own_frames a in
           shown-known x.label (row-shown runs.ended.frames x (subst (λ (k : LibName). Among (rows_in k runs.ended.frames) x) (sym mine) (subst (λ (rows : List FrameRow). Among rows x) runs.frames a)))
 

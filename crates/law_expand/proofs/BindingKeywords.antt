@@ -2,7 +2,9 @@
 use Rattle.std.proofs.Common.{◌≡◌, ℕ, ◌<◌, Bool, true, false, List, [], ◌∷◌, ◌++◌, map, Option, None, Some, Ok, Err, refl, sym, ◌∙◌, ap, subst, arith, inl, inr, append-nil, append_assoc, if◌then◌else◌}
 use Rattle.std.specs.Prelude.{◌⊎◌, is_some}
 use Rattle.indexmap.specs.IndexMap.{insert_entry}
+use Rattle.base_data.proofs.ElementLemmas.{each-append}
 use Rattle.base_data.specs.Act.{after, give, gather}
+use Rattle.base_data.specs.Elements.{Each, Among, Once}
 use Rattle.base_data.specs.Named.{Named}
 use Rattle.base_data.specs.declared.fault.FaultKind.TheVariants as kind
 use Rattle.base_data.specs.declared.library.LibName.{LibName}
@@ -20,7 +22,6 @@ use Rattle.core_language.specs.Labels.{same_label, with_label}
 use Rattle.core_language.specs.declared.binding.Binding.{Binding}
 use Rattle.core_language.specs.declared.binding.Binding.TheVariants as binding
 use Rattle.core_language.specs.declared.binding.VarInfo.{VarInfo}
-use Rattle.law_core.specs.Words.{Each, Among, Once}
 use Rattle.eval_pattern.specs.declared.compile.Compiled.{Compiled}
 use Rattle.eval_pattern.specs.declared.compile.PatternVariable.{PatternVariable}
 use Rattle.core_shapes.specs.At.{place_of}
@@ -38,7 +39,7 @@ use Rattle.law_expand.specs.States.{IsOwn, IsBound, IsUnbound, IsPattern, IsNumb
 use Rattle.law_expand.proofs.Acts.{Gave, gave-after, gave-less, gave-if, gave-each}
 use Rattle.law_expand.proofs.Binding.{spec_label}
 use Rattle.law_expand.proofs.Compiled.{variable_label, variable_depth}
-use Rattle.law_expand.proofs.Fresh.{Made, each-map, each-append}
+use Rattle.law_expand.proofs.Fresh.{Made, each-map}
 use Rattle.law_expand.proofs.Grows.{grows-then, grows-same}
 use Rattle.law_expand.proofs.Kept.{found-other}
 use Rattle.law_expand.proofs.Later.{bound-last, bound-more, keeps-self, keeps-then, keeps-more, but-self, but-then}

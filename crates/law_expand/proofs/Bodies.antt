@@ -2,6 +2,7 @@
 use Rattle.std.proofs.Common.{◌≡◌, ℕ, suc, ◌+◌, true, false, List, [], ◌∷◌, ◌++◌, map, Option, None, Some, refl, sym, ap, subst, arith}
 use Rattle.base_data.specs.Act.{after, give}
 use Rattle.base_data.specs.Datum as datum
+use Rattle.base_data.specs.Elements.{Each}
 use Rattle.base_data.specs.declared.atom.Atom.TheVariants as atoms
 use Rattle.base_data.specs.declared.library.LibName.{LibName}
 use Rattle.base_data.specs.declared.name.Label.{Label}
@@ -15,7 +16,6 @@ use Rattle.core_language.specs.declared.record.Line.{Line}
 use Rattle.core_language.specs.declared.record.Line.TheVariants as line
 use Rattle.law_core.specs.Records.{line_core}
 use Rattle.law_core.specs.Templates.{Depths}
-use Rattle.law_core.specs.Words.{Each}
 use Rattle.expand_standing.specs.State.{State, fresh, fresh_frame}
 use Rattle.expand_heads.specs.Items.{begun}
 use Rattle.expand_heads.specs.declared.taken.Taken.{Taken}

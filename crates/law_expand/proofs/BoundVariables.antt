@@ -3,25 +3,18 @@ use Rattle.std.proofs.Common.{List, [], ◌∷◌, ◌++◌, sym, ◌∙◌, ap,
 use Rattle.std.specs.Prelude.{◌⊎◌}
 use Rattle.std.specs.List.{flat_map}
 use Rattle.std.proofs.lemmas.Grind.{flat_map-append}
+use Rattle.base_data.proofs.ElementLemmas.{once-first, once-second, among-first, among-second, among-parts}
+use Rattle.base_data.specs.Elements.{Among, Once}
 use Rattle.base_data.specs.declared.name.Label.{Label}
 use Rattle.core_language.specs.Core.{PlainCore, quoted, variable, primitive, one_armed, two_armed, assignment, sequence, procedure, letrec, call, instance, matching}
 use Rattle.core_language.specs.Core.{PlainCores, none, more, PlainInits, no_init, init, PlainCases, no_case, case, PlainClauses, no_clause, clause, fended}
 use Rattle.core_language.specs.References.{variables, formals_labels, binders, all_binders, init_binders, case_binders, clause_binders}
-use Rattle.law_core.specs.Words.{Among, Once}
 use Rattle.law_core.specs.Parts.{parts, all_parts, init_parts, case_parts, clause_parts, init_labels, case_labels, own_variables, bound_variables}
-use Rattle.law_expand.proofs.Fresh.{Apart, among-parts, among-first, among-second, once-append}
+use Rattle.law_expand.proofs.Fresh.{Apart, once-append}
 
 -- Parts of lists.
 
-once-first : {A : Type 0} (xs ys : List A) → Once (xs ++ ys) → Once xs
-once-first [] ys h = tt
-once-first (x ∷ xs) ys h = ((λ a. h.0 (among-first xs ys x a)), once-first xs ys h.1)
-
-once-second : {A : Type 0} (xs ys : List A) → Once (xs ++ ys) → Once ys
-once-second [] ys h = h
-once-second (x ∷ xs) ys h = once-second xs ys h.1
-
-once-apart : {A : Type 0} (xs ys : List A) → Once (xs ++ ys) → Apart xs ys
+pub once-apart : {A : Type 0} (xs ys : List A) → Once (xs ++ ys) → Apart xs ys
 once-apart [] ys h x a b = elim a [ ]
 once-apart (y ∷ xs) ys h x (inl e) b = h.0 (among-second xs ys y (subst (Among ys) e b))
 once-apart (y ∷ xs) ys h x (inr a) b = once-apart xs ys h.1 x a b

@@ -1,6 +1,8 @@
 -- What the pattern of a form is: its variables are new, each with its depth, and its literals are identifiers.
 use Rattle.std.proofs.Common.{◌≡◌, ℕ, suc, ◌+◌, ◌≤◌, Bool, true, false, List, [], ◌∷◌, ◌++◌, map, Option, None, Some, Result, Ok, Err, refl, sym, ◌∙◌, ap, subst, arith, append-nil, append_assoc, if◌then◌else◌}
+use Rattle.base_data.proofs.ElementLemmas.{each-append}
 use Rattle.base_data.specs.Act.{after}
+use Rattle.base_data.specs.Elements.{Each}
 use Rattle.base_data.specs.Gives.{◌>>=◌}
 use Rattle.base_data.specs.Named.{Named}
 use Rattle.base_data.specs.declared.fault.Fault.{Fault}
@@ -15,12 +17,11 @@ use Rattle.core_language.specs.declared.core_form.CoreForm.TheVariants as form
 use Rattle.law_core.specs.Parts.{literals, all_literals}
 use Rattle.law_core.specs.Templates.{Depths, depths, all_depths}
 use Rattle.law_core.specs.WellMade.{IsLeaf}
-use Rattle.law_core.specs.Words.{Each}
 use Rattle.eval_pattern.specs.Compile.{PatternScope, Taken, Element, Walked, is_known, is_literal, named, new_variable, leaf_pattern, no_parts, with_part, dots_of, parts_of, with_repeated, next_ellipsis, repeated_part, element, step, walked, list_with, vector_with, pattern, element_patterns, tail_pattern, literals_checked, with_variables, compiled}
 use Rattle.eval_pattern.specs.Keywords.{is_form}
 use Rattle.eval_pattern.specs.declared.compile.Compiled.{Compiled}
 use Rattle.eval_pattern.specs.declared.compile.PatternVariable.{PatternVariable}
-use Rattle.law_expand.proofs.Fresh.{FreshLabels, label_name, each-append, fresh-none, fresh-one, fresh-append}
+use Rattle.law_expand.proofs.Fresh.{FreshLabels, label_name, fresh-none, fresh-one, fresh-append}
 
 -- the type of the parts so far, which its crate keeps to itself
 abbrev pub Given : {A B : Type 0} → (A → B) → Type 0

@@ -1,6 +1,8 @@
 -- Expansion gives good core code, given that it does inside forms.
 use Rattle.std.proofs.Common.{◌≡◌, ℕ, ◌≤◌, List, [], ◌∷◌, Option, None, Some, refl, arith, inl, inr}
+use Rattle.base_data.proofs.ElementLemmas.{each-at}
 use Rattle.base_data.specs.Act.{after, give}
+use Rattle.base_data.specs.Elements.{Each, Among}
 use Rattle.base_data.specs.declared.library.LibName.{LibName}
 use Rattle.base_data.specs.declared.name.Label.{Label}
 use Rattle.base_data.specs.declared.span.Span.{Span}
@@ -9,7 +11,6 @@ use Rattle.core_language.specs.Core.{PlainCore, two_armed, assignment, call, cor
 use Rattle.core_language.specs.declared.code.Lambda.{Lambda}
 use Rattle.core_language.specs.declared.binding.Binding.TheVariants as binding
 use Rattle.law_core.specs.Templates.{Depths}
-use Rattle.law_core.specs.Words.{Each, Among}
 use Rattle.core_shapes.specs.declared.shape.FormalIds.{FormalIds}
 use Rattle.expand_standing.specs.State.{State}
 use Rattle.expand_forms.specs.Body.{sequence_of}
@@ -19,7 +20,7 @@ use Rattle.expand_forms.specs.Site.{site_at}
 use Rattle.expand_forms.specs.Forms.{if_parts, procedure_parts}
 use Rattle.law_expand.specs.States.{Sound, Later, ReachOfCode}
 use Rattle.law_expand.proofs.Acts.{Gave, gave-after, gave-both, gave-each}
-use Rattle.law_expand.proofs.Fresh.{Made, Apart, each-at}
+use Rattle.law_expand.proofs.Fresh.{Made, Apart}
 use Rattle.law_expand.proofs.Later.{later-self, later-then, sound-later}
 use Rattle.law_expand.proofs.Good.{Bindings, IsVariableIn, InTurn, Good, GoodCase, IsFrom, Before, good-one_armed, good-two_armed, good-assignment, good-call, good-wider, good-sequence, good-grown}
 use Rattle.law_expand.proofs.Meanings.{reach-later}

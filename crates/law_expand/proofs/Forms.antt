@@ -3,6 +3,7 @@ use Rattle.std.proofs.Common.{◌≡◌, ℕ, zero, suc, ◌+◌, ◌≤◌, Boo
 use Rattle.std.specs.Prelude.{nat_lt}
 use Rattle.std.specs.List.{flat_map}
 use Rattle.base_data.specs.Act.{after, give}
+use Rattle.base_data.specs.Elements.{Each}
 use Rattle.base_data.specs.Named.{Named}
 use Rattle.base_data.specs.declared.library.LibName.{LibName}
 use Rattle.base_data.specs.declared.name.FrameNo.{FrameNo}
@@ -20,7 +21,6 @@ use Rattle.core_language.specs.declared.record.CompiledLibrary.{CompiledLibrary}
 use Rattle.core_language.specs.declared.code.Lambda.{Lambda}
 use Rattle.core_language.specs.declared.formals.Formals.{Formals}
 use Rattle.law_core.specs.Templates.{Depths, depths}
-use Rattle.law_core.specs.Words.{Each}
 use Rattle.law_core.specs.Parts.{parts, init_parts, init_labels, own_number}
 use Rattle.core_shapes.specs.declared.shape.BindingSpec.{BindingSpec}
 use Rattle.core_shapes.specs.declared.shape.FormalIds.{FormalIds}

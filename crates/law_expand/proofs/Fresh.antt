@@ -1,11 +1,12 @@
 -- Names that a library makes, from one number to another, each once.
-use Rattle.std.proofs.Common.{◌≡◌, ℕ, ◌≤◌, ◌<◌, List, [], ◌∷◌, ◌++◌, refl, sym, subst, arith, inl, inr}
+use Rattle.std.proofs.Common.{◌≡◌, ℕ, ◌≤◌, ◌<◌, List, [], ◌∷◌, ◌++◌, refl, arith, inl, inr}
 use Rattle.std.specs.Prelude.{◌⊎◌}
+use Rattle.base_data.proofs.ElementLemmas.{each-at, each-append, among-parts}
+use Rattle.base_data.specs.Elements.{Each, Among, Once}
 use Rattle.base_data.specs.Named.{Named}
 use Rattle.base_data.specs.declared.library.LibName.{LibName}
 use Rattle.base_data.specs.declared.name.CodeNo.{CodeNo}
 use Rattle.base_data.specs.declared.name.Label.{Label}
-use Rattle.law_core.specs.Words.{Each, Among, Once}
 
 pub record Made (own : LibName) (a b : ℕ) (n : Named) : Type 0 where
   pub library : n.library ≡ own
@@ -32,39 +33,9 @@ FreshCodes own a b ns = Fresh CodeNo code_name own a b ns
 abbrev pub Apart : {A : Type 0} → List A → List A → Type 0
 Apart {A} xs ys = (x : A) → Among xs x → Among ys x → ⊥
 
-pub each-at : {A : Type 0} (P : A → Type 0) (xs : List A) (x : A) → Each P xs → Among xs x → P x
-each-at P [] x h a = elim a [ ]
-each-at P (y ∷ ys) x h (inl e) = subst P (sym e) h.0
-each-at P (y ∷ ys) x h (inr a) = each-at P ys x h.1 a
-
-pub each-of : {A : Type 0} (P : A → Type 0) (xs : List A) → ((x : A) → Among xs x → P x) → Each P xs
-each-of P [] h = tt
-each-of P (x ∷ xs) h = (h x (inl refl), each-of P xs (λ y a. h y (inr a)))
-
-pub each-append : {A : Type 0} (P : A → Type 0) (xs ys : List A) → Each P xs → Each P ys → Each P (xs ++ ys)
-each-append P [] ys h k = k
-each-append P (x ∷ xs) ys h k = (h.0, each-append P xs ys h.1 k)
-
 pub each-map : {A : Type 0} (P Q : A → Type 0) (xs : List A) → Each P xs → ((x : A) → P x → Q x) → Each Q xs
 each-map P Q [] h k = tt
 each-map P Q (x ∷ xs) h k = (k x h.0, each-map P Q xs h.1 k)
-
-pub among-parts : {A : Type 0} (xs ys : List A) (x : A) → Among (xs ++ ys) x → Among xs x ⊎ Among ys x
-among-parts [] ys x a = inr a
-among-parts (y ∷ xs) ys x (inl e) = inl (inl e)
-among-parts (y ∷ xs) ys x (inr a) = later (among-parts xs ys x a) where
-  later : Among xs x ⊎ Among ys x → Among (y ∷ xs) x ⊎ Among ys x
-  later (inl b) = inl (inr b)
-  later (inr b) = inr b
-
-pub among-first : {A : Type 0} (xs ys : List A) (x : A) → Among xs x → Among (xs ++ ys) x
-among-first [] ys x a = elim a [ ]
-among-first (y ∷ xs) ys x (inl e) = inl e
-among-first (y ∷ xs) ys x (inr a) = inr (among-first xs ys x a)
-
-pub among-second : {A : Type 0} (xs ys : List A) (x : A) → Among ys x → Among (xs ++ ys) x
-among-second [] ys x a = a
-among-second (y ∷ xs) ys x a = inr (among-second xs ys x a)
 
 pub once-append : {A : Type 0} (xs ys : List A) → Once xs → Once ys → Apart xs ys → Once (xs ++ ys)
 once-append [] ys h k apart = k

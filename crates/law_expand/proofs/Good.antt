@@ -3,7 +3,9 @@ use Rattle.std.proofs.Common.{◌≡◌, ℕ, suc, ◌≤◌, ◌<◌, Bool, tru
 use Rattle.std.specs.Prelude.{◌⊎◌}
 use Rattle.std.specs.List.{flat_map}
 use Rattle.std.proofs.lemmas.Grind.{flat_map-append}
+use Rattle.base_data.proofs.ElementLemmas.{each-at, each-append, among-parts}
 use Rattle.base_data.specs.Datum.{PlainDatum}
+use Rattle.base_data.specs.Elements.{Each, Among, Once}
 use Rattle.base_data.specs.Named.{Named}
 use Rattle.base_data.specs.declared.library.LibName.{LibName}
 use Rattle.base_data.specs.declared.name.CodeNo.{CodeNo}
@@ -23,13 +25,12 @@ use Rattle.core_language.specs.declared.code.Clause.{Clause}
 use Rattle.core_language.specs.References.{variables, formals_labels, binders, all_binders, init_binders, case_binders, clause_binders}
 use Rattle.core_language.specs.declared.code.Init.{Init}
 use Rattle.core_language.specs.declared.code.Lambda.{Lambda}
-use Rattle.law_core.specs.Words.{Each, Among, Once}
 use Rattle.law_core.specs.Parts.{parts, all_parts, init_parts, case_parts, clause_parts, core_count, case_count, init_labels, clause_patterns, literals, own_number}
 use Rattle.law_core.specs.Scope.{Closed, AllClosed, InitsClosed, CasesClosed, ClausesClosed, template_labels}
 use Rattle.law_core.specs.Templates.{Depths, Suits, TemplatesSuit, AllSuit, InitsSuit, CasesSuit, ClausesSuit, depths}
 use Rattle.law_core.specs.WellMade.{IsLeaf}
 use Rattle.law_expand.specs.States.{IsPrimitive}
-use Rattle.law_expand.proofs.Fresh.{Made, FreshLabels, FreshCodes, label_name, code_name, Apart, each-append, each-map, each-at, among-parts, once-append, fresh-none, fresh-one, fresh-wider, fresh-append}
+use Rattle.law_expand.proofs.Fresh.{Made, FreshLabels, FreshCodes, label_name, code_name, Apart, each-map, once-append, fresh-none, fresh-one, fresh-wider, fresh-append}
 
 -- one thing behind another, each made from where the one before it ended
 abbrev pub InTurn : {A : Type 0} → (ℕ → ℕ → A → Type 0) → ℕ → ℕ → List A → Type 0

@@ -3,10 +3,13 @@ use Rattle.std.proofs.Common.{◌≡◌, ℕ, zero, suc, ◌≤◌, ◌<◌, fal
 use Rattle.std.specs.Prelude.{◌⊎◌}
 use Rattle.std.specs.List.{flat_map}
 use Rattle.std.proofs.lemmas.Grind.{flat_map-append}
+use Rattle.base_data.proofs.ElementLemmas.{each-at, each-of, each-append, among-parts}
 use Rattle.base_data.specs.Act.{after}
+use Rattle.base_data.specs.Elements.{Each, Among, Once}
 use Rattle.base_data.specs.Named.{Named}
 use Rattle.base_data.specs.Op.{is_keyword}
 use Rattle.base_data.specs.declared.fault.Fault.{Fault}
+use Rattle.base_data.specs.declared.imported_name.ImportedName.{ImportedName}
 use Rattle.base_data.specs.declared.library.LibName.{LibName}
 use Rattle.base_data.specs.declared.name.CodeNo.{CodeNo}
 use Rattle.base_data.specs.declared.name.Label.{Label}
@@ -26,7 +29,6 @@ use Rattle.law_core.specs.Parts.{parts, ops, own_number, code_numbers}
 use Rattle.law_core.specs.Records.{defined, line_core, line_labels, line_binders, run_binders}
 use Rattle.law_core.specs.Scope.{Closed}
 use Rattle.law_core.specs.WellMade.{IsWellMade}
-use Rattle.law_core.specs.Words.{Each, Among, Once}
 use Rattle.eval_code.specs.Codes.{Codes}
 use Rattle.eval_stage.specs.Stage.{expression_of}
 use Rattle.eval_stage.specs.declared.keyword.Keyword.{Keyword}
@@ -45,7 +47,7 @@ use Rattle.law_expand.specs.Keywords.{KeywordsAreGood}
 use Rattle.law_expand.specs.Ready.{IsReady}
 use Rattle.law_expand.specs.States.{IsBound, IsAdded}
 use Rattle.law_expand.proofs.Acts.{Gave, gave-after}
-use Rattle.law_expand.proofs.Fresh.{each-at, each-of, each-map, each-append, among-parts, once-append}
+use Rattle.law_expand.proofs.Fresh.{each-map, once-append}
 use Rattle.law_expand.proofs.Grows.{grows-same}
 use Rattle.law_expand.proofs.LineLabels.{kind_labels}
 use Rattle.law_expand.proofs.Records.{Runs, record-runs, records-good}
@@ -101,7 +103,7 @@ module _ (own : LibName) (given : List Label) (go : Inside) (spares : Spares own
       (spares-splice own given go spares (body_at at start.library) 0 begun (map (stamp at.frame) forms) start (λ e. refl) b tt)
       (λ d t g. ends-finished at es d t g.0.0 g.1)
 
-pub started-begins : (own : LibName) (records : List CompiledLibrary) (imports : List (List ℕ × Label)) (codes : Codes) → IsReady own records → IsGoodState own (flat_map defined records) (started own records imports codes)
+pub started-begins : (own : LibName) (records : List CompiledLibrary) (imports : List ImportedName) (codes : Codes) → IsReady own records → IsGoodState own (flat_map defined records) (started own records imports codes)
 unfolding started
 started-begins own records imports codes h = record {
   sound = started-sound own records imports codes h;
@@ -117,7 +119,7 @@ pub record Ended (own : LibName) (given : List Label) (r : CompiledLibrary) : Ty
   pub state : State
   pub ends : Ends own given r state
 
-pub record-ends : (own : LibName) (path : List ℕ) (records : List CompiledLibrary) (imports : List (List ℕ × Label)) (version : List ℕ) (place : Span) (exports : List (List ℕ × Tree)) (forms : List Tree) (codes : Codes) (r : CompiledLibrary)
+pub record-ends : (own : LibName) (path : List ℕ) (records : List CompiledLibrary) (imports : List ImportedName) (version : List ℕ) (place : Span) (exports : List (List ℕ × Tree)) (forms : List Tree) (codes : Codes) (r : CompiledLibrary)
     → IsReady own records → library_record (ready own path records imports codes) records version place exports forms ≡ Ok r → Ended own (flat_map defined records) r
 record-ends own path records imports version place exports forms codes r h e =
     let given = flat_map defined records in
@@ -240,7 +242,7 @@ numbers-unspent own given v [] h = tt
 numbers-unspent own given v (x ∷ xs) h = each-append (λ (n : CodeNo). Unspent own v n.0) (code_numbers (line_core x)) (flat_map code_numbers (map line_core xs)) (each-flat (λ (n : CodeNo). Unspent own v n.0) own_number (parts (line_core x)) h.0.codes) (numbers-unspent own given v xs h.1)
 
 -- each keyword has its expression
-module _ (own : LibName) (records : List CompiledLibrary) (imports : List (List ℕ × Label)) (codes : Codes) (r : CompiledLibrary) (ready : IsReady own records) (runs : Runs own (flat_map defined records) (started own records imports codes) r) where
+module _ (own : LibName) (records : List CompiledLibrary) (imports : List ImportedName) (codes : Codes) (r : CompiledLibrary) (ready : IsReady own records) (runs : Runs own (flat_map defined records) (started own records imports codes) r) where
   abbrev l : ℕ → Label
   l n = own_label runs.ended n
 

@@ -4,6 +4,8 @@ use Rattle.std.specs.Prelude.{◌⊎◌, ◌≤◌, is_some, nat_eq}
 use Rattle.std.specs.Cmp.Lexicographic.{pointwise}
 use Rattle.std.proofs.lemmas.Bool.{and_from}
 use Rattle.std.proofs.lemmas.List.{map-append}
+use Rattle.base_data.proofs.ElementLemmas.{among-first, among-parts}
+use Rattle.base_data.specs.Elements.{Among, Once}
 use Rattle.base_data.specs.Same.{texts_decides}
 use Rattle.base_data.specs.declared.library.LibName.{LibName}
 use Rattle.base_data.specs.declared.name.FrameNo.{FrameNo}
@@ -18,12 +20,11 @@ use Rattle.stx_frames.proofs.MemoLemmas.{same_frame_is}
 use Rattle.stx_frames.proofs.ScopeLemmas.{same_frame-self}
 use Rattle.core_language.specs.Bindings.{bound_to}
 use Rattle.core_language.specs.declared.binding.Binding.{Binding}
-use Rattle.law_core.specs.Words.{Among, Once}
 use Rattle.expand_quasi.specs.Inserted.{dots, ellipsis}
 use Rattle.stx_scope.specs.Stands.{row_for}
 use Rattle.expand_standing.specs.State.{State}
 use Rattle.law_expand.specs.States.{IsOwn, IsOwnOrEllipsis, IsBound, RowsShow, IsAdded, IndicesApart, row_key, AreKeyed, RowsAreBound, Grows}
-use Rattle.law_expand.proofs.Fresh.{among-parts, among-first, once-append}
+use Rattle.law_expand.proofs.Fresh.{once-append}
 
 -- a frame that keeps its rows shows what it showed
 pub shows-more : (rs more : List Row) (l : Label) → ((r : Row) → Among rs r → Among more r) → RowsShow rs l → RowsShow more l

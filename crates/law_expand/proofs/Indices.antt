@@ -3,18 +3,19 @@ use Rattle.std.proofs.Common.{◌≡◌, ℕ, zero, suc, ◌<◌, List, [], ◌+
 use Rattle.std.specs.Prelude.{◌⊎◌}
 use Rattle.std.specs.List.{flat_map}
 use Rattle.std.proofs.lemmas.Grind.{flat_map-append}
+use Rattle.base_data.proofs.ElementLemmas.{among-parts}
+use Rattle.base_data.specs.Elements.{Among, Once}
 use Rattle.base_data.specs.declared.library.LibName.{LibName}
 use Rattle.base_data.specs.declared.name.Label.{Label}
 use Rattle.core_language.specs.Bindings.{bound_to}
 use Rattle.core_language.specs.declared.binding.Binding.TheVariants as binding
 use Rattle.core_language.specs.declared.binding.Binding.{Binding}
 use Rattle.core_language.specs.declared.binding.VarInfo.{VarInfo}
-use Rattle.law_core.specs.Words.{Among, Once}
 use Rattle.expand_standing.specs.Own.{row_at, own_label, own_row, own_below, own_bindings}
 use Rattle.expand_standing.specs.State.{State}
 use Rattle.law_expand.specs.Indices.{there, bound_index}
 use Rattle.law_expand.specs.States.{IndicesApart}
-use Rattle.law_expand.proofs.Fresh.{among-parts, once-append}
+use Rattle.law_expand.proofs.Fresh.{once-append}
 
 module _ (own : LibName) (s : State) (next : s.names.library ≡ own) (indices : IndicesApart own s) where
   -- the variable of a number has this index

@@ -2,6 +2,7 @@
 -- for the ellipsis.
 use Rattle.std.proofs.Common.{◌≡◌, ℕ, ◌+◌, ◌<◌, Bool, true, false, List, [], ◌∷◌, map, Ok, Err, refl, sym, ◌∙◌, ap, subst, arith, inl, inr, if◌then◌else◌}
 use Rattle.std.specs.Prelude.{◌⊎◌, is_some}
+use Rattle.base_data.specs.Elements.{Each, Among}
 use Rattle.base_data.specs.Named.{Named}
 use Rattle.base_data.specs.declared.library.LibName.{LibName}
 use Rattle.base_data.specs.declared.name.FrameNo.{FrameNo}
@@ -12,7 +13,6 @@ use Rattle.stx_frames.specs.Scope.{rows_at, with_row, label_at}
 use Rattle.stx_frames.proofs.FrameLaws.{rows_at-other}
 use Rattle.stx_scope.specs.Stands.{row_for, symbol_of}
 use Rattle.law_core.specs.WellMade.{IsLeaf}
-use Rattle.law_core.specs.Words.{Each, Among}
 use Rattle.eval_pattern.specs.declared.compile.Compiled.{Compiled}
 use Rattle.eval_pattern.specs.declared.compile.PatternVariable.{PatternVariable}
 use Rattle.core_quasi.specs.declared.quasi_syntax.Insert.{Insert}

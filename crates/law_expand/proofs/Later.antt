@@ -2,6 +2,7 @@
 use Rattle.std.proofs.Common.{◌≡◌, ◌≤◌, ◌<◌, ℕ, Bool, true, false, List, [], ◌∷◌, ◌++◌, length, Option, None, Some, append-nil, refl, sym, ◌∙◌, ap, subst, arith, inl, inr, if◌then◌else◌}
 use Rattle.std.specs.Prelude.{◌⊎◌, take}
 use Rattle.std.proofs.Math.Seq.{take-append_seam}
+use Rattle.base_data.specs.Elements.{Each, Among}
 use Rattle.base_data.specs.Named.{Named}
 use Rattle.base_data.specs.Same.{same_name_cases}
 use Rattle.base_data.specs.declared.library.LibName.{LibName}
@@ -16,7 +17,6 @@ use Rattle.core_language.specs.declared.binding.Binding.TheVariants as binding
 use Rattle.core_language.specs.declared.binding.VarInfo.{VarInfo}
 use Rattle.core_language.specs.declared.link.Link.{Link}
 use Rattle.law_core.specs.Templates.{Depths}
-use Rattle.law_core.specs.Words.{Each, Among}
 use Rattle.eval_stage.specs.Stage.{expression_in, keyword_at}
 use Rattle.expand_standing.specs.InScope.{cut}
 use Rattle.expand_standing.specs.State.{State}

@@ -3,6 +3,8 @@ use Rattle.std.proofs.Common.{◌≡◌, ℕ, ◌≤◌, ◌<◌, true, List, []
 use Rattle.std.specs.Prelude.{◌⊎◌}
 use Rattle.std.specs.List.{flat_map}
 use Rattle.std.proofs.lemmas.Grind.{flat_map-append}
+use Rattle.base_data.proofs.ElementLemmas.{each-at, among-parts}
+use Rattle.base_data.specs.Elements.{Each, Among, Once}
 use Rattle.base_data.specs.declared.library.LibName.{LibName}
 use Rattle.base_data.specs.declared.name.CodeNo.{CodeNo}
 use Rattle.base_data.specs.declared.name.Label.{Label}
@@ -13,11 +15,10 @@ use Rattle.core_language.specs.declared.code.Init.{Init}
 use Rattle.core_language.specs.declared.record.Line.{Line}
 use Rattle.core_language.specs.declared.record.Line.TheVariants as line
 use Rattle.law_core.specs.Templates.{Depths}
-use Rattle.law_core.specs.Words.{Each, Among, Once}
 use Rattle.law_core.specs.Parts.{parts, all_parts, init_parts, init_labels, own_number}
 use Rattle.law_core.specs.Records.{line_core}
 use Rattle.expand_forms.specs.Body.{sequence_of, inits_in, values_in, with_inits, body_core}
-use Rattle.law_expand.proofs.Fresh.{Made, FreshLabels, label_name, code_name, Apart, each-map, each-at, among-parts, made-apart}
+use Rattle.law_expand.proofs.Fresh.{Made, FreshLabels, label_name, code_name, Apart, each-map, made-apart}
 use Rattle.law_expand.proofs.LineLabels.{kind_labels, HasValue}
 use Rattle.law_expand.proofs.Good.{Bindings, InTurn, Inner, Good, GoodCores, GoodInits, IsFrom, Before, inner-none, inner-round, good-wider, cores-wider, inits-wider, inits-none, inits-cons, cores-cons, not-between, good-letrec}
 

@@ -2,6 +2,8 @@
 use Rattle.std.proofs.Common.{◌≡◌, ℕ, ◌<◌, Bool, true, false, List, [], ◌∷◌, ◌++◌, Option, None, Some, refl, sym, ◌∙◌, subst, arith, inl, inr, if◌then◌else◌}
 use Rattle.std.specs.Prelude.{◌⊎◌, ◌||◌, nat_lt}
 use Rattle.std.proofs.lemmas.Bool.{ltb-true}
+use Rattle.base_data.proofs.ElementLemmas.{each-at, each-append, among-first, among-second}
+use Rattle.base_data.specs.Elements.{Each, Among}
 use Rattle.base_data.specs.Op.{name_count, is_keyword}
 use Rattle.base_data.specs.Same.{same_library, same_library_decides}
 use Rattle.base_data.specs.declared.library.LibName.{LibName}
@@ -21,7 +23,7 @@ use Rattle.core_language.specs.Core.{instance}
 use Rattle.core_language.specs.Template.{PlainTemplate}
 use Rattle.law_core.specs.Scope.{template_labels}
 use Rattle.law_core.specs.Templates.{Depths, Suits}
-use Rattle.law_core.specs.Words.{Each, Among}
+use Rattle.law_core.proofs.LabelLemmas.{label-there}
 use Rattle.core_shapes.specs.At.{place_of}
 use Rattle.expand_standing.specs.Patterns.{template_of}
 use Rattle.eval_template.specs.Compile as templates
@@ -36,11 +38,11 @@ use Rattle.expand_heads.specs.declared.plan.Plan.{Plan}
 use Rattle.expand_heads.specs.declared.plan.Plan.TheVariants as plans
 use Rattle.law_expand.specs.States.{Adds, Grows, IsOwn, IsPrimitive, IsTop, IsPattern, Later, ReachOfCode, Sound}
 use Rattle.law_expand.proofs.Acts.{Gave, gave-after, gave-less}
-use Rattle.law_expand.proofs.Fresh.{each-append, each-at, each-map, among-first, among-second}
+use Rattle.law_expand.proofs.Fresh.{each-map}
 use Rattle.law_expand.proofs.Good.{Bindings, IsVariableIn, Good, good-quoted, good-variable, good-primitive, good-instance}
 use Rattle.law_expand.proofs.Plans.{IsOfForms, IsTemplate, template-is, plan-cases}
 use Rattle.law_expand.proofs.References.{MayRefer, RefersBy, AssignsBy, Refers, reference-is, assign-is}
-use Rattle.law_expand.proofs.Scope.{label-there, adds-later}
+use Rattle.law_expand.proofs.Scope.{adds-later}
 use Rattle.law_expand.proofs.Templated.{IfGood, TemplateFits, compiled-fits, fits-suit}
 
 -- what may be referred to is among the labels

@@ -1,7 +1,9 @@
 -- New names, and the binding of variables.
 use Rattle.std.proofs.Common.{◌≡◌, ℕ, ◌+◌, ◌<◌, Bool, true, false, List, [], ◌∷◌, ◌++◌, Some, Ok, Err, refl, sym, ◌∙◌, ap, subst, arith, inl, inr, if◌then◌else◌, None, ◌≤◌}
 use Rattle.std.specs.Prelude.{◌⊎◌, is_some, nat_eq}
+use Rattle.base_data.proofs.ElementLemmas.{each-at, each-append, among-parts}
 use Rattle.base_data.specs.Act.{after, give}
+use Rattle.base_data.specs.Elements.{Each, Among}
 use Rattle.base_data.specs.Named.{Named}
 use Rattle.base_data.specs.declared.fault.FaultKind.TheVariants as kind
 use Rattle.base_data.specs.declared.library.LibName.{LibName}
@@ -19,7 +21,6 @@ use Rattle.core_language.specs.declared.binding.Binding.TheVariants as binding
 use Rattle.core_language.specs.declared.binding.VarInfo.{VarInfo}
 use Rattle.core_language.specs.declared.link.Link.{Link}
 use Rattle.core_language.specs.declared.link.LinkKind.TheVariants as kinds
-use Rattle.law_core.specs.Words.{Each, Among}
 use Rattle.core_shapes.specs.Lists.{is_leaf}
 use Rattle.expand_standing.specs.Binders.{bind_variable, bind_as, row_put, put_variable, variable_for, index_at, next_index}
 use Rattle.expand_standing.specs.InScope.{with_local}
@@ -27,7 +28,7 @@ use Rattle.expand_standing.specs.State.{State, fresh, fault_form, note}
 use Rattle.expand_standing.proofs.Noted.{noted-keeps}
 use Rattle.law_expand.specs.States.{IsOwn, IsOwnOrEllipsis, IsAdded, IsTop, IsPattern, IsUnbound, IsNumbered, IndicesApart, Grows, Keeps, Adds, Later, LaterBut}
 use Rattle.law_expand.proofs.Acts.{Gave, gave-if}
-use Rattle.law_expand.proofs.Fresh.{Made, each-append, each-at, each-map, among-parts}
+use Rattle.law_expand.proofs.Fresh.{Made, each-map}
 use Rattle.law_expand.proofs.Grows.{grows-same, grows-then, row-kept, row-new, keyed-with-row, shown-with-row}
 use Rattle.law_expand.proofs.Scope.{binder-behind}
 use Rattle.law_expand.proofs.Later.{bound-more, bound-kept, bound-last, keeps-same, keeps-more}

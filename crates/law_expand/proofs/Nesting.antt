@@ -3,7 +3,9 @@ use Rattle.std.proofs.Common.{◌≡◌, ℕ, ◌+◌, ◌-◌, ◌*◌, ◌≤�
 use Rattle.std.specs.Prelude.{nat_lt}
 use Rattle.std.proofs.Math.Nat.{max-le}
 use Rattle.std.proofs.lemmas.Bool.Decides.{nat_tests}
+use Rattle.base_data.proofs.ElementLemmas.{each-append}
 use Rattle.base_data.specs.Datum.{PlainDatum}
+use Rattle.base_data.specs.Elements.{Each}
 use Rattle.base_data.specs.declared.name.CodeNo.{CodeNo}
 use Rattle.base_data.specs.declared.name.Label.{Label}
 use Rattle.base_data.specs.declared.span.Span.{Span}
@@ -20,10 +22,9 @@ use Rattle.core_language.specs.declared.code.Init.{Init}
 use Rattle.core_language.specs.declared.code.Lambda.{Lambda}
 use Rattle.law_core.specs.Follows.{IsThere}
 use Rattle.law_core.specs.Parts.{parts, all_parts, init_parts, case_parts, clause_parts, init_labels, case_labels, own_variables}
-use Rattle.law_core.specs.Words.{Each}
 use Rattle.expand_heads.specs.Depth.{deeper, most_round}
 use Rattle.expand_forms.specs.Body.{sequence_of}
-use Rattle.law_expand.proofs.Fresh.{each-append, each-map}
+use Rattle.law_expand.proofs.Fresh.{each-map}
 use Rattle.law_expand.proofs.Good.{Bindings, Extends}
 
 -- Numbers.

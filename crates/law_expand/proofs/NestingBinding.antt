@@ -2,7 +2,9 @@
 use Rattle.std.proofs.Common.{◌≡◌, ℕ, Bool, true, false, List, [], ◌∷◌, ◌++◌, map, Option, None, Some, Ok, Err, refl, sym, ◌∙◌, ap, subst, arith, inl, inr, if◌then◌else◌}
 use Rattle.std.specs.Prelude.{◌⊎◌, is_some, nat_eq}
 use Rattle.std.proofs.lemmas.Bool.Decides.{nat_tests}
+use Rattle.base_data.proofs.ElementLemmas.{each-append}
 use Rattle.base_data.specs.Act.{after, give, each}
+use Rattle.base_data.specs.Elements.{Each}
 use Rattle.base_data.specs.declared.fault.FaultKind.TheVariants as kind
 use Rattle.base_data.specs.declared.library.LibName.{LibName}
 use Rattle.base_data.specs.declared.name.FrameNo.{FrameNo}
@@ -18,7 +20,6 @@ use Rattle.core_language.specs.declared.binding.Binding.{Binding}
 use Rattle.core_language.specs.declared.binding.Binding.TheVariants as binding
 use Rattle.core_language.specs.declared.link.LinkKind.TheVariants as kinds
 use Rattle.law_core.specs.Follows.{IsThere}
-use Rattle.law_core.specs.Words.{Each}
 use Rattle.core_shapes.specs.Lists.{is_leaf}
 use Rattle.core_shapes.specs.declared.shape.BindingSpec.{BindingSpec}
 use Rattle.core_shapes.specs.declared.shape.FormalIds.{FormalIds}
@@ -28,7 +29,6 @@ use Rattle.expand_standing.proofs.Noted.{noted-keeps}
 use Rattle.law_expand.specs.States.{IsNumbered, Later, LaterBut}
 use Rattle.law_expand.proofs.Acts.{Gave, gave-after, gave-both, gave-each, gave-if, gave-less, each-nil, each-cons}
 use Rattle.law_expand.proofs.Binding.{BindsAll, spec_label, binds-formals, binds-specs}
-use Rattle.law_expand.proofs.Fresh.{each-append}
 use Rattle.law_expand.proofs.Good.{Bindings, Extends}
 use Rattle.law_expand.proofs.Later.{bound-more, bound-last, later-self, later-then}
 use Rattle.law_expand.proofs.Naming.{as_label, counted, counted-later, new-unbound, with_variable, Binds, binds}

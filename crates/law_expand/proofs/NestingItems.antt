@@ -1,13 +1,14 @@
 -- What waits in a body: variables of its level, and forms that stand at least as deep as the body.
 use Rattle.std.proofs.Common.{◌≡◌, ℕ, zero, suc, ◌≤◌, Bool, true, false, List, [], ◌∷◌, ◌++◌, Some, Ok, refl, sym, ◌∙◌, ap, subst, if◌then◌else◌}
 use Rattle.std.specs.Prelude.{◌&&◌, ◌||◌, not}
+use Rattle.base_data.proofs.ElementLemmas.{each-append}
 use Rattle.base_data.specs.Act.{after, give}
+use Rattle.base_data.specs.Elements.{Each}
 use Rattle.base_data.specs.declared.fault.FaultKind.TheVariants as kind
 use Rattle.base_data.specs.declared.library.LibName.{LibName}
 use Rattle.base_data.specs.declared.name.Label.{Label}
 use Rattle.stx_tree.specs.Tree.{Tree}
 use Rattle.core_language.specs.declared.record.CompiledLibrary.{CompiledLibrary}
-use Rattle.law_core.specs.Words.{Each}
 use Rattle.core_shapes.specs.At.{place_of}
 use Rattle.core_shapes.specs.declared.shape.Shape.{Shape}
 use Rattle.core_shapes.specs.declared.shape.Shape.TheVariants as shapes
@@ -31,7 +32,7 @@ use Rattle.expand_forms.specs.declared.expand_uses.ItemOrUse.TheVariants as item
 use Rattle.expand_forms.specs.declared.expand_uses.PlannedItem.{PlannedItem}
 use Rattle.law_expand.specs.States.{Later}
 use Rattle.law_expand.proofs.Acts.{Gave, gave-after, gave-both, gave-less, gave-if}
-use Rattle.law_expand.proofs.Fresh.{each-append, each-map}
+use Rattle.law_expand.proofs.Fresh.{each-map}
 use Rattle.law_expand.proofs.Good.{Bindings, Extends}
 use Rattle.law_expand.proofs.Items.{wait_kind, waiting_kind, wait_kinds, map-append, kinds-none, kinds-some, Took, Takes, item-cases, with_expression, Comes, takes-item, Steps, takes-moved, step-takes}
 use Rattle.law_expand.proofs.LineLabels.{kind_labels}

@@ -1,7 +1,9 @@
 -- `quasiquote` and `quasisyntax` forms nest as deep as they may: the forms that they make count in the depth.
 use Rattle.std.proofs.Common.{◌≡◌, ℕ, ◌+◌, ◌≤◌, Bool, true, false, List, [], ◌∷◌, ◌++◌, map, refl, sym, ◌∙◌, ap, subst, arith, append-nil, append_assoc, if◌then◌else◌}
 use Rattle.std.specs.Prelude.{nat_lt}
+use Rattle.base_data.proofs.ElementLemmas.{each-append}
 use Rattle.base_data.specs.Act.{after, give}
+use Rattle.base_data.specs.Elements.{Each}
 use Rattle.base_data.specs.declared.library.LibName.{LibName}
 use Rattle.base_data.specs.declared.op.Op.{Op}
 use Rattle.base_data.specs.declared.span.Span.{Span}
@@ -10,7 +12,6 @@ use Rattle.stx_tree.specs.Leaves.{strip}
 use Rattle.stx_tree.specs.Tree.{Tree}
 use Rattle.core_language.specs.Core.{PlainCore, primitive, instance}
 use Rattle.core_language.specs.Template.{PlainTemplate}
-use Rattle.law_core.specs.Words.{Each}
 use Rattle.eval_pattern.specs.declared.compile.PatternVariable.{PatternVariable}
 use Rattle.core_quasi.specs.Plan.{PlainQuasi, PlainQuasis, constant, expression, none, more}
 use Rattle.core_quasi.specs.Plan as quasi
@@ -35,7 +36,6 @@ use Rattle.expand_forms.specs.Forms.{template_parts}
 use Rattle.law_expand.specs.States.{Later}
 use Rattle.law_expand.specs.Shallow.{deepest}
 use Rattle.law_expand.proofs.Acts.{Gave, gave-after, gave-any, gave-both, gave-within}
-use Rattle.law_expand.proofs.Fresh.{each-append}
 use Rattle.law_expand.proofs.Good.{Bindings}
 use Rattle.law_expand.proofs.Inserts.{Labelled, labelled, labelled-patterned, BindsInserts, inserts-bound, inserts-add}
 use Rattle.law_expand.proofs.Naming.{as_frame, counted}

@@ -1,6 +1,7 @@
 -- `quasiquote` and `quasisyntax` forms give good core code, given that expansion does inside forms.
 use Rattle.std.proofs.Common.{◌≡◌, ℕ, ◌≤◌, List, [], ◌∷◌, ◌++◌, map, None, refl, sym, subst, arith}
 use Rattle.base_data.specs.Act.{after, give}
+use Rattle.base_data.specs.Elements.{Each}
 use Rattle.base_data.specs.declared.library.LibName.{LibName}
 use Rattle.base_data.specs.declared.name.Label.{Label}
 use Rattle.base_data.specs.declared.op.Op.{Op}
@@ -14,7 +15,6 @@ use Rattle.core_language.specs.References.{variables}
 use Rattle.core_language.specs.Template.{PlainTemplate}
 use Rattle.law_core.specs.Templates.{Depths, depths}
 use Rattle.law_core.specs.WellMade.{IsLeaf}
-use Rattle.law_core.specs.Words.{Each}
 use Rattle.eval_pattern.specs.declared.compile.PatternVariable.{PatternVariable}
 use Rattle.core_quasi.specs.Plan.{PlainQuasi, PlainQuasis, constant, expression, none, more}
 use Rattle.core_quasi.specs.Plan as quasi

@@ -2,9 +2,12 @@
 use Rattle.std.proofs.Common.{◌≡◌, ℕ, ◌≤◌, Bool, true, List, [], ◌++◌, map, Some, Result, Ok, Err, refl, sym, ◌∙◌, ap, subst, arith, inl, inr, append-nil}
 use Rattle.std.specs.Prelude.{◌⊎◌}
 use Rattle.std.specs.List.{flat_map}
+use Rattle.base_data.proofs.ElementLemmas.{among-first, among-second, among-parts}
 use Rattle.base_data.specs.Act.{after}
+use Rattle.base_data.specs.Elements.{Each, Among, Once}
 use Rattle.base_data.specs.Named.{Named}
 use Rattle.base_data.specs.declared.fault.Fault.{Fault}
+use Rattle.base_data.specs.declared.imported_name.ImportedName.{ImportedName}
 use Rattle.base_data.specs.declared.library.LibName.{LibName}
 use Rattle.base_data.specs.declared.library.LibName.TheVariants as library
 use Rattle.base_data.specs.declared.name.Label.{Label}
@@ -19,7 +22,6 @@ use Rattle.core_language.specs.declared.binding.Binding.TheVariants as binding
 use Rattle.core_language.specs.declared.binding.VarInfo.{VarInfo}
 use Rattle.core_language.specs.declared.record.CompiledLibrary.{CompiledLibrary}
 use Rattle.core_language.specs.declared.record.Line.{Line}
-use Rattle.law_core.specs.Words.{Each, Among, Once}
 use Rattle.law_core.specs.Parts.{code_numbers}
 use Rattle.law_core.specs.Records.{defined, line_core, line_labels, run_binders}
 use Rattle.law_core.specs.Follows.{line_cores}
@@ -42,7 +44,7 @@ use Rattle.law_expand.specs.Ready.{IsReady}
 use Rattle.law_expand.specs.States.{IsOwn, IsForeign, IsTop, Sound, Keeps, Grows, Adds, ReachOfCode, Later}
 use Rattle.law_expand.specs.Shallow.{deepest}
 use Rattle.law_expand.proofs.Acts.{Gave, gave-after, gave-both, gave-less}
-use Rattle.law_expand.proofs.Fresh.{Made, FreshLabels, each-map, among-parts, among-first, among-second}
+use Rattle.law_expand.proofs.Fresh.{Made, FreshLabels, each-map}
 use Rattle.law_expand.proofs.Grows.{grows-same, grows-then}
 use Rattle.law_expand.proofs.Shown.{IsShown, shown-later}
 use Rattle.law_expand.proofs.Later.{keeps-same, keeps-then, sound-grown}
@@ -159,7 +161,7 @@ module _ (own : LibName) (given : List Label) (go : Inside) (safe : Safe own giv
   new-top labels l v o (inl b) = absurd (no-top l v o b)
   new-top labels l v o (inr p) = p.1.1
 
-  gives-record : (at : TopAt) (es : List (List ℕ × Label)) (d : Taken) (t : State) → Done d t → AreShown t.frames es → Gave (λ r v. Runs own given start r) (after (finish_all go 0 d.waiting t) (λ lines. give_record at es lines))
+  gives-record : (at : TopAt) (es : List ImportedName) (d : Taken) (t : State) → Done d t → AreShown t.frames es → Gave (λ r v. Runs own given start r) (after (finish_all go 0 d.waiting t) (λ lines. give_record at es lines))
   gives-record at es d t h shown =
       let labels = kind_labels (wait_kinds d.waiting) in
       let took = h.took in
@@ -186,7 +188,7 @@ module _ (own : LibName) (given : List Label) (go : Inside) (safe : Safe own giv
         keeps = keeps-then own start t v took.up k.later.up h.keeps k.later.keeps;
         bindings = refl;
         frames = refl;
-        exports = each-map (λ (e : List ℕ × Label). IsShown t.frames e.1) (λ (e : List ℕ × Label). IsShown v.frames e.1) es shown (λ e j. shown-later own t v e.1 k.later.grows j);
+        exports = each-map (λ (e : ImportedName). IsShown t.frames e.label) (λ (e : ImportedName). IsShown v.frames e.label) es shown (λ e j. shown-later own t v e.label k.later.grows j);
         tops = λ l w o b. subst (λ (ls : List Label). Among ls l) is (new-top labels l w o (took.adds.tops l w o (k.later.tops l w o b)));
         nests = pairs-each (LineWithin v.bindings 0 0) (λ x. Within v.bindings 0 0 deepest (line_core x)) (λ w x j. j.0) d.waiting xs both.1;
         labels = subst (Each (IsDefined v.bindings 0 true)) is (each-map (IsDefined t.bindings 0 true) (IsDefined v.bindings 0 true) labels h.labels (λ l j. defined-grown t.bindings v.bindings k.later.grows.bound 0 true l j));
@@ -215,11 +217,11 @@ module _ (own : LibName) (given : List Label) (go : Inside) (safe : Safe own giv
       }))
       (λ d t k. gives-finished at es d t k)
 
-in-record : (P : CompiledLibrary → Type 0) (x : Result (CompiledLibrary × State) Fault) (r : CompiledLibrary) → Gave (λ y v. P y) x → record_in x ≡ Ok r → P r
+pub in-record : (P : CompiledLibrary → Type 0) (x : Result (CompiledLibrary × State) Fault) (r : CompiledLibrary) → Gave (λ y v. P y) x → record_in x ≡ Ok r → P r
 in-record P (Ok p) r h e = let is : p.0 ≡ r = cc in subst P is h
 in-record P (Err f) r h e = absurd (cc)
 
-pub record-runs : (own : LibName) (path : List ℕ) (records : List CompiledLibrary) (imports : List (List ℕ × Label)) (version : List ℕ) (place : Span) (exports : List (List ℕ × Tree)) (forms : List Tree) (codes : Codes) (r : CompiledLibrary)
+pub record-runs : (own : LibName) (path : List ℕ) (records : List CompiledLibrary) (imports : List ImportedName) (version : List ℕ) (place : Span) (exports : List (List ℕ × Tree)) (forms : List Tree) (codes : Codes) (r : CompiledLibrary)
     → IsReady own records → library_record (ready own path records imports codes) records version place exports forms ≡ Ok r → Runs own (flat_map defined records) (started own records imports codes) r
 record-runs own path records imports version place exports forms codes r h e =
     let given = flat_map defined records in

@@ -3,6 +3,8 @@
 use Rattle.std.proofs.Common.{◌≡◌, Bool, true, false, cond, List, [], ◌∷◌, ◌++◌, map, refl, sym, ◌∙◌, ap, subst, inl, inr, if◌then◌else◌}
 use Rattle.std.specs.Prelude.{◌⊎◌, ◌||◌, not}
 use Rattle.std.specs.List.{flat_map}
+use Rattle.base_data.proofs.ElementLemmas.{each-at, each-of, among-first, among-second, among-parts}
+use Rattle.base_data.specs.Elements.{Each, Among}
 use Rattle.base_data.specs.Same.{same_library, same_library_decides}
 use Rattle.base_data.specs.declared.library.LibName.{LibName}
 use Rattle.base_data.specs.declared.name.Label.{Label}
@@ -16,12 +18,11 @@ use Rattle.law_core.specs.Follows.{names_of, keywords, line_cores, library_of, m
 use Rattle.law_core.specs.Following.{AllFollow}
 use Rattle.law_core.specs.Records.{defined, line_core, line_labels, line_binders, run_binders}
 use Rattle.law_core.specs.Scope.{Closed}
-use Rattle.law_core.specs.Words.{Each, Among, among}
+use Rattle.law_core.specs.Words.{among}
 use Rattle.law_core.proofs.GivenLemmas.{references_given}
+use Rattle.law_core.proofs.LabelLemmas.{label-put, label-kept, label-there}
 use Rattle.eval_stage.specs.Libraries.{has_library, with_library}
 use Rattle.expand_forms.specs.Top.{with_label_of, with_labels_of, code_of, with_lines_of, refs_of}
-use Rattle.law_expand.proofs.Fresh.{each-at, each-of, among-parts, among-first, among-second}
-use Rattle.law_expand.proofs.Scope.{label-there}
 
 module _ (own : LibName) where
   labels-append : (done : List LibName) (xs ys : List Label) → with_labels_of own done (xs ++ ys) ≡ with_labels_of own (with_labels_of own done xs) ys
@@ -212,28 +213,13 @@ flat-among {A} {B} g (x ∷ xs) y a = by (among-parts (g x) (flat_map g xs) y a)
     by (inl b) rest = (x, (inl refl, b))
     by (inr b) rest = let k = rest b in (k.0, (inr k.1.0, k.1.1))
 
--- what is mentioned and not bound is referenced
-put-there : (ls : List Label) (m : Label) → Among (with_label ls m) m
-put-there ls m = by (has_label ls m) (label-there ls m)
-  where
-    by : (b : Bool) → (b ≡ true → Among ls m) → Among (if b then ls else ls ++ m ∷ []) m
-    by true h = h refl
-    by false h = among-second ls (m ∷ []) m (inl refl)
-
-put-kept : (ls : List Label) (m l : Label) → Among ls l → Among (with_label ls m) l
-put-kept ls m l a = by (has_label ls m)
-  where
-    by : (b : Bool) → Among (if b then ls else ls ++ m ∷ []) l
-    by true = a
-    by false = among-first ls (m ∷ []) l a
-
 with-kept : (ls ms : List Label) (l : Label) → Among ls l → Among (with_labels ls ms) l
 with-kept ls [] l a = a
-with-kept ls (m ∷ ms) l a = with-kept (with_label ls m) ms l (put-kept ls m l a)
+with-kept ls (m ∷ ms) l a = with-kept (with_label ls m) ms l (label-kept ls m l a)
 
 with-there : (ls ms : List Label) (l : Label) → Among ms l → Among (with_labels ls ms) l
 with-there ls [] l a = elim a [ ]
-with-there ls (m ∷ ms) l (inl e) = subst (Among (with_labels (with_label ls m) ms)) (sym e) (with-kept (with_label ls m) ms m (put-there ls m))
+with-there ls (m ∷ ms) l (inl e) = subst (Among (with_labels (with_label ls m) ms)) (sym e) (with-kept (with_label ls m) ms m (label-put ls m))
 with-there ls (m ∷ ms) l (inr a) = with-there (with_label ls m) ms l a
 
 left-over : (bs ms : List Label) (l : Label) → (Among bs l → ⊥) → Among ms l → Among (without bs ms) l

@@ -1,28 +1,19 @@
 -- What comes into scope.
 use Rattle.std.proofs.Common.{◌≡◌, Bool, true, false, List, [], ◌∷◌, ◌++◌, refl, sym, ◌∙◌, ap, subst, inl, inr, append-nil, append_assoc, if◌then◌else◌}
-use Rattle.std.specs.Prelude.{◌⊎◌, ◌||◌, ℕ, Some}
+use Rattle.std.specs.Prelude.{◌⊎◌, ℕ, Some}
+use Rattle.base_data.proofs.ElementLemmas.{each-at, each-append, among-first, among-second}
+use Rattle.base_data.specs.Elements.{Each, Among}
 use Rattle.base_data.specs.declared.library.LibName.{LibName}
 use Rattle.base_data.specs.declared.name.Label.{Label}
-use Rattle.core_language.specs.Labels.{same_label, has_label}
+use Rattle.core_language.specs.Labels.{has_label}
 use Rattle.core_language.specs.Bindings.{bound_to}
 use Rattle.core_language.specs.declared.binding.Binding.{Binding}
 use Rattle.core_language.specs.declared.binding.VarInfo.{VarInfo}
 use Rattle.law_core.specs.Templates.{Depths}
-use Rattle.law_core.specs.Words.{Each, Among}
-use Rattle.law_core.proofs.Decisions.{label_decides}
 use Rattle.expand_standing.specs.InScope.{with_local}
 use Rattle.expand_standing.specs.State.{State}
 use Rattle.law_expand.specs.States.{IsOwn, IsTop, IsBound, IsPattern, IsNumbered, Adds, Later}
-use Rattle.law_expand.proofs.Fresh.{each-append, each-at, each-map, among-first, among-second}
-
--- a label that is found among labels is one of them
-pub label-there : (ls : List Label) (l : Label) → has_label ls l ≡ true → Among ls l
-label-there [] l e = absurd (cc)
-label-there (m ∷ ls) l e = by (same_label l m) refl e (label-there ls l)
-  where
-    by : (b : Bool) → same_label l m ≡ b → (b || has_label ls l) ≡ true → (has_label ls l ≡ true → Among ls l) → Among (m ∷ ls) l
-    by true is k later = inl ((label_decides l m).0 is)
-    by false is k later = inr (later k)
+use Rattle.law_expand.proofs.Fresh.{each-map}
 
 -- labels behind others, which are among these
 pub record Behind (ls xs ys : List Label) : Type 0 where

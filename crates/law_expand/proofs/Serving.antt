@@ -3,6 +3,9 @@ use Rattle.std.proofs.Common.{◌≡◌, ℕ, zero, suc, Bool, true, false, List
 use Rattle.std.specs.Prelude.{◌⊎◌}
 use Rattle.std.specs.List.{flat_map}
 use Rattle.std.proofs.lemmas.Grind.{flat_map-append}
+use Rattle.base_data.proofs.ElementLemmas.{each-at, each-of, each-append, among-first, among-second, among-parts}
+use Rattle.base_data.specs.Elements.{Each, Among}
+use Rattle.base_data.specs.declared.imported_name.ImportedName.{ImportedName}
 use Rattle.base_data.specs.declared.library.LibName.{LibName}
 use Rattle.base_data.specs.declared.name.FrameNo.{FrameNo}
 use Rattle.base_data.specs.declared.name.Label.{Label}
@@ -16,7 +19,6 @@ use Rattle.core_language.specs.declared.binding.Binding.{Binding}
 use Rattle.core_language.specs.declared.binding.Binding.TheVariants as binding
 use Rattle.core_language.specs.declared.binding.VarInfo.{VarInfo}
 use Rattle.core_language.specs.declared.record.CompiledLibrary.{CompiledLibrary}
-use Rattle.law_core.specs.Words.{Each, Among}
 use Rattle.law_core.specs.Records.{defined}
 use Rattle.law_core.specs.Follows.{IsOwn, IsRecorded, IsKnown, Follows, names_of, bound_labels, row_labels, export_labels, top_label}
 use Rattle.law_core.specs.Following.{AllFollow}
@@ -29,7 +31,7 @@ use Rattle.law_expand.specs.Ready.{IsReady}
 use Rattle.law_expand.specs.Serves.{IsThere, IsLabelThere, Serves, AllServe}
 use Rattle.law_expand.specs.Serving.{FollowersServe, RecordsServe}
 use Rattle.law_expand.specs.States.{IsOwnOrEllipsis, IsAdded, IsKept, IsMacro}
-use Rattle.law_expand.proofs.Fresh.{each-at, each-of, each-map, each-append, among-parts, among-first, among-second}
+use Rattle.law_expand.proofs.Fresh.{each-map}
 use Rattle.law_expand.proofs.Shown.{IsShown, row-shown}
 use Rattle.law_expand.proofs.Started.{names-append, started-foreign, started-there}
 use Rattle.law_expand.proofs.Records.{Runs, record-runs}
@@ -108,7 +110,7 @@ module _ (v : State) (P : Label × Binding → Type 0) (holds : (n : ℕ) (b : B
 
 -- The record that expansion gives.
 
-module _ (own : LibName) (records : List CompiledLibrary) (imports : List (List ℕ × Label)) (codes : Codes) (r : CompiledLibrary) (ready : IsReady own records) (runs : Runs own (flat_map defined records) (started own records imports codes) r) where
+module _ (own : LibName) (records : List CompiledLibrary) (imports : List ImportedName) (codes : Codes) (r : CompiledLibrary) (ready : IsReady own records) (runs : Runs own (flat_map defined records) (started own records imports codes) r) where
   abbrev l : ℕ → Label
   l n = own_label runs.ended n
 
@@ -153,7 +155,7 @@ module _ (own : LibName) (records : List CompiledLibrary) (imports : List (List 
   frames-own : Each (λ (f : FrameRow). IsOwn r f.frame.0) r.frames
   frames-own = subst (Each (λ (f : FrameRow). IsOwn r f.frame.0)) (sym runs.frames) (ordered-own r.name 0 (rows_in r.name runs.ended.frames) (ordered_rows_in r.name runs.ended.frames))
 
-  module _ (there : Each (λ (e : List ℕ × Label). IsThere records e.1.0.library) imports) where
+  module _ (there : Each (λ (e : ImportedName). IsThere records e.label.0.library) imports) where
     row-there : (f : FrameNo) (x : Row) → Among (rows_at f runs.ended.frames) x → IsLabelThere records r x.label
     row-there f x a = by (runs.grows.rows f x a)
       where
@@ -180,8 +182,8 @@ module _ (own : LibName) (records : List CompiledLibrary) (imports : List (List 
           (subst (Each (λ (b : Label × Binding). Each (Among (defined r)) (top_label b))) (sym runs.bindings) (bindings-hold runs.ended (λ (b : Label × Binding). Each (Among (defined r)) (top_label b)) told-top));
       own_frames = frames-own;
       rows = each-mapped (IsLabelThere records r) (λ (f : FrameRow). f.label) r.frames (each-of (λ (f : FrameRow). IsLabelThere records r f.label) r.frames frame-there);
-      exports = each-mapped (IsLabelThere records r) (λ (e : List ℕ × Label). e.1) r.exports
-          (each-map (λ (e : List ℕ × Label). IsShown runs.ended.frames e.1) (λ (e : List ℕ × Label). IsLabelThere records r e.1) r.exports runs.exports (λ e k. shown-there e.1 k));
+      exports = each-mapped (IsLabelThere records r) (λ (e : ImportedName). e.label) r.exports
+          (each-map (λ (e : ImportedName). IsShown runs.ended.frames e.label) (λ (e : ImportedName). IsLabelThere records r e.label) r.exports runs.exports (λ e k. shown-there e.label k));
     }
 
 pub records-serve : RecordsServe

@@ -1,13 +1,13 @@
 -- The core code of every record that expansion gives isn't deep.
 use Rattle.std.proofs.Common.{◌≡◌, List, [], ◌∷◌, map, sym, ap, subst, arith}
 use Rattle.std.specs.List.{flat_map}
+use Rattle.base_data.proofs.ElementLemmas.{each-append}
+use Rattle.base_data.specs.Elements.{Each}
 use Rattle.core_language.specs.declared.record.Line.{Line}
 use Rattle.law_core.specs.Follows.{keyword_of, keywords, line_cores}
 use Rattle.law_core.specs.Records.{defined, line_core}
-use Rattle.law_core.specs.Words.{Each}
 use Rattle.expand_standing.specs.Own.{own_bindings}
 use Rattle.law_expand.specs.Shallow.{deepest, IsShallow, RecordsAreShallow}
-use Rattle.law_expand.proofs.Fresh.{each-append}
 use Rattle.law_expand.proofs.Good.{Bindings}
 use Rattle.law_expand.proofs.GoodKeywords.{record-ends, keywords-each}
 use Rattle.law_expand.proofs.Nesting.{Within}

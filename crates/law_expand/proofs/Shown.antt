@@ -1,6 +1,7 @@
 -- Labels that frames show.
 use Rattle.std.proofs.Common.{◌≡◌, ℕ, Bool, true, false, List, [], ◌∷◌, Option, None, Some, refl, sym, ◌∙◌, ap, subst, inl, inr, cond, if◌then◌else◌}
 use Rattle.std.specs.Prelude.{◌⊎◌, filter}
+use Rattle.base_data.specs.Elements.{Among}
 use Rattle.base_data.specs.declared.name.FrameNo.{FrameNo}
 use Rattle.base_data.specs.declared.name.Label.{Label}
 use Rattle.base_data.specs.declared.name.Mark.{Mark}
@@ -14,7 +15,6 @@ use Rattle.stx_frames.specs.Scope.{Scope, same_frame, rows_at, label_at, label_b
 use Rattle.stx_frames.proofs.ListedLaws.{filter-rows_in}
 use Rattle.stx_frames.proofs.ScopeLemmas.{same_frame-self}
 use Rattle.stx_scope.specs.Stands.{stands, symbol_of}
-use Rattle.law_core.specs.Words.{Among}
 use Rattle.expand_standing.specs.State.{State}
 use Rattle.law_expand.specs.States.{RowsShow, Grows}
 use Rattle.law_expand.proofs.Grows.{shows-more}

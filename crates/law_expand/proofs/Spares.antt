@@ -1,7 +1,9 @@
 -- What forms expand to has no name of a keyword's expression that is kept, given that what is done inside forms does not.
 use Rattle.std.proofs.Common.{◌≡◌, ℕ, ◌+◌, ◌≤◌, ◌<◌, Bool, true, false, List, [], ◌∷◌, ◌++◌, map, length, Option, None, Some, Result, refl, sym, ◌∙◌, subst, arith, inl, inr}
 use Rattle.std.specs.Prelude.{◌⊎◌}
+use Rattle.base_data.proofs.ElementLemmas.{each-at}
 use Rattle.base_data.specs.Act.{after, give, each, gather}
+use Rattle.base_data.specs.Elements.{Each}
 use Rattle.base_data.specs.Named.{Named}
 use Rattle.base_data.specs.declared.fault.Fault.{Fault}
 use Rattle.base_data.specs.declared.library.LibName.{LibName}
@@ -14,7 +16,6 @@ use Rattle.stx_tree.specs.Tree.{Tree}
 use Rattle.core_language.specs.Core.{PlainCore, one_armed, two_armed, assignment, sequence, call, cores}
 use Rattle.core_language.specs.References.{binders, all_binders}
 use Rattle.law_core.specs.Parts.{parts, all_parts, code_numbers}
-use Rattle.law_core.specs.Words.{Each}
 use Rattle.core_shapes.specs.At.{place_of}
 use Rattle.core_shapes.specs.declared.shape.BindingSpec.{BindingSpec}
 use Rattle.core_shapes.specs.declared.shape.FormalIds.{FormalIds}
@@ -36,7 +37,7 @@ use Rattle.law_expand.specs.States.{IsOwn, ReachOfCode, Later}
 use Rattle.law_expand.proofs.Acts.{Gave, gave-after, gave-less, gave-both, gave-each, gave-within}
 use Rattle.law_expand.proofs.BindingKeywords.{BindsKeywords, binds-keywords}
 use Rattle.law_expand.proofs.Expand.{GivesGood, Safe}
-use Rattle.law_expand.proofs.Fresh.{Made, each-at}
+use Rattle.law_expand.proofs.Fresh.{Made}
 use Rattle.law_expand.proofs.Good.{Good}
 use Rattle.law_expand.proofs.Items.{wait_kinds}
 use Rattle.law_expand.proofs.LineLabels.{kind_labels}

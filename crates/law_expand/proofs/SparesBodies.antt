@@ -1,6 +1,7 @@
 -- Bodies spare the names of keywords, given that what is done inside forms does.
 use Rattle.std.proofs.Common.{◌≡◌, ℕ, Bool, true, List, [], ◌∷◌, ◌++◌, map, Option, None, Some, refl, sym, subst}
 use Rattle.base_data.specs.Act.{after, give}
+use Rattle.base_data.specs.Elements.{Each}
 use Rattle.base_data.specs.declared.library.LibName.{LibName}
 use Rattle.base_data.specs.declared.name.CodeNo.{CodeNo}
 use Rattle.base_data.specs.declared.name.Label.{Label}
@@ -16,7 +17,6 @@ use Rattle.core_language.specs.declared.record.Line.{Line}
 use Rattle.core_language.specs.declared.record.Line.TheVariants as line
 use Rattle.law_core.specs.Parts.{parts, init_parts}
 use Rattle.law_core.specs.Records.{line_core}
-use Rattle.law_core.specs.Words.{Each}
 use Rattle.expand_standing.specs.State.{State, fresh, fresh_frame}
 use Rattle.expand_heads.specs.Items.{begun, is_top}
 use Rattle.expand_heads.specs.declared.taken.BodyAt.{BodyAt}

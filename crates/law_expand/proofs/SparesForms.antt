@@ -1,6 +1,7 @@
 -- Procedures, `letrec` and `syntax-case` spare the names of keywords, given that what is done inside forms does; so all forms do.
 use Rattle.std.proofs.Common.{◌≡◌, ℕ, Bool, true, false, List, [], ◌∷◌, ◌++◌, map, Option, None, Some, refl, sym, ◌∙◌, subst}
 use Rattle.base_data.specs.Act.{after, give}
+use Rattle.base_data.specs.Elements.{Each}
 use Rattle.base_data.specs.Named.{Named}
 use Rattle.base_data.specs.declared.library.LibName.{LibName}
 use Rattle.base_data.specs.declared.name.CodeNo.{CodeNo}
@@ -16,7 +17,6 @@ use Rattle.core_language.specs.declared.code.Clause.{Clause}
 use Rattle.core_language.specs.declared.code.Init.{Init}
 use Rattle.core_language.specs.declared.code.Lambda.{Lambda}
 use Rattle.law_core.specs.Parts.{parts, init_parts, clause_parts}
-use Rattle.law_core.specs.Words.{Each}
 use Rattle.eval_pattern.specs.declared.compile.Compiled.{Compiled}
 use Rattle.core_shapes.specs.declared.shape.BindingSpec.{BindingSpec}
 use Rattle.core_shapes.specs.declared.shape.FormalIds.{FormalIds}

@@ -1,6 +1,8 @@
 -- `quasiquote` and `quasisyntax` forms spare the names of keywords, given that what is done inside forms does.
 use Rattle.std.proofs.Common.{◌≡◌, ℕ, false, List, [], ◌∷◌, ◌++◌, map, refl, sym, ◌∙◌, ap, subst}
+use Rattle.base_data.proofs.ElementLemmas.{each-append}
 use Rattle.base_data.specs.Act.{after, give}
+use Rattle.base_data.specs.Elements.{Each}
 use Rattle.base_data.specs.declared.library.LibName.{LibName}
 use Rattle.base_data.specs.declared.name.FrameNo.{FrameNo}
 use Rattle.base_data.specs.declared.name.Label.{Label}
@@ -15,7 +17,6 @@ use Rattle.core_language.specs.References.{all_binders, clause_binders}
 use Rattle.core_language.specs.Template.{PlainTemplate}
 use Rattle.core_language.specs.declared.code.Clause.{Clause}
 use Rattle.law_core.specs.Parts.{all_parts, clause_parts}
-use Rattle.law_core.specs.Words.{Each}
 use Rattle.eval_pattern.specs.declared.compile.PatternVariable.{PatternVariable}
 use Rattle.core_quasi.specs.Plan.{PlainQuasi, PlainQuasis, constant, expression, none, more}
 use Rattle.core_quasi.specs.Plan as quasi
@@ -38,7 +39,7 @@ use Rattle.expand_forms.specs.Site.{site_at}
 use Rattle.expand_forms.specs.Forms.{template_parts}
 use Rattle.law_expand.proofs.Acts.{Gave, gave-after, gave-less, gave-both}
 use Rattle.law_expand.proofs.Compiled.{variable_label, variable_depth}
-use Rattle.law_expand.proofs.Fresh.{each-append, each-map}
+use Rattle.law_expand.proofs.Fresh.{each-map}
 use Rattle.law_expand.proofs.InsertPatterns.{inserts-variables}
 use Rattle.law_expand.proofs.Inserts.{with_dots, IsNewThere, dots-put, Labelled, labelled, labelled-patterned, BindsInserts, inserts-bound, inserts-add, inserts-made}
 use Rattle.law_expand.proofs.Naming.{as_frame, counted}
@@ -50,12 +51,12 @@ use Rattle.law_expand.proofs.Spent.{Tracks, AreUnspent, AwayClause, away-append,
 use Rattle.law_expand.proofs.SpentBinding.{Same, bind-pattern-same, onward-self, onward-then, onward-but, onward-counted}
 use Rattle.law_expand.proofs.SpentOnStage.{Tells}
 
-inserts-same : (f : FrameNo) (place : Span) (level : ℕ) (vs : List PatternVariable) (s : State) → Gave (Same s) (bind_inserts f place level vs s)
+pub inserts-same : (f : FrameNo) (place : Span) (level : ℕ) (vs : List PatternVariable) (s : State) → Gave (Same s) (bind_inserts f place level vs s)
 inserts-same f place level vs s =
     gave-after (Same s) (Same s) (bind_pattern f place level vs s) (λ _. put_row dots place f ellipsis) (bind-pattern-same f place level vs s)
     (λ x u e. gave-less (λ y v. (v ≡ with_dots f u) × IsNewThere f u) (Same s) (put_row dots place f ellipsis u) (dots-put f place u) (λ y v k. ap (λ (z : State). z.keywords) k.0 ∙ e))
 
-same-told : (s u : State) → u.keywords ≡ s.keywords → Tells s.keywords u.keywords
+pub same-told : (s u : State) → u.keywords ≡ s.keywords → Tells s.keywords u.keywords
 same-told s u same k c e = subst (λ (ks : List (Label × Keyword)). IsKeptWith ks k c) same e
 
 module _ (own : LibName) (given : List Label) where

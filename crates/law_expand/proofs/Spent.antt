@@ -2,6 +2,8 @@
 use Rattle.std.proofs.Common.{◌≡◌, ◌≤◌, ◌<◌, List, [], ◌∷◌, ◌++◌, Option, None, Some, refl, sym, subst, arith, inl, inr, append_assoc}
 use Rattle.std.specs.Prelude.{◌⊎◌}
 use Rattle.std.specs.List.{flat_map}
+use Rattle.base_data.proofs.ElementLemmas.{each-at, each-append, among-parts}
+use Rattle.base_data.specs.Elements.{Each, Among}
 use Rattle.base_data.specs.Named.{Named}
 use Rattle.base_data.specs.declared.library.LibName.{LibName}
 use Rattle.base_data.specs.declared.name.CodeNo.{CodeNo}
@@ -13,12 +15,11 @@ use Rattle.core_language.specs.declared.code.Clause.{Clause}
 use Rattle.core_language.specs.declared.code.Init.{Init}
 use Rattle.core_language.specs.declared.code.Lambda.{Lambda}
 use Rattle.law_core.specs.Parts.{parts, all_parts, init_parts, case_parts, clause_parts, own_number}
-use Rattle.law_core.specs.Words.{Each, Among}
 use Rattle.eval_stage.specs.declared.keyword.Keyword.{Keyword}
 use Rattle.expand_standing.specs.State.{State}
 use Rattle.law_expand.specs.Kept.{code_named, MakesName, IsKeptWith, IsNameOfKept, KeptAreGood, IsGoodState}
 use Rattle.law_expand.specs.States.{IsOwn}
-use Rattle.law_expand.proofs.Fresh.{Made, FreshLabels, each-at, each-map, each-append, among-parts}
+use Rattle.law_expand.proofs.Fresh.{Made, FreshLabels, each-map}
 use Rattle.law_expand.proofs.Naming.{as_label, counted}
 
 module _ (own : LibName) where

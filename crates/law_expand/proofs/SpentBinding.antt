@@ -2,6 +2,7 @@
 use Rattle.std.proofs.Common.{◌≡◌, ℕ, zero, suc, Bool, true, false, List, [], ◌∷◌, Option, None, Some, Result, Ok, Err, refl, ◌∙◌, arith, inl, inr, if◌then◌else◌}
 use Rattle.std.specs.Prelude.{◌⊎◌, is_some, take}
 use Rattle.base_data.specs.Act.{after, give}
+use Rattle.base_data.specs.Elements.{Each, Among}
 use Rattle.base_data.specs.Named.{Named}
 use Rattle.base_data.specs.declared.fault.Bare.{Bare}
 use Rattle.base_data.specs.declared.fault.Fault.{Fault}
@@ -18,7 +19,6 @@ use Rattle.core_language.specs.Core.{PlainCore}
 use Rattle.core_language.specs.declared.binding.VarInfo.{VarInfo}
 use Rattle.core_language.specs.declared.link.LinkKind.TheVariants as kinds
 use Rattle.law_core.specs.Templates.{Depths}
-use Rattle.law_core.specs.Words.{Each, Among}
 use Rattle.eval_pattern.specs.Compile as patterns
 use Rattle.eval_pattern.specs.declared.compile.Compiled.{Compiled}
 use Rattle.eval_pattern.specs.declared.compile.PatternVariable.{PatternVariable}

@@ -2,8 +2,11 @@
 use Rattle.std.proofs.Common.{◌≡◌, ℕ, Bool, true, false, List, [], ◌∷◌, ◌++◌, map, Some, refl, sym, ◌∙◌, ap, subst, inl, inr, cond, if◌then◌else◌}
 use Rattle.std.specs.Prelude.{◌⊎◌, filter}
 use Rattle.std.specs.List.{flat_map}
+use Rattle.base_data.proofs.ElementLemmas.{each-at, each-append, among-first, among-second, among-parts}
+use Rattle.base_data.specs.Elements.{Each, Among}
 use Rattle.base_data.specs.Same.{same_name_cases}
 use Rattle.base_data.specs.Named.{Named}
+use Rattle.base_data.specs.declared.imported_name.ImportedName.{ImportedName}
 use Rattle.base_data.specs.declared.library.LibName.{LibName}
 use Rattle.base_data.specs.declared.name.FrameNo.{FrameNo}
 use Rattle.base_data.specs.declared.name.Label.{Label}
@@ -16,7 +19,6 @@ use Rattle.core_language.specs.Labels.{same_label}
 use Rattle.core_language.specs.declared.binding.Binding.{Binding}
 use Rattle.core_language.specs.declared.binding.Binding.TheVariants as binding
 use Rattle.core_language.specs.declared.record.CompiledLibrary.{CompiledLibrary}
-use Rattle.law_core.specs.Words.{Each, Among}
 use Rattle.law_core.specs.Records.{defined}
 use Rattle.law_core.specs.Follows.{IsOwn, IsRecorded, names_of, bound_labels, top_label, tops}
 use Rattle.eval_code.specs.Codes.{Codes}
@@ -25,7 +27,7 @@ use Rattle.expand_standing.specs.Start.{bindings_of, rows_of, first_frame, impor
 use Rattle.law_expand.specs.Ready.{IsReady}
 use Rattle.law_expand.specs.Serves.{IsThere, IsLabelThere, AllServe}
 use Rattle.law_expand.specs.States.{IsForeign, Sound, IndicesApart}
-use Rattle.law_expand.proofs.Fresh.{each-at, each-map, each-append, among-parts, among-first, among-second}
+use Rattle.law_expand.proofs.Fresh.{each-map}
 
 -- a binding of another library, whose variables of the top are defined
 abbrev pub Told : LibName → List Label → Label × Binding → Type 0
@@ -86,7 +88,7 @@ module _ (own : LibName) (given : List Label) where
 -- What the library begins with.
 
 -- what is bound is told
-started-told : (own : LibName) (records : List CompiledLibrary) (imports : List (List ℕ × Label)) (codes : Codes) → IsReady own records
+started-told : (own : LibName) (records : List CompiledLibrary) (imports : List ImportedName) (codes : Codes) → IsReady own records
     → (l : Label) (b : Binding) → bound_to (started own records imports codes).bindings l ≡ Some b → Told own (flat_map defined records) (l, b)
 unfolding started
 started-told own records imports codes h l b e =
@@ -100,11 +102,11 @@ told-foreign own given l (binding.Macro level expression) h = h
 told-foreign own given l (binding.Core form) h = elim h [ ]
 told-foreign own given l (binding.Primitive o) h = elim h [ ]
 
-pub started-foreign : (own : LibName) (records : List CompiledLibrary) (imports : List (List ℕ × Label)) (codes : Codes) → IsReady own records
+pub started-foreign : (own : LibName) (records : List CompiledLibrary) (imports : List ImportedName) (codes : Codes) → IsReady own records
     → (l : Label) (b : Binding) → bound_to (started own records imports codes).bindings l ≡ Some b → IsForeign own l.0
 started-foreign own records imports codes h l b e = told-foreign own (flat_map defined records) l b (started-told own records imports codes h l b e)
 
-pub started-sound : (own : LibName) (records : List CompiledLibrary) (imports : List (List ℕ × Label)) (codes : Codes) → IsReady own records → Sound own (flat_map defined records) (started own records imports codes)
+pub started-sound : (own : LibName) (records : List CompiledLibrary) (imports : List ImportedName) (codes : Codes) → IsReady own records → Sound own (flat_map defined records) (started own records imports codes)
 unfolding started
 started-sound own records imports codes h = record {
   here = refl;
@@ -115,12 +117,12 @@ started-sound own records imports codes h = record {
   numbered = λ l b o e. absurd (started-foreign own records imports codes h l b e o);
 }
 
-pub started-scope : (own : LibName) (records : List CompiledLibrary) (imports : List (List ℕ × Label)) (codes : Codes) → (started own records imports codes).scope ≡ []
+pub started-scope : (own : LibName) (records : List CompiledLibrary) (imports : List ImportedName) (codes : Codes) → (started own records imports codes).scope ≡ []
 unfolding started
 started-scope own records imports codes = refl
 
 -- there is no variable of the library yet
-pub started-indices : (own : LibName) (records : List CompiledLibrary) (imports : List (List ℕ × Label)) (codes : Codes) → IsReady own records → IndicesApart own (started own records imports codes)
+pub started-indices : (own : LibName) (records : List CompiledLibrary) (imports : List ImportedName) (codes : Codes) → IsReady own records → IndicesApart own (started own records imports codes)
 started-indices own records imports codes h = record {
   below = λ l v i o e k. absurd (started-foreign own records imports codes h l (binding.Variable v) e o);
   apart = λ l m v w i o q e d k r. absurd (started-foreign own records imports codes h l (binding.Variable v) e o);
@@ -150,7 +152,7 @@ rows-there all earlier (r ∷ rs) h before these = each-append (λ (f : FrameRow
     both k (inr (inl e)) = these k (inl e)
     both k (inr (inr a)) = elim a [ ]
 
-imports-there : (records : List CompiledLibrary) (f : FrameNo) (es : List (List ℕ × Label)) → Each (λ (e : List ℕ × Label). IsThere records e.1.0.library) es → Each (λ (r : FrameRow). IsThere records r.label.0.library) (map (import_row f) es)
+imports-there : (records : List CompiledLibrary) (f : FrameNo) (es : List ImportedName) → Each (λ (e : ImportedName). IsThere records e.label.0.library) es → Each (λ (r : FrameRow). IsThere records r.label.0.library) (map (import_row f) es)
 imports-there records f [] h = tt
 imports-there records f (e ∷ es) h = (h.0, imports-there records f es h.1)
 
@@ -163,7 +165,7 @@ introduced-there : (records : List CompiledLibrary) → Each (λ (r : FrameRow).
 unfolding record_frame rows_for
 introduced-there records = numbers-there records introduced_numbers
 
-pub started-there : (own : LibName) (records : List CompiledLibrary) (imports : List (List ℕ × Label)) (codes : Codes) → AllServe [] records → Each (λ (e : List ℕ × Label). IsThere records e.1.0.library) imports
+pub started-there : (own : LibName) (records : List CompiledLibrary) (imports : List ImportedName) (codes : Codes) → AllServe [] records → Each (λ (e : ImportedName). IsThere records e.label.0.library) imports
     → (f : FrameNo) → Each (λ (r : Row). IsThere records r.label.0.library) (rows_at f (started own records imports codes).frames)
 unfolding started
 started-there own records imports codes h there f =

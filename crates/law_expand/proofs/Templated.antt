@@ -4,6 +4,8 @@ use Rattle.std.proofs.Common.{◌≡◌, ℕ, zero, suc, ◌+◌, ◌-◌, ◌�
 use Rattle.std.specs.Prelude.{◌⊎◌, max, nat_eq}
 use Rattle.std.specs.Cmp.{unsigned_Decides}
 use Rattle.std.proofs.lemmas.Bool.Decides.{nat_tests}
+use Rattle.base_data.proofs.ElementLemmas.{each-append}
+use Rattle.base_data.specs.Elements.{Each, Among}
 use Rattle.base_data.specs.Gives.{◌>>=◌}
 use Rattle.base_data.specs.declared.fault.Fault.{Fault}
 use Rattle.base_data.specs.declared.name.Label.{Label}
@@ -17,14 +19,12 @@ use Rattle.core_language.specs.declared.binding.Binding.{Binding}
 use Rattle.core_language.specs.declared.binding.Binding.TheVariants as binding
 use Rattle.law_core.specs.Scope.{template_labels, item_labels}
 use Rattle.law_core.specs.Templates.{Depths, HasDepth, ItemHasDepth, Suits, ItemsSuit}
-use Rattle.law_core.specs.Words.{Each, Among}
+use Rattle.law_core.proofs.LabelLemmas.{label-there}
 use Rattle.core_shapes.specs.Lists.{is_nil, tail_of}
 use Rattle.expand_standing.specs.Patterns.{has_variables, has_item_variables}
 use Rattle.eval_template.specs.Compile.{TemplateScope, variable_made, bound_made, label_made, is_special, leaf_made, TemplateElement, dots_behind, reach, with_ellipses, fitted, item_made, Walked, step, walked, constant_of, template_of, items_of, reaches, is_fixed, rebuilt, placed, fixed_list, list_joined, fixed_vector, vector_joined, escape_of, unescaped, list_parts, list_made, vector_made, template, elements_made, tail_made, compiled}
 use Rattle.eval_pattern.specs.Keywords.{is_ellipsis}
 use Rattle.law_expand.proofs.Compiled.{Given}
-use Rattle.law_expand.proofs.Fresh.{each-append}
-use Rattle.law_expand.proofs.Scope.{label-there}
 
 -- The types of what is made of a form and of an item, which their crate keeps to itself. Of the first only what is said of it is
 -- known: whether it is fixed, its template, and how far it reaches.

@@ -2,8 +2,11 @@
 use Rattle.std.proofs.Common.{◌≡◌, ℕ, ◌≤◌, false, List, [], ◌∷◌, map, Option, None, Some, refl, ◌∙◌, ap, subst, arith, inl, inr}
 use Rattle.std.specs.Prelude.{◌⊎◌}
 use Rattle.std.specs.List.{flat_map}
+use Rattle.base_data.proofs.ElementLemmas.{each-at, each-append, among-parts}
 use Rattle.base_data.specs.Act.{after, give}
+use Rattle.base_data.specs.Elements.{Each, Among, Once}
 use Rattle.base_data.specs.Op.{is_keyword}
+use Rattle.base_data.specs.declared.imported_name.ImportedName.{ImportedName}
 use Rattle.base_data.specs.declared.library.LibName.{LibName}
 use Rattle.base_data.specs.declared.name.Label.{Label}
 use Rattle.stx_tree.specs.Changes.{stamp}
@@ -13,7 +16,6 @@ use Rattle.stx_scope.specs.Stands.{stands}
 use Rattle.core_language.specs.References.{binders}
 use Rattle.core_language.specs.declared.record.Line.{Line}
 use Rattle.core_language.specs.declared.record.Line.TheVariants as line
-use Rattle.law_core.specs.Words.{Each, Among, Once}
 use Rattle.law_core.specs.Parts.{ops, code_numbers}
 use Rattle.law_core.specs.WellMade.{IsWellMade}
 use Rattle.law_core.specs.Scope.{Closed}
@@ -23,7 +25,7 @@ use Rattle.expand_standing.specs.State.{State}
 use Rattle.expand_forms.specs.Top.{stands_for, export, all_exports, exports}
 use Rattle.expand_forms.specs.declared.top.TopAt.{TopAt}
 use Rattle.law_expand.proofs.Acts.{Gave, gave-after, gave-each}
-use Rattle.law_expand.proofs.Fresh.{Made, FreshLabels, FreshCodes, code_name, each-at, each-append, each-map, among-parts, once-append, fresh-none, fresh-append}
+use Rattle.law_expand.proofs.Fresh.{Made, FreshLabels, FreshCodes, code_name, each-map, once-append, fresh-none, fresh-append}
 use Rattle.law_expand.proofs.Good.{Bindings, InTurn, IsFrom, Before}
 use Rattle.law_expand.proofs.LineLabels.{kind_labels}
 use Rattle.law_expand.proofs.Lines.{GoodLine, kinds}
@@ -144,14 +146,14 @@ same-then : (s t u : State) → SameScope s t → SameScope t u → SameScope s 
 same-then s t u h k = record { library = k.library ∙ h.library; names = k.names ∙ h.names; frames = k.frames ∙ h.frames; bindings = k.bindings ∙ h.bindings; index = k.index ∙ h.index; keywords = k.keywords ∙ h.keywords; scope = k.scope ∙ h.scope }
 
 -- the labels are shown
-abbrev pub AreShown : Scope → List (List ℕ × Label) → Type 0
-AreShown fs es = Each (λ (e : List ℕ × Label). IsShown fs e.1) es
+abbrev pub AreShown : Scope → List ImportedName → Type 0
+AreShown fs es = Each (λ (e : ImportedName). IsShown fs e.label) es
 
-same-export : (at : TopAt) (e : List ℕ × Tree) (s : State) → Gave (λ x t. SameScope s t × IsShown s.frames x.1) (export at e s)
+same-export : (at : TopAt) (e : List ℕ × Tree) (s : State) → Gave (λ x t. SameScope s t × IsShown s.frames x.label) (export at e s)
 unfolding export
 same-export at e s = by (stands s.frames (stamp at.frame e.1)) refl
   where
-    by : (o : Option Label) → stands s.frames (stamp at.frame e.1) ≡ o → Gave (λ x t. SameScope s t × IsShown s.frames x.1) (stands_for at.place e.0 (stamp at.frame e.1) o s)
+    by : (o : Option Label) → stands s.frames (stamp at.frame e.1) ≡ o → Gave (λ x t. SameScope s t × IsShown s.frames x.label) (stands_for at.place e.0 (stamp at.frame e.1) o s)
     by None is = tt
     by (Some l) is = (same-self s, leaf-shown s.frames (stamp at.frame e.1) l is)
 
@@ -159,7 +161,7 @@ pub same-exports : (at : TopAt) (es : List (List ℕ × Tree)) (s : State) → G
 unfolding exports
 same-exports at es s =
     gave-after (λ xs t. SameScope s t × AreShown s.frames xs) (λ xs t. SameScope s t × AreShown s.frames xs) (all_exports at es s) (λ ls t. after (export_labels ls t) (λ _. give ls))
-    (gave-each (export at) (λ e t x u. SameScope t u × IsShown t.frames x.1) (λ ys t xs u. SameScope t u × AreShown t.frames xs) (λ t. Unit {0})
+    (gave-each (export at) (λ e t x u. SameScope t u × IsShown t.frames x.label) (λ ys t xs u. SameScope t u × AreShown t.frames xs) (λ t. Unit {0})
     (λ t k. (same-self t, tt)) (λ e t k. same-export at e t) (λ e t u x k j. tt)
     (λ e ys t u v x xs k j a. (same-then t u v j.0 a.0, (j.1, subst (λ fs. AreShown fs xs) j.0.frames a.1))) es s tt)
     (λ xs t k. (record { library = k.0.library; names = k.0.names; frames = k.0.frames; bindings = k.0.bindings; index = k.0.index; keywords = k.0.keywords; scope = k.0.scope }, k.1))

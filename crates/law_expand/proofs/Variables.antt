@@ -5,6 +5,8 @@ use Rattle.std.specs.List.{flat_map}
 use Rattle.std.specs.Map.{lookup}
 use Rattle.std.proofs.lemmas.List.{map-append}
 use Rattle.std.proofs.Math.Nat.{eq-or-lt_of_le}
+use Rattle.base_data.proofs.ElementLemmas.{each-at, each-of, each-append, among-first, among-second, among-parts}
+use Rattle.base_data.specs.Elements.{Each, Among, Once}
 use Rattle.base_data.specs.declared.library.LibName.{LibName}
 use Rattle.base_data.specs.declared.name.Label.{Label}
 use Rattle.core_language.specs.Bindings.{bound_to}
@@ -18,7 +20,6 @@ use Rattle.core_language.specs.declared.record.Line.{Line}
 use Rattle.law_core.specs.Follows.{IsThere, bound_labels, index_in, index_of, line_variables, run_variables, top_label, tops}
 use Rattle.law_core.specs.Parts.{parts, own_variables, bound_variables}
 use Rattle.law_core.specs.Records.{defined, line_core, line_labels, line_binders, run_binders}
-use Rattle.law_core.specs.Words.{Each, Among, Once}
 use Rattle.law_core.proofs.Decisions.{label_decides}
 use Rattle.expand_standing.specs.Own.{completed, row_at, own_label, own_row, own_below, own_bindings}
 use Rattle.expand_standing.specs.Start.{started}
@@ -27,7 +28,7 @@ use Rattle.law_expand.specs.States.{IsOwn, IsNumbered, IndicesApart}
 use Rattle.law_expand.specs.Variables.{HasIndices, VariablesHaveIndices}
 use Rattle.law_expand.specs.Shallow.{deepest}
 use Rattle.law_expand.proofs.BoundVariables.{IsWithin, same-within, once-within, variables-within}
-use Rattle.law_expand.proofs.Fresh.{each-at, each-of, each-append, among-parts, among-first, among-second, once-append}
+use Rattle.law_expand.proofs.Fresh.{once-append}
 use Rattle.law_expand.proofs.Nesting.{IsDefined, IsLeveled, Within}
 use Rattle.law_expand.proofs.Records.{Runs, record-runs, records-good}
 use Rattle.law_expand.proofs.Started.{started-sound, started-indices}
@@ -61,7 +62,7 @@ each-mapped P g [] h = tt
 each-mapped P g (x ∷ xs) h = (h.0, each-mapped P g xs h.1)
 
 -- what differs has different images
-once-map : {A B : Type 0} (g : A → B) (xs : List A) → Once xs → ((x y : A) → Among xs x → Among xs y → g x ≡ g y → x ≡ y) → Once (map g xs)
+pub once-map : {A B : Type 0} (g : A → B) (xs : List A) → Once xs → ((x y : A) → Among xs x → Among xs y → g x ≡ g y → x ≡ y) → Once (map g xs)
 once-map g [] once same = tt
 once-map {A} g (x ∷ xs) once same =
     ((λ a. let k = map-among g xs (g x) a in once.0 (subst (Among xs) (sym (same x k.0 (inl refl) (inr k.1.0) k.1.1)) k.1.0)), once-map g xs once.1 (λ y z a b e. same y z (inr a) (inr b) e))

@@ -2,6 +2,8 @@
 use Rattle.std.proofs.Common.{◌≡◌, ℕ, ◌<◌, true, false, List, [], ◌∷◌, ◌++◌, sym, ◌∙◌, inl, inr}
 use Rattle.std.specs.Prelude.{◌⊎◌}
 use Rattle.std.specs.List.{flat_map}
+use Rattle.base_data.proofs.ElementLemmas.{each-at, each-append, among-parts}
+use Rattle.base_data.specs.Elements.{Each, Among}
 use Rattle.base_data.specs.Op.{name_count, is_keyword}
 use Rattle.base_data.specs.declared.library.LibName.{LibName}
 use Rattle.base_data.specs.declared.name.Label.{Label}
@@ -9,11 +11,10 @@ use Rattle.core_language.specs.Core.{PlainCore, quoted, variable, primitive, one
 use Rattle.core_language.specs.Core.{PlainCores, none, more, PlainInits, no_init, init, PlainCases, no_case, case, PlainClauses, no_clause, clause, fended}
 use Rattle.core_language.specs.Pattern.{PlainPattern}
 use Rattle.core_language.specs.References.{mentions, all_mentions, init_mentions, case_mentions, clause_mentions, variables}
-use Rattle.law_core.specs.Words.{Each, Among}
 use Rattle.law_core.specs.Parts.{parts, all_parts, init_parts, case_parts, clause_parts, literals, ops, own_op, own_patterns, patterns, pattern_variables}
 use Rattle.law_core.specs.Templates.{Depths}
 use Rattle.law_core.specs.WellMade.{IsLeaf, HasForm, IsWellMade, given_labels}
-use Rattle.law_expand.proofs.Fresh.{each-append, each-map, each-at, among-parts}
+use Rattle.law_expand.proofs.Fresh.{each-map}
 use Rattle.law_expand.proofs.Good.{Bindings, IsVariableIn, IsPatternIn, PatternFits, IsBasic, Good}
 
 module _ (bs : Bindings) where

@@ -1,6 +1,8 @@
 -- Every record that expansion gives follows the records before it.
 use Rattle.std.specs.Prelude.{◌≡◌, ◌⊎◌, ℕ, List, [], map, Ok}
 use Rattle.std.specs.List.{flat_map}
+use Rattle.base_data.specs.Elements.{Each, Among, Once}
+use Rattle.base_data.specs.declared.imported_name.ImportedName.{ImportedName}
 use Rattle.base_data.specs.declared.library.LibName.{LibName}
 use Rattle.base_data.specs.declared.library.LibName.TheVariants as library
 use Rattle.base_data.specs.declared.name.Label.{Label}
@@ -9,7 +11,6 @@ use Rattle.stx_tree.specs.Tree.{Tree}
 use Rattle.core_language.specs.declared.record.CompiledLibrary.{CompiledLibrary}
 use Rattle.law_core.specs.Follows.{names_of, bound_labels, IsGiven, Follows}
 use Rattle.law_core.specs.Following.{AllFollow}
-use Rattle.law_core.specs.Words.{Each, Among, Once}
 use Rattle.eval_code.specs.Codes.{Codes}
 use Rattle.expand_forms.specs.Expanding.{ready, library_record}
 
@@ -19,17 +20,17 @@ IsKnownBefore records l = Among (flat_map bound_labels records) l ⊎ IsGiven l
 
 -- Records that follow one another, and a library with a new name, which is neither that of the core forms nor that of the prelude. What it
 -- imports is known, and no name is imported or exported twice; a form that is read has no other imports and exports.
-pub record IsFollower (own : LibName) (records : List CompiledLibrary) (imports : List (List ℕ × Label)) (exports : List (List ℕ × Tree)) : Type 0 where
+pub record IsFollower (own : LibName) (records : List CompiledLibrary) (imports : List ImportedName) (exports : List (List ℕ × Tree)) : Type 0 where
   pub earlier : AllFollow [] records
   pub new : Among (names_of records) own → ⊥
   pub no_core : own ≡ library.Core → ⊥
   pub no_prelude : own ≡ library.Prelude → ⊥
-  pub known : Each (λ (e : List ℕ × Label). IsKnownBefore records e.1) imports
-  pub imported_once : Once (map (λ (e : List ℕ × Label). e.0) imports)
+  pub known : Each (λ (e : ImportedName). IsKnownBefore records e.label) imports
+  pub imported_once : Once (map (λ (e : ImportedName). e.name) imports)
   pub exported_once : Once (map (λ (e : List ℕ × Tree). e.0) exports)
 
 abbrev pub RecordsFollow : Type 0
-RecordsFollow = (own : LibName) (path : List ℕ) (records : List CompiledLibrary) (imports : List (List ℕ × Label)) (version : List ℕ) (place : Span)
+RecordsFollow = (own : LibName) (path : List ℕ) (records : List CompiledLibrary) (imports : List ImportedName) (version : List ℕ) (place : Span)
     (exports : List (List ℕ × Tree)) (forms : List Tree) (codes : Codes) (r : CompiledLibrary)
     → IsFollower own records imports exports → library_record (ready own path records imports codes) records version place exports forms
     ≡ Ok r → Follows r records

@@ -1,13 +1,13 @@
 -- Every record that expansion gives is closed, bound once and well made.
 use Rattle.std.specs.Prelude.{◌≡◌, ℕ, false, List, [], ◌++◌, Ok}
 use Rattle.std.specs.List.{flat_map}
+use Rattle.base_data.specs.Elements.{Each, Once}
 use Rattle.base_data.specs.Op.{is_keyword}
+use Rattle.base_data.specs.declared.imported_name.ImportedName.{ImportedName}
 use Rattle.base_data.specs.declared.library.LibName.{LibName}
-use Rattle.base_data.specs.declared.name.Label.{Label}
 use Rattle.base_data.specs.declared.span.Span.{Span}
 use Rattle.stx_tree.specs.Tree.{Tree}
 use Rattle.core_language.specs.declared.record.CompiledLibrary.{CompiledLibrary}
-use Rattle.law_core.specs.Words.{Each, Once}
 use Rattle.law_core.specs.Parts.{ops, code_numbers}
 use Rattle.law_core.specs.WellMade.{IsWellMade}
 use Rattle.law_core.specs.Records.{defined, run_binders, LinesClosed}
@@ -35,6 +35,6 @@ pub record IsGood (records : List CompiledLibrary) (r : CompiledLibrary) : Type 
 
 -- and it has the name of the library
 abbrev pub RecordsAreGood : Type 0
-RecordsAreGood = (own : LibName) (path : List ℕ) (records : List CompiledLibrary) (imports : List (List ℕ × Label)) (version : List ℕ) (place : Span)
+RecordsAreGood = (own : LibName) (path : List ℕ) (records : List CompiledLibrary) (imports : List ImportedName) (version : List ℕ) (place : Span)
     (exports : List (List ℕ × Tree)) (forms : List Tree) (codes : Codes) (r : CompiledLibrary)
     → IsReady own records → library_record (ready own path records imports codes) records version place exports forms ≡ Ok r → IsGood records r × (r.name ≡ own)

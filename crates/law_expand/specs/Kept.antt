@@ -1,5 +1,6 @@
 -- The expressions of a library's own keywords that are kept, and states in which its forms are expanded.
 use Rattle.std.specs.Prelude.{◌≡◌, ◌⊎◌, ◌<◌, false, List, [], Some}
+use Rattle.base_data.specs.Elements.{Each, Among}
 use Rattle.base_data.specs.Named.{Named}
 use Rattle.base_data.specs.Op.{is_keyword}
 use Rattle.base_data.specs.declared.library.LibName.{LibName}
@@ -11,7 +12,6 @@ use Rattle.core_language.specs.declared.binding.VarInfo.{VarInfo}
 use Rattle.law_core.specs.Parts.{ops, code_numbers}
 use Rattle.law_core.specs.Scope.{Closed}
 use Rattle.law_core.specs.WellMade.{IsWellMade}
-use Rattle.law_core.specs.Words.{Each, Among}
 use Rattle.eval_stage.specs.Stage.{keyword_at, expression_in}
 use Rattle.eval_stage.specs.declared.keyword.Keyword.{Keyword}
 use Rattle.expand_standing.specs.State.{State}

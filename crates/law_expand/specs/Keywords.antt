@@ -1,13 +1,13 @@
 -- The keywords of every record that expansion gives.
 use Rattle.std.specs.Prelude.{◌≡◌, ℕ, false, List, [], Ok}
 use Rattle.std.specs.List.{flat_map}
+use Rattle.base_data.specs.Elements.{Each, Once}
 use Rattle.base_data.specs.Op.{is_keyword}
+use Rattle.base_data.specs.declared.imported_name.ImportedName.{ImportedName}
 use Rattle.base_data.specs.declared.library.LibName.{LibName}
-use Rattle.base_data.specs.declared.name.Label.{Label}
 use Rattle.base_data.specs.declared.span.Span.{Span}
 use Rattle.stx_tree.specs.Tree.{Tree}
 use Rattle.core_language.specs.declared.record.CompiledLibrary.{CompiledLibrary}
-use Rattle.law_core.specs.Words.{Each, Once}
 use Rattle.law_core.specs.Parts.{ops}
 use Rattle.law_core.specs.Scope.{Closed}
 use Rattle.law_core.specs.WellMade.{IsWellMade}
@@ -30,6 +30,6 @@ pub record HasGoodKeywords (records : List CompiledLibrary) (r : CompiledLibrary
   pub numbered_here : Each (λ n. IsOwn r n.0) (all_numbers r)
 
 abbrev pub KeywordsAreGood : Type 0
-KeywordsAreGood = (own : LibName) (path : List ℕ) (records : List CompiledLibrary) (imports : List (List ℕ × Label)) (version : List ℕ) (place : Span)
+KeywordsAreGood = (own : LibName) (path : List ℕ) (records : List CompiledLibrary) (imports : List ImportedName) (version : List ℕ) (place : Span)
     (exports : List (List ℕ × Tree)) (forms : List Tree) (codes : Codes) (r : CompiledLibrary)
     → IsReady own records → library_record (ready own path records imports codes) records version place exports forms ≡ Ok r → HasGoodKeywords records r

@@ -1,8 +1,8 @@
 -- What expansion of a library stands on.
 use Rattle.std.specs.Prelude.{List, []}
+use Rattle.base_data.specs.Elements.{Among}
 use Rattle.base_data.specs.declared.library.LibName.{LibName}
 use Rattle.core_language.specs.declared.record.CompiledLibrary.{CompiledLibrary}
-use Rattle.law_core.specs.Words.{Among}
 use Rattle.law_core.specs.Follows.{names_of}
 use Rattle.law_expand.specs.Serves.{AllServe}
 

@@ -1,11 +1,11 @@
 -- What a record leaves to those behind it.
 use Rattle.std.specs.Prelude.{◌≡◌, ◌⊎◌, List, [], ◌∷◌, ◌++◌}
+use Rattle.base_data.specs.Elements.{Each, Among}
 use Rattle.base_data.specs.declared.library.LibName.{LibName}
 use Rattle.base_data.specs.declared.library.LibName.TheVariants as library
 use Rattle.base_data.specs.declared.name.Label.{Label}
 use Rattle.stx_tree.specs.declared.frame_row.FrameRow.{FrameRow}
 use Rattle.core_language.specs.declared.record.CompiledLibrary.{CompiledLibrary}
-use Rattle.law_core.specs.Words.{Each, Among}
 use Rattle.law_core.specs.Records.{defined}
 use Rattle.law_core.specs.Follows.{names_of, bound_labels, row_labels, export_labels, IsOwn, IsRecorded, tops}
 

@@ -1,14 +1,14 @@
 -- How deep the core code of every record nests that expansion gives.
 use Rattle.std.specs.Prelude.{◌≡◌, ◌≤◌, ◌+◌, ◌*◌, ℕ, List, Ok}
+use Rattle.base_data.specs.Elements.{Each}
+use Rattle.base_data.specs.declared.imported_name.ImportedName.{ImportedName}
 use Rattle.base_data.specs.declared.library.LibName.{LibName}
-use Rattle.base_data.specs.declared.name.Label.{Label}
 use Rattle.base_data.specs.declared.span.Span.{Span}
 use Rattle.stx_tree.specs.Tree.{Tree}
 use Rattle.core_language.specs.Core.{PlainCore}
 use Rattle.core_language.specs.Height.{height}
 use Rattle.core_language.specs.declared.record.CompiledLibrary.{CompiledLibrary}
 use Rattle.law_core.specs.Follows.{all_cores}
-use Rattle.law_core.specs.Words.{Each}
 use Rattle.eval_code.specs.Codes.{Codes}
 use Rattle.expand_heads.specs.Depth.{most_round}
 use Rattle.expand_forms.specs.Expanding.{ready, library_record}
@@ -24,6 +24,6 @@ IsShallow c = height c ≤ deepest
 
 -- each line, and each expression of a keyword
 abbrev pub RecordsAreShallow : Type 0
-RecordsAreShallow = (own : LibName) (path : List ℕ) (records : List CompiledLibrary) (imports : List (List ℕ × Label)) (version : List ℕ) (place : Span)
+RecordsAreShallow = (own : LibName) (path : List ℕ) (records : List CompiledLibrary) (imports : List ImportedName) (version : List ℕ) (place : Span)
     (exports : List (List ℕ × Tree)) (forms : List Tree) (codes : Codes) (r : CompiledLibrary)
     → IsReady own records → library_record (ready own path records imports codes) records version place exports forms ≡ Ok r → Each IsShallow (all_cores r)

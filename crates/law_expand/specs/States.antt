@@ -1,5 +1,6 @@
 -- The states of an expansion, and how they change.
 use Rattle.std.specs.Prelude.{◌≡◌, ◌≤◌, ◌<◌, ◌⊎◌, ℕ, Bool, true, false, List, ◌++◌, map, Option, Some, None}
+use Rattle.base_data.specs.Elements.{Each, Among, Once}
 use Rattle.base_data.specs.Named.{Named}
 use Rattle.base_data.specs.Op.{name_count, is_keyword}
 use Rattle.base_data.specs.declared.library.LibName.{LibName}
@@ -15,7 +16,6 @@ use Rattle.core_language.specs.Core.{PlainCore}
 use Rattle.core_language.specs.declared.binding.Binding.{Binding}
 use Rattle.core_language.specs.declared.binding.Binding.TheVariants as binding
 use Rattle.core_language.specs.declared.binding.VarInfo.{VarInfo}
-use Rattle.law_core.specs.Words.{Each, Among, Once}
 use Rattle.law_core.specs.Templates.{Depths}
 use Rattle.expand_quasi.specs.Inserted.{dots, ellipsis}
 use Rattle.eval_stage.specs.Stage.{expression_of}

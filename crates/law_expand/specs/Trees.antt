@@ -1,9 +1,9 @@
 -- Trees whose stamps name certain frames.
 use Rattle.std.specs.Prelude.{List}
+use Rattle.base_data.specs.Elements.{Each}
 use Rattle.base_data.specs.declared.name.FrameNo.{FrameNo}
 use Rattle.stx_tree.specs.Tree.{Tree, atom, leaf, pair, vector}
 use Rattle.stx_tree.specs.declared.stamp.Stamp.{Stamp}
-use Rattle.law_core.specs.Words.{Each}
 
 abbrev pub StampsAre : (FrameNo → Type 0) → List Stamp → Type 0
 StampsAre P ts = Each (λ (t : Stamp). P t.frame) ts

@@ -6,6 +6,7 @@ use Rattle.base_data.specs.Act.{after, give, each}
 use Rattle.base_data.specs.Same.{texts_decides}
 use Rattle.base_data.specs.declared.fault.Fault.{Fault}
 use Rattle.base_data.specs.declared.fault.FaultKind.TheVariants as kind
+use Rattle.base_data.specs.declared.imported_name.ImportedName.{ImportedName}
 use Rattle.base_data.specs.declared.name.FrameNo.{FrameNo}
 use Rattle.base_data.specs.declared.name.Label.{Label}
 use Rattle.base_data.specs.declared.name.Mark.{Mark}
@@ -175,7 +176,10 @@ stamped-fault f (vector o d) place = refl
 
 module _ (at : TopAt) (s : State) where
   abbrev Exported : Type 0
-  Exported = List ℕ × Label
+  Exported = ImportedName
+
+  abbrev exporting : List ℕ → Label → Exported
+  exporting name label = record { name = name; label = label }
 
   abbrev Unbound-export : Tree → Fault
   Unbound-export id = fault_at kind.ExportUnbound (stamp at.frame id) at.place (symbol_of (stamp at.frame id) ∷ [])
@@ -196,13 +200,13 @@ module _ (at : TopAt) (s : State) where
       each-step done external id es ∙ ap (Each-by done external id es) none
       ∙ ap Err (stamped-fault at.frame id at.place ∙ sym (told kind.ExportUnbound id at.place (symbol_of id ∷ []) f t))
   each-told f done _ (b.another_export {external} {id} {l} {es} some h) =
-      each-step done external id es ∙ ap (Each-by done external id es) some ∙ each-told f (done ++ (external, l) ∷ []) es h
+      each-step done external id es ∙ ap (Each-by done external id es) some ∙ each-told f (done ++ exporting external l ∷ []) es h
 
   each-only : (done : List Exported) (f : Fault) (es : List (List ℕ × Tree)) → each (export at) done es s ≡ Err f → IsBadExport s at f es
   each-only done f [] h = let k : ◌≡◌ {A = Result (List Exported × State) Fault} (Ok (done, s)) (Err f) = sym (each-none done) ∙ h in absurd (cc)
-  each-only done f ((x, id) ∷ es) h = by (λ l. each-only (done ++ (x, l) ∷ []) f es) (stands s.frames (stamp at.frame id)) refl (sym (each-step done x id es) ∙ h)
+  each-only done f ((x, id) ∷ es) h = by (λ l. each-only (done ++ exporting x l ∷ []) f es) (stands s.frames (stamp at.frame id)) refl (sym (each-step done x id es) ∙ h)
     where
-      by : ((l : Label) → each (export at) (done ++ (x, l) ∷ []) es s ≡ Err f → IsBadExport s at f es) → (o : Option Label) → stands s.frames (stamp at.frame id) ≡ o → Each-by done x id es o ≡ Err f → IsBadExport s at f ((x, id) ∷ es)
+      by : ((l : Label) → each (export at) (done ++ exporting x l ∷ []) es s ≡ Err f → IsBadExport s at f es) → (o : Option Label) → stands s.frames (stamp at.frame id) ≡ o → Each-by done x id es o ≡ Err f → IsBadExport s at f ((x, id) ∷ es)
       by rest None e k =
           let is : Unbound-export id ≡ f = cc in
           b.this_export e (tells-of kind.ExportUnbound id at.place (symbol_of id ∷ []) f (sym (stamped-fault at.frame id at.place) ∙ is))

@@ -8,6 +8,7 @@ use Rattle.base_data.specs.Gives.{◌>>=◌}
 use Rattle.base_data.specs.declared.fault.Fault.{Fault}
 use Rattle.base_data.specs.declared.fault.FaultKind.{FaultKind}
 use Rattle.base_data.specs.declared.fault.FaultKind.TheVariants as kind
+use Rattle.base_data.proofs.Chars.{branch}
 use Rattle.read_lexer.specs.Faults.{fault_at}
 use Rattle.read_lexer.specs.Grammar.{BarePart, Bare, is_special}
 use Rattle.read_lexer.specs.Tokens.{bare_step, bare_end, escape_end, char_end, bare_at, bare_to, bare, lexeme, is_dot, begins_number, number, number_of, spelt_or_fault, identifier_or_else, no_identifier, integer_in, radix, marked_at}
@@ -27,7 +28,7 @@ use Rattle.law_faults.specs.Bare.{NoInteger, BadBackslash, BadText, BadMarked}
 use Rattle.law_faults.specs.Behind.{BadBehind}
 use Rattle.law_faults.specs.Laws.{MarkedFaultsAre}
 use Rattle.law_faults.proofs.Repeats.{stops_are}
-use Rattle.law_faults.proofs.Tests.{Explains, refuses, accepts, binds, branch, bind_err, bind_ok, both}
+use Rattle.law_faults.proofs.Tests.{Explains, refuses, accepts, binds, bind_err, bind_ok, both}
 
 module _ (file : List ℕ) (k : FaultKind) (from : ℕ) where
   abbrev Over : List ℕ → ℕ → ℕ → Type 0

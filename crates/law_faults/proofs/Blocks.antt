@@ -6,14 +6,15 @@ use Rattle.std.proofs.lemmas.Bool.Decides.{nat_tests}
 use Rattle.bstr.specs.Utf8.{Decoded}
 use Rattle.base_data.specs.declared.fault.Fault.{Fault}
 use Rattle.base_data.specs.declared.fault.FaultKind.TheVariants as kind
+use Rattle.base_data.proofs.Chars.{branch}
 use Rattle.read_lexer.specs.Between.{opens, closes, is_next}
 use Rattle.read_lexer.specs.Faults.{fault_at}
 use Rattle.read_lexer.specs.Gap.{comment_from, innermost, is_char}
-use Rattle.read_lexer.proofs.BetweenLemmas.{left, right}
+use Rattle.read_lexer.proofs.BetweenLemmas.{left, right, some_of, opens_alone}
 use Rattle.law_faults.specs.Behind.{no_character}
 use Rattle.law_faults.specs.Gaps.{BadBlock}
 use Rattle.law_faults.proofs.Small.{Small}
-use Rattle.law_faults.proofs.Tests.{Explains, refuses, accepts, branch, no_char}
+use Rattle.law_faults.proofs.Tests.{Explains, refuses, accepts, no_char}
 
 -- the openings, outermost first
 abbrev pub outer : List ℕ → List ℕ
@@ -47,25 +48,9 @@ no_second : (t : Bool) → (t && false) ≡ false
 no_second true = refl
 no_second false = refl
 
-some_of : (c : ℕ) (char : Option ℕ) → is_char c char ≡ true → is_none char ≡ false
-some_of c None h = absurd (cc)
-some_of c (Some d) h = refl
-
 char_of : (c : ℕ) (char : Option ℕ) → is_char c char ≡ true → char ≡ Some c
 char_of c None h = absurd (cc)
 char_of c (Some d) h = ap Some (sym (eqb-true c d h))
-
-other_char : (c d : ℕ) (char : Option ℕ) → (c ≡ d → ⊥) → is_char c char ≡ true → is_char d char ≡ false
-other_char c d None differ h = refl
-other_char c d (Some e) differ h = grind (arith, nat_tests)
-
-not_both : (a b : Bool) → a ≡ false → (a && b) ≡ false
-not_both a b h = rw h refl
-
--- a `#|` is no `|#`
-opens_alone : (p q : Decoded) (rest : List Decoded) → opens (p ∷ q ∷ rest) ≡ true → closes (p ∷ q ∷ rest) ≡ false
-opens_alone p q rest h =
-    not_both (is_char 0x7C p.char) (is_char 0x23 q.char) (other_char 0x23 0x7C p.char (λ e. cc) (left (is_char 0x23 p.char) (is_char 0x7C q.char) h))
 
 no_pair : (a b : ℕ) (p q : Decoded) → is_none q.char ≡ true → (is_char a p.char && is_char b q.char) ≡ false
 no_pair a b p q none =

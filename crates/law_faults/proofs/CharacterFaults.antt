@@ -8,6 +8,7 @@ use Rattle.base_data.specs.Gives.{◌>>=◌}
 use Rattle.base_data.specs.declared.fault.Fault.{Fault}
 use Rattle.base_data.specs.declared.fault.FaultKind.{FaultKind}
 use Rattle.base_data.specs.declared.fault.FaultKind.TheVariants as kind
+use Rattle.base_data.proofs.Chars.{branch}
 use Rattle.read_lexer.specs.Characters.{named, scalar_or_fault, hex_character, character_but, long_character, character_to, lexeme_of_char, character_end, character_with, character_behind, character_at}
 use Rattle.read_lexer.specs.Faults.{fault_at}
 use Rattle.read_lexer.specs.Grammar.{CharacterRun}
@@ -21,7 +22,7 @@ use Rattle.read_spelling.specs.Whitespace.{is_delimited, runs_on}
 use Rattle.law_faults.specs.Characters.{WholeCharacter, text_of, BadCharacter}
 use Rattle.law_faults.specs.Characters as bad
 use Rattle.law_faults.specs.Laws.{CharacterFaultsAre}
-use Rattle.law_faults.proofs.Tests.{Explains, refuses, accepts, binds, branch, bind_err, both}
+use Rattle.law_faults.proofs.Tests.{Explains, refuses, accepts, binds, bind_err, both}
 
 not_zero : (a n to : ℕ) → to ≡ a + n → to == a ≡ false → 0 < n
 not_zero a n to same h = grind (arith, nat_tests)

@@ -1,15 +1,15 @@
 -- Gaps: what the definition refuses, and why.
-use Rattle.std.proofs.Common.{◌≡◌, ℕ, zero, suc, ◌+◌, ◌-◌, ◌<◌, Bool, true, false, cond, List, [], ◌∷◌, length, drop, slice_index, Option, Some, None, Result, Ok, Err, ◌⊎◌, inl, inr, refl, sym, ap, ◌∙◌, subst, arith}
+use Rattle.std.proofs.Common.{◌≡◌, ℕ, zero, suc, ◌+◌, ◌-◌, Bool, true, false, cond, List, [], ◌∷◌, drop, slice_index, Option, Some, None, Result, Ok, Err, ◌⊎◌, inl, inr, refl, sym, ap, ◌∙◌, subst, arith}
 use Rattle.std.specs.Prelude.{◌==◌, ◌&&◌, nat_eq, codes}
 use Rattle.std.specs.List.{starts_with}
 use Rattle.std.proofs.lemmas.Bool.{eqb-true}
-use Rattle.std.proofs.lemmas.Bool.Decides.{nat_tests}
 use Rattle.bstr.specs.Utf8.{Decoded}
 use Rattle.base_data.specs.declared.fault.Fault.{Fault}
+use Rattle.base_data.proofs.Chars.{branch}
 use Rattle.read_lexer.specs.Between.{Atmosphere, CommentLine, BlockComment, ends_comment}
 use Rattle.read_lexer.specs.Gap.{rest_of_line, comment_from, atmosphere_end, ends_there}
 use Rattle.read_lexer.specs.declared.gap.Until.TheVariants as until
-use Rattle.read_lexer.proofs.BetweenLemmas.{line_sound, line_complete, block_sound, block_complete, left, right, not_equal, equal, by_first, some_bytes, first_some, first_ascii}
+use Rattle.read_lexer.proofs.BetweenLemmas.{line_sound, line_complete, block_sound, block_complete, left, right, not_equal, equal, first_ascii, starts_block, starts_mark, atmosphere_some}
 use Rattle.read_spelling.specs.Source.{characters, piece}
 use Rattle.read_spelling.specs.Whitespace.{is_whitespace, is_delimited, whitespace_end}
 use Rattle.law_faults.specs.Gaps.{BadComment}
@@ -18,20 +18,10 @@ use Rattle.law_faults.proofs.Blocks.{block_explained, block_refused}
 use Rattle.law_faults.proofs.Lines.{line_explained, line_refused}
 use Rattle.law_faults.proofs.Repeats.{stops_are}
 use Rattle.law_faults.proofs.Small.{small}
-use Rattle.law_faults.proofs.Tests.{Explains, Tells, told, blamed, knows, branch, not_true, ok_number}
+use Rattle.law_faults.proofs.Tests.{Explains, Tells, told, blamed, knows, not_true}
 
 comment_ends : (c : ℕ) → ends_there until.LineOrParagraphEnd (Some c) ≡ ends_comment c
 comment_ends c = refl
-
-pub starts_block : (bytes : List ℕ) → starts_with nat_eq bytes (codes "#|") ≡ true → (slice_index bytes 0 ≡ 0x23) × (slice_index bytes 1 ≡ 0x7C)
-starts_block [] h = absurd (cc)
-starts_block (b ∷ []) h = absurd (grind (arith, nat_tests))
-starts_block (b ∷ c ∷ cs) h = (grind (arith, nat_tests), grind (arith, nat_tests))
-
-pub starts_mark : (bytes : List ℕ) → starts_with nat_eq bytes (codes "#!r6rs") ≡ true → (slice_index bytes 0 ≡ 0x23) × (slice_index bytes 1 ≡ 0x21)
-starts_mark [] h = absurd (cc)
-starts_mark (b ∷ []) h = absurd (grind (arith, nat_tests))
-starts_mark (b ∷ c ∷ cs) h = (grind (arith, nat_tests), grind (arith, nat_tests))
 
 -- a step stays, or goes over an atmosphere
 abbrev Over : List ℕ → ℕ → ℕ → Type 0
@@ -134,12 +124,6 @@ module _ (file : List ℕ) where
   step_refused : (at : ℕ) (bytes : List ℕ) (f : Fault) → BadComment file at bytes f → atmosphere_end file bytes at ≡ Err f
   step_refused _ _ _ (BadComment.line at bytes f h line) = line_stops bytes at f h (line_refused file until.LineOrParagraphEnd ends_comment comment_ends (at + 1) (characters (drop 1 bytes)) f line)
   step_refused _ _ _ (BadComment.block at bytes f h block) = block_stops bytes at f h (block_refused file (at ∷ []) (at + 2) (characters (drop 2 bytes)) f block (small (drop 2 bytes)))
-
-atmosphere_some : (bytes : List ℕ) (n : ℕ) → Atmosphere bytes n → (0 < n) × (0 < length bytes)
-atmosphere_some _ _ (Atmosphere.whitespace bytes c size rest e white) = (first_some bytes c size rest e, some_bytes bytes (piece (Some c) size) rest e)
-atmosphere_some _ _ (Atmosphere.line_comment bytes n h line) = (omega arith, by_first bytes 0x3B (omega arith) h)
-atmosphere_some _ _ (Atmosphere.block_comment bytes n h block) = (omega arith, by_first bytes 0x23 (omega arith) (starts_block bytes h).0)
-atmosphere_some _ _ (Atmosphere.report_mark bytes h delimited) = (omega arith, by_first bytes 0x23 (omega arith) (starts_mark bytes h).0)
 
 -- a gap is refused exactly in a comment
 pub gap_faults_are : GapFaultsAre

@@ -4,17 +4,19 @@ use Rattle.std.specs.Prelude.{is_none, nat_eq}
 use Rattle.std.specs.List.{starts_with}
 use Rattle.bstr.specs.Utf8.{Decoded}
 use Rattle.base_data.specs.declared.fault.Fault.{Fault}
+use Rattle.base_data.proofs.Chars.{branch}
 use Rattle.read_lexer.specs.Gap.{rest_of_line, ends_there}
 use Rattle.read_lexer.specs.Start.{start_of, mark_end, run_line_end, is_run_line, byte_order_mark}
 use Rattle.read_lexer.specs.declared.gap.Until.{Until}
 use Rattle.read_lexer.specs.declared.gap.Until.TheVariants as until
+use Rattle.read_lexer.proofs.CharacterLemmas.{number_same}
 use Rattle.read_spelling.specs.Source.{characters, piece}
 use Rattle.read_spelling.specs.Whitespace.{ends_line}
 use Rattle.law_faults.specs.Behind.{no_character}
 use Rattle.law_faults.specs.Gaps.{BadLine}
 use Rattle.law_faults.specs.Laws.{StartsAre, StartFaultsAre}
 use Rattle.law_faults.specs.Start.{SourceLine, RunLine, Start, BadStart}
-use Rattle.law_faults.proofs.Tests.{Explains, refuses, accepts, branch, no_char, ok_number}
+use Rattle.law_faults.proofs.Tests.{Explains, refuses, accepts, no_char}
 
 module _ (file : List ℕ) (u : Until) (ends : ℕ → Bool) (same : (c : ℕ) → ends_there u (Some c) ≡ ends c) where
   line_char : (char : Option ℕ) (size at : ℕ) (ps : List Decoded) → Explains (BadLine file ends (at + size) ps) (rest_of_line file u (at + size) ps)
@@ -39,7 +41,7 @@ module _ (file : List ℕ) where
   run_test : (c size : ℕ) (ps : List Decoded) (at to : ℕ) (t : Bool) → ends_line c ≡ t
       → (rest_of_line file until.LineEnd (at + size) ps ≡ Ok to → LineTo (at + size) to ps)
       → cond t (Ok at) (rest_of_line file until.LineEnd (at + size) ps) ≡ Ok to → LineTo at to (piece (Some c) size ∷ ps)
-  run_test c size ps at to true is further e = (0, omega (arith, ok_number at to e), SourceLine.line_end c size ps is)
+  run_test c size ps at to true is further e = (0, omega (arith, number_same at to e), SourceLine.line_end c size ps is)
   run_test c size ps at to false is further e =
       let r = further e in
       (size + r.0, omega (arith, r.1), SourceLine.char c size r.0 ps is r.2)
@@ -51,7 +53,7 @@ module _ (file : List ℕ) where
   run_char (Some c) size ps at to further e = run_test c size ps at to (ends_line c) refl further e
 
   run_sound : (text : List Decoded) (at to : ℕ) → rest_of_line file until.LineEnd at text ≡ Ok to → LineTo at to text
-  run_sound [] at to e = (0, omega (arith, ok_number at to e), SourceLine.source_end)
+  run_sound [] at to e = (0, omega (arith, number_same at to e), SourceLine.source_end)
   run_sound (p ∷ ps) at to e = run_char p.char p.size ps at to (run_sound ps (at + p.size) to) e
 
   run_complete : (text : List Decoded) (at n : ℕ) → SourceLine text n → rest_of_line file until.LineEnd at text ≡ Ok (at + n)
@@ -66,7 +68,7 @@ module _ (file : List ℕ) where
   line_test bytes at to true is e =
       let r = run_sound (characters bytes) at to e in
       (r.0, r.1, RunLine.line bytes r.0 is r.2)
-  line_test bytes at to false is e = (0, omega (arith, ok_number at to e), RunLine.none bytes is)
+  line_test bytes at to false is e = (0, omega (arith, number_same at to e), RunLine.none bytes is)
 
   line_complete : (bytes : List ℕ) (at n : ℕ) → RunLine bytes n → run_line_end file at bytes ≡ Ok (at + n)
   line_complete _ at _ (RunLine.none bytes is) = rw is (ap Ok (omega arith))

@@ -4,10 +4,10 @@ use Rattle.std.specs.Prelude.{◌==◌, ◌&&◌}
 use Rattle.std.proofs.lemmas.Bool.Decides.{nat_tests}
 use Rattle.bstr.specs.Utf8.{Decoded, decoded, decoded_by, second, continues, pieces, code_of_2, code_of_3, code_of_4}
 use Rattle.bstr.proofs.lemmas.PieceLemmas.{pieces-step, pieces-nil}
-use Rattle.base_data.proofs.Chars.{decoded-some}
+use Rattle.base_data.proofs.Chars.{decoded-some, branch}
 use Rattle.read_lexer.proofs.BetweenLemmas.{left, first_char, some_bytes, ascii_decoded}
 use Rattle.read_spelling.specs.Source.{characters, piece}
-use Rattle.law_faults.proofs.Tests.{branch, not_true}
+use Rattle.law_faults.proofs.Tests.{not_true}
 
 -- of bytes that begin with this one: a character of ASCII is the first byte
 record One (b : ℕ) (d : Decoded) : Type 0 where

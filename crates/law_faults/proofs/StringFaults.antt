@@ -8,6 +8,7 @@ use Rattle.base_data.specs.Gives.{◌>>=◌}
 use Rattle.base_data.specs.Place.{line_end}
 use Rattle.base_data.specs.declared.fault.Fault.{Fault}
 use Rattle.base_data.specs.declared.fault.FaultKind.TheVariants as kind
+use Rattle.base_data.proofs.Chars.{branch}
 use Rattle.read_lexer.specs.Faults.{fault_at}
 use Rattle.read_lexer.specs.Grammar.{CharacterRun, StringElement}
 use Rattle.read_lexer.specs.Strings.{char_here, char_or_byte, simple_escape, letter_or_fault, hex_part, line_part, escape_part, line_or_char, string_part, string_from, string_at, string_lexeme, char_text}
@@ -24,7 +25,7 @@ use Rattle.law_faults.specs.Behind as behind
 use Rattle.law_faults.specs.Laws.{StringFaultsAre}
 use Rattle.law_faults.specs.Strings.{NextElement, BadElement}
 use Rattle.law_faults.specs.Strings as bad
-use Rattle.law_faults.proofs.Tests.{Tells, told, blamed, follows, turned, branch, bind_err}
+use Rattle.law_faults.proofs.Tests.{Tells, told, blamed, follows, turned, bind_err}
 
 not_zero : (n : ℕ) → n == 0 ≡ false → 0 < n
 not_zero n h = grind (arith, nat_tests)

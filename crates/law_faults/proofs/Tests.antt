@@ -1,5 +1,5 @@
 -- What an answer is refused for.
-use Rattle.std.proofs.Common.{◌≡◌, ℕ, ◌+◌, List, Bool, true, false, cond, Option, Some, None, Result, Ok, Err, refl, sym, ap, ◌∙◌, subst, arith}
+use Rattle.std.proofs.Common.{◌≡◌, ℕ, ◌+◌, List, Bool, true, false, Option, Some, None, Result, Ok, Err, refl, sym, ap, ◌∙◌, subst, arith}
 use Rattle.std.specs.Prelude.{◌==◌, ◌&&◌, ◌||◌, is_none}
 use Rattle.std.proofs.lemmas.Bool.Decides.{nat_tests}
 use Rattle.base_data.specs.Gives.{◌>>=◌}
@@ -26,11 +26,6 @@ pub binds : {A B : Type 0} (Bad : Fault → Type 0) (r : Result A Fault) (k : A 
 binds Bad (Err f) k refused given = refuses Bad f (refused f refl)
 binds Bad (Ok x) k refused given = given x refl
 
--- what holds on both ways of a test holds
-pub branch : {A : Type 0} (P : A → Type 0) (t : Bool) {x y : A} → (t ≡ true → P x) → (t ≡ false → P y) → P (cond t x y)
-branch P true f g = f refl
-branch P false f g = g refl
-
 pub bind_err : {A B : Type 0} (r : Result A Fault) (k : A → Result B Fault) (f : Fault) → r ≡ Err f → (r >>= k) ≡ Err f
 bind_err r k f e = rw e refl
 
@@ -51,9 +46,6 @@ not_true false h = refl
 
 pub both : (a b : Bool) → a ≡ true → b ≡ true → (a && b) ≡ true
 both a b p q = rw (p, q) refl
-
-pub ok_number : (a b : ℕ) → ◌≡◌ {A = Result ℕ Fault} (Ok a) (Ok b) → a ≡ b
-ok_number a b e = cc
 
 -- what an answer gives is good, and what it is refused with bad
 abbrev pub Tells : {A : Type 0} → (A → Type 0) → (Fault → Type 0) → Result A Fault → Type 0

@@ -8,6 +8,7 @@ use Rattle.bstr.specs.Utf8.{Decoded, decoded}
 use Rattle.base_data.specs.Gives.{◌>>=◌}
 use Rattle.base_data.specs.declared.fault.Fault.{Fault}
 use Rattle.base_data.specs.declared.fault.FaultKind.TheVariants as kind
+use Rattle.base_data.proofs.Chars.{branch}
 use Rattle.read_lexer.specs.Between.{Atmosphere, Gap, no_gap, whitespace_first}
 use Rattle.read_lexer.specs.Characters.{character_at}
 use Rattle.read_lexer.specs.Faults.{fault_at}
@@ -21,6 +22,7 @@ use Rattle.read_lexer.specs.declared.token.Lexeme.{Lexeme}
 use Rattle.read_lexer.proofs.BareLemmas.{bare_is, part_some}
 use Rattle.read_lexer.proofs.BetweenLemmas.{gaps_are, not_equal, equal}
 use Rattle.read_lexer.proofs.StringLemmas.{differs, run_is, run_complete}
+use Rattle.read_lexer.proofs.TokenLemmas.{tells}
 use Rattle.read_spelling.specs.Source.{characters, piece}
 use Rattle.read_spelling.specs.Whitespace.{is_delimited, is_delimiter, is_sign, is_whitespace, run_end, runs_on}
 use Rattle.law_faults.specs.Bare.{BadBare, BadText}
@@ -32,7 +34,7 @@ use Rattle.law_faults.proofs.CharacterFaults.{character_faults_are}
 use Rattle.law_faults.proofs.GapFaults.{gap_faults_are}
 use Rattle.law_faults.proofs.Small.{first_byte, not_ascii, some_piece}
 use Rattle.law_faults.proofs.StringFaults.{string_faults_are}
-use Rattle.law_faults.proofs.Tests.{Explains, refuses, accepts, binds, branch, bind_err, bind_ok, not_true}
+use Rattle.law_faults.proofs.Tests.{Explains, refuses, accepts, binds, bind_err, bind_ok, not_true}
 
 -- a byte that begins no character comes first
 record NoChar (bytes : List ℕ) : Type 0 where
@@ -47,10 +49,6 @@ four false true c d h = absurd (cc)
 four false false true d h = absurd (cc)
 four false false false true h = absurd (cc)
 four false false false false h = (refl, refl)
-
--- a byte that passes a test is none that doesn't
-tells : (test : ℕ → Bool) (b c : ℕ) → test b ≡ true → test c ≡ false → b == c ≡ false
-tells test b c h n = not_equal b c (λ e. let f = sym h ∙ ap test e ∙ n in cc)
 
 sign_special : (c : ℕ) → is_sign c ≡ true → is_special c ≡ false → c == 0x3B ≡ false → ⊥
 sign_special c sign special semicolon =

@@ -1,6 +1,8 @@
 -- What followers keep to.
 use Rattle.std.proofs.Common.{List, [], ◌∷◌, ◌++◌, inl, inr}
 use Rattle.std.specs.List.{flat_map}
+use Rattle.base_data.proofs.ElementLemmas.{each-append, each-first, once-first}
+use Rattle.base_data.specs.Elements.{Each}
 use Rattle.base_data.specs.declared.name.Label.{Label}
 use Rattle.core_language.specs.References.{binders}
 use Rattle.core_language.specs.declared.record.CompiledLibrary.{CompiledLibrary}
@@ -10,15 +12,14 @@ use Rattle.law_core.specs.Records.{defined, line_core, run_binders, LinesClosed}
 use Rattle.law_core.specs.Scope.{Closed}
 use Rattle.law_core.specs.Templates.{TemplatesSuit}
 use Rattle.law_core.specs.WellMade.{IsWellMade}
-use Rattle.law_core.specs.Words.{Each}
-use Rattle.law_expand.proofs.Fresh.{each-append, each-map}
+use Rattle.law_expand.proofs.Fresh.{each-map}
 use Rattle.law_expand.proofs.Serving.{followers-serve}
 use Rattle.law_stuck.specs.Behind.{IsOfTexts, IsBehind, AllBehind}
 use Rattle.law_run.specs.Fitting.{Fits, AllFit}
 use Rattle.law_run.proofs.KnownLemmas.{followers_mention}
 use Rattle.law_run.proofs.OnceLemmas.{followers_name_once}
 use Rattle.law_follows.specs.Followers.{KeepsTo, FollowersKeepTo, FollowersKeepTogether, FollowersStand}
-use Rattle.law_follows.proofs.Parts.{each-first, each-of-map, once-first}
+use Rattle.law_follows.proofs.Parts.{each-of-map}
 use Rattle.law_follows.proofs.References.{refs-are, referred, known}
 use Rattle.law_follows.proofs.Rows.{rows-bound}
 

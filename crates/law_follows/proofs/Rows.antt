@@ -1,6 +1,8 @@
 -- Rows of which no two have one frame, symbol and marks can be bound one after another.
 use Rattle.std.proofs.Common.{◌≡◌, Bool, true, false, List, [], ◌∷◌, map, None, refl, sym, ap, subst, ◌∙◌}
 use Rattle.std.specs.Prelude.{◌&&◌}
+use Rattle.base_data.proofs.ElementLemmas.{each-at, each-of, among-map}
+use Rattle.base_data.specs.Elements.{Among, Each, Once}
 use Rattle.base_data.specs.declared.name.FrameNo.{FrameNo}
 use Rattle.stx_tree.specs.declared.frame_row.FrameRow.{FrameRow}
 use Rattle.stx_frames.specs.Rows.{Row, is_of, label_in}
@@ -9,12 +11,9 @@ use Rattle.stx_frames.proofs.FrameLaws.{rows_at-with_row, rows_at-other}
 use Rattle.stx_frames.proofs.MemoLemmas.{same_frame_is}
 use Rattle.stx_frames.proofs.ScopeLemmas.{same_frame-self}
 use Rattle.law_core.specs.Follows.{key_of}
-use Rattle.law_core.specs.Words.{Among, Each, Once}
 use Rattle.law_core.proofs.Decisions.{key_decides}
-use Rattle.law_expand.proofs.Fresh.{each-at, each-of}
 use Rattle.law_run.specs.Bound.{AreBound}
 use Rattle.law_run.proofs.Rows.{is-bound, label-end}
-use Rattle.law_follows.proofs.Parts.{among-map}
 
 abbrev IsFree : Scope → FrameRow → Type 0
 IsFree fs q = label_at fs q.frame q.symbol q.marks ≡ None

@@ -5,7 +5,7 @@ use Rattle.base_data.specs.Act.{after}
 use Rattle.base_data.specs.Datum.{PlainDatum}
 use Rattle.base_data.specs.Gives.{◌>>=◌}
 use Rattle.base_data.specs.declared.fault.Fault.{Fault}
-use Rattle.base_data.specs.declared.name.Label.{Label}
+use Rattle.base_data.specs.declared.imported_name.ImportedName.{ImportedName}
 use Rattle.stx_tree.specs.Tree.{Tree}
 use Rattle.core_language.specs.declared.record.CompiledLibrary.{CompiledLibrary}
 use Rattle.core_language.specs.declared.record.Line.{Line}
@@ -28,11 +28,11 @@ module _ (go : Inside) (at : TopAt) (es : List (List ℕ × Tree)) where
   unfolding second_pass
   finished-version taken s r h = by_exports (exports at es s) h
     where
-      by_lines : (ls : List (List ℕ × Label)) (x : Result (List Line × State) Fault) → record_in (after x (λ lines. give_record at ls lines)) ≡ Ok r → r.version ≡ at.version
+      by_lines : (ls : List ImportedName) (x : Result (List Line × State) Fault) → record_in (after x (λ lines. give_record at ls lines)) ≡ Ok r → r.version ≡ at.version
       by_lines ls (Ok p) h = let same : record_of at ls p.0 p.1 ≡ r = cc in sym (ap (λ (x : CompiledLibrary). x.version) same)
       by_lines ls (Err f) h = absurd (cc)
 
-      by_exports : (x : Result (List (List ℕ × Label) × State) Fault) → record_in (after x (λ ls s'. after (finish_all go 0 taken.waiting s') (λ lines. give_record at ls lines))) ≡ Ok r → r.version ≡ at.version
+      by_exports : (x : Result (List ImportedName × State) Fault) → record_in (after x (λ ls s'. after (finish_all go 0 taken.waiting s') (λ lines. give_record at ls lines))) ≡ Ok r → r.version ≡ at.version
       by_exports (Ok p) h = by_lines p.0 (finish_all go 0 taken.waiting p.1) h
       by_exports (Err f) h = absurd (cc)
 

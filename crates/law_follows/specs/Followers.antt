@@ -1,10 +1,10 @@
 -- What records that follow one another keep to, in the words of the laws that stand on records.
 use Rattle.std.specs.Prelude.{List, []}
 use Rattle.std.specs.List.{flat_map}
+use Rattle.base_data.specs.Elements.{Among, Each, Once}
 use Rattle.core_language.specs.declared.record.CompiledLibrary.{CompiledLibrary}
 use Rattle.law_core.specs.Following.{AllFollow}
 use Rattle.law_core.specs.Follows.{Follows}
-use Rattle.law_core.specs.Words.{Among, Each, Once}
 use Rattle.law_expand.specs.Indices.{bound_index}
 use Rattle.law_expand.specs.Serves.{AllServe}
 use Rattle.law_stuck.specs.Behind.{IsBehind, AllBehind}

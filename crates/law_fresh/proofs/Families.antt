@@ -1,6 +1,7 @@
 -- The laws: leaves that were there and temporaries, and marks that were taken before.
 use Rattle.std.proofs.Common.{◌≡◌, ◌≤◌, ℕ, Bool, true, false, List, [], ◌∷◌, ◌++◌, refl, ap, ◌∙◌, arith, inl, inr}
 use Rattle.std.specs.Prelude.{cond}
+use Rattle.base_data.specs.Elements.{Each}
 use Rattle.base_data.specs.declared.library.LibName.{LibName}
 use Rattle.base_data.specs.declared.name.Mark.{Mark}
 use Rattle.base_region.specs.declared.region.Place.{Place}
@@ -17,7 +18,7 @@ use Rattle.core_language.specs.Core.{PlainCore}
 use Rattle.core_language.specs.declared.record.Line.{Line}
 use Rattle.eval_value.specs.declared.value.Value.{Value}
 use Rattle.law_hygiene.specs.Binder.{IsOfOther, IsNew}
-use Rattle.law_hygiene.specs.Marked.{has_mark, StampedWithout, Lacks, Each, Untouched}
+use Rattle.law_hygiene.specs.Marked.{has_mark, StampedWithout, Lacks, Untouched}
 use Rattle.eval_code.specs.Lines.{lines_from}
 use Rattle.eval_code.specs.Meaning.{eval_of, applied}
 use Rattle.eval_code.specs.Setting.{PlainSetting}

@@ -1,10 +1,10 @@
 -- Trees that are put together have the leaves of their parts.
 use Rattle.std.proofs.Common.{List, [], ◌∷◌, Option, None, Some, Bool, true, false, Ok, Err, if◌then◌else◌}
+use Rattle.base_data.specs.Elements.{Each}
 use Rattle.base_data.specs.declared.span.Span.{Span}
 use Rattle.stx_tree.specs.Context.{LeafContext}
 use Rattle.stx_tree.specs.Measures.{fits, too_deep, within}
 use Rattle.stx_tree.specs.Tree.{Tree, atom, leaf, pair, vector, nil, chain, spanned, unspanned, is_list, rest_of, list_of, vector_of}
-use Rattle.eval_value.specs.Cells.{Each}
 use Rattle.law_fresh.specs.Leaves.{TreeHolds}
 use Rattle.law_fresh.specs.Leaves.{OptionHolds}
 pub use Rattle.law_invariants.proofs.Trees.{OkHolds}

@@ -1,5 +1,6 @@
 -- Marks that were taken before a name of a library: all of other libraries, and those of it with a lower number.
 use Rattle.std.specs.Prelude.{◌≡◌, ◌<◌, ℕ, List}
+use Rattle.base_data.specs.Elements.{Each}
 use Rattle.base_data.specs.declared.library.LibName.{LibName}
 use Rattle.base_data.specs.declared.name.FrameNo.{FrameNo}
 use Rattle.base_data.specs.declared.name.Mark.{Mark}
@@ -13,7 +14,7 @@ use Rattle.core_language.specs.Core.{PlainCore}
 use Rattle.core_language.specs.declared.record.Line.{Line}
 use Rattle.eval_value.specs.declared.value.Value.{Value}
 use Rattle.law_hygiene.specs.Binder.{IsNew}
-use Rattle.law_hygiene.specs.Marked.{Each, Untouched}
+use Rattle.law_hygiene.specs.Marked.{Untouched}
 use Rattle.eval_code.specs.Lines.{lines_from}
 use Rattle.eval_code.specs.Meaning.{eval_of, applied}
 use Rattle.eval_code.specs.Setting.{PlainSetting}

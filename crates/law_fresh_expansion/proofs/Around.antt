@@ -1,5 +1,6 @@
 -- The law of what is done with forms round others, from what holds of it from one name on.
 use Rattle.std.proofs.Common.{◌≡◌, ℕ, zero, suc, List, Result, Ok, Err, refl, subst}
+use Rattle.base_data.specs.Elements.{Among}
 use Rattle.base_data.specs.declared.fault.Fault.{Fault}
 use Rattle.base_data.specs.declared.library.LibName.{LibName}
 use Rattle.base_data.specs.declared.library.LibName.TheVariants as library
@@ -8,7 +9,6 @@ use Rattle.base_data.specs.declared.name.Mark.{Mark}
 use Rattle.stx_tree.specs.Context.{LeafContext}
 use Rattle.core_language.specs.declared.record.CompiledLibrary.{CompiledLibrary}
 use Rattle.expand_standing.specs.State.{State}
-use Rattle.law_hygiene.specs.Marked.{Among}
 use Rattle.expand_forms.specs.Body.{item}
 use Rattle.expand_forms.specs.Expression.{lambda_case, form_at, inside}
 use Rattle.expand_forms.specs.Inside.{Inside}

@@ -1,6 +1,8 @@
 -- Trees that are entered, left and stamped, and rows of leaves.
 use Rattle.std.proofs.Common.{◌≡◌, ◌≤◌, ◌<◌, ℕ, List, [], ◌∷◌, ◌++◌, map, Option, None, Some, Bool, true, false, Ok, Err, refl, subst, ltb-true, ltb-false, arith, if◌then◌else◌}
 use Rattle.std.proofs.Math.Dec.{ltb}
+use Rattle.base_data.proofs.ElementLemmas.{each-and}
+use Rattle.base_data.specs.Elements.{Each}
 use Rattle.base_data.specs.declared.library.LibName.{LibName}
 use Rattle.base_data.specs.declared.name.FrameNo.{FrameNo}
 use Rattle.base_data.specs.declared.name.Label.{Label}
@@ -12,11 +14,9 @@ use Rattle.stx_frames.specs.Rows.{Row, second_binder}
 use Rattle.stx_frames.specs.Scope.{Scope, same_frame, label_at, with_row, bound}
 use Rattle.std.specs.Prelude.{is_some}
 use Rattle.stx_scope.specs.Stands.{row_for}
-use Rattle.eval_value.specs.Cells.{Each}
 use Rattle.law_fresh.specs.Leaves.{OptionHolds, TreeHolds}
 use Rattle.law_fresh.specs.Below.{mark_named}
 use Rattle.law_fresh.specs.Names.{FreshRises, temporary_context}
-use Rattle.law_fresh.proofs.Eachs.{each_and}
 use Rattle.law_fresh.proofs.Trees.{OkHolds}
 use Rattle.law_fresh_expansion.specs.Living.{InUse, Lives, RowsHold}
 
@@ -27,7 +27,7 @@ with-row-holds K [] f r h k = ((k, tt), tt)
 with-row-holds K (e ∷ es) f r h k = by_same (same_frame f e.0) (with-row-holds K es f r h.1 k)
   where
     by_same : (b : Bool) → RowsHold K (with_row es f r) → RowsHold K (if b then (e.0, e.1 ++ r ∷ []) ∷ es else e ∷ with_row es f r)
-    by_same true j = (each_and (λ (r : Row). Each K r.marks) e.1 r h.0 k, h.1)
+    by_same true j = (each-and (λ (r : Row). Each K r.marks) e.1 r h.0 k, h.1)
     by_same false j = (h.0, j)
 
 pub bound-holds : (K : Mark → Type 0) (fs : Scope) (f : FrameNo) (r : Row) → RowsHold K fs → Each K r.marks → OkHolds (RowsHold K) (bound fs f r)

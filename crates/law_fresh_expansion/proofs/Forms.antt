@@ -1,6 +1,8 @@
 -- Expressions keep that all in the state of an expansion may be met, given that what is done inside them does.
 use Rattle.std.proofs.Common.{◌≤◌, ◌+◌, ℕ, Bool, true, false, List, [], ◌∷◌, map, Option, None, Some, arith}
+use Rattle.base_data.proofs.ElementLemmas.{each-implied}
 use Rattle.base_data.specs.Act.{after, give}
+use Rattle.base_data.specs.Elements.{Each}
 use Rattle.base_data.specs.declared.library.LibName.{LibName}
 use Rattle.base_data.specs.declared.name.FrameNo.{FrameNo}
 use Rattle.base_data.specs.declared.name.Label.{Label}
@@ -40,10 +42,8 @@ use Rattle.expand_forms.specs.Inside.{Inside}
 use Rattle.expand_forms.specs.Keywords.{expand_transformer, seen_in, expand_transformer_in, expand_transformers, keywords, with_keywords}
 use Rattle.expand_forms.specs.Site.{site_at}
 use Rattle.expand_forms.specs.Forms.{if_parts, let_syntax_parts, letrec_parts, procedure_parts, syntax_case_parts}
-use Rattle.eval_value.specs.Cells.{Each}
 use Rattle.law_fresh.specs.Leaves.{CoresHold, InitsHold, CasesHold, ClausesHold, PatternHolds, LineHolds}
 use Rattle.law_fresh.specs.Leaves.{OptionHolds}
-use Rattle.law_fresh.proofs.Eachs.{each_mapped}
 use Rattle.law_fresh_expansion.specs.Living.{Lives}
 use Rattle.law_fresh_expansion.specs.States.{RecordsHold}
 use Rattle.law_fresh.proofs.Wider.{pattern_wider}
@@ -141,7 +141,7 @@ module _ (own : LibName) (K : ℕ → Mark → Type 0) (J : ℕ → FrameNo → 
   in-frame-up f m n le t h = ((tree-up own K J P lives first) m n le t h.0, lives.frames m n f le h.1)
 
   all-in-frame : (f : FrameNo) (n : ℕ) (ts : List Tree) → (Ts own K J P lives first) n ts → J n f → Each (InFrame f n) ts
-  all-in-frame f n ts h k = each_mapped ((T own K J P lives first) n) (InFrame f n) (λ t j. (j, k)) ts h
+  all-in-frame f n ts h k = each-implied ((T own K J P lives first) n) (InFrame f n) (λ t j. (j, k)) ts h
 
   abbrev pub BoundIn : FrameNo → ℕ → BoundSpec → Type 0
   BoundIn f n b = (BoundHolds own K J P lives first) n b × J n f
@@ -150,7 +150,7 @@ module _ (own : LibName) (K : ℕ → Mark → Type 0) (J : ℕ → FrameNo → 
   bound-in-up f m n le b h = ((bound-up own K J P lives first) m n le b h.0, lives.frames m n f le h.1)
 
   pub all-bound-in : (f : FrameNo) (n : ℕ) (bs : List BoundSpec) → Each ((BoundHolds own K J P lives first) n) bs → J n f → Each (BoundIn f n) bs
-  all-bound-in f n bs h k = each_mapped ((BoundHolds own K J P lives first) n) (BoundIn f n) (λ b j. (j, k)) bs h
+  all-bound-in f n bs h k = each-implied ((BoundHolds own K J P lives first) n) (BoundIn f n) (λ b j. (j, k)) bs h
 
   module _ (go : Inside) (keeps : KeepsFresh go) where
     -- Bodies.
@@ -242,7 +242,7 @@ module _ (own : LibName) (K : ℕ → Mark → Type 0) (J : ℕ → FrameNo → 
         (gave-from own K J P lives first) (C own K J P lives first) s u (after (all_cases go (site_at place level depth) t cs u) (λ xs. give (procedure (record { 0 = s.names }) (cases xs) false))) i
         ((gave-after own K J P lives first) (λ n xs. Each (CaseAt n) xs) (C own K J P lives first) u (all_cases go (site_at place level depth) t cs u) (λ xs. give (procedure (record { 0 = s.names }) (cases xs) false))
         ((gave-each own K J P lives first) LambdaAt CaseAt lambda-up (λ m n le c j. (core-up own K J P lives first) m n le c.body j) (one_case go (site_at place level depth) t) (λ c v j y. case-holds place level depth t c.formals c.body v j y.0 y.1) [] cs u ((state-then own K J P lives first) s u h i) tt
-        (each_mapped (LambdaAt s.names.number) (LambdaAt (s.names.number + 1)) (lambda-up s.names.number (s.names.number + 1) (one-more s)) cs k))
+        (each-implied (LambdaAt s.names.number) (LambdaAt (s.names.number + 1)) (lambda-up s.names.number (s.names.number + 1) (one-more s)) cs k))
         (λ xs v j y. ((state-self own K J P lives first) v ((state-then own K J P lives first) u v ((state-then own K J P lives first) s u h i) j), cases-hold v.names.number xs y)))
 
     -- `letrec` and `letrec*`.
@@ -264,7 +264,7 @@ module _ (own : LibName) (K : ℕ → Mark → Type 0) (J : ℕ → FrameNo → 
         (λ is v j z. let hv = (state-then own K J P lives first) u v hu j in
         (gave-after own K J P lives first) (C own K J P lives first) (C own K J P lives first) v (body go (site_at place level depth) t (map (stamp f) forms) v) (λ c. give (letrec star (inits is) c))
         (body-holds place level depth t (map (stamp f) forms) v hv (stamps-hold own K J P lives v.names.number f forms (lives.frames s.names.number v.names.number f (omega (arith, i.stage.up, j.stage.up)) q) ((trees-up own K J P lives first) s.names.number v.names.number (omega (arith, i.stage.up, j.stage.up)) forms g)))
-        (λ c w x q. ((state-self own K J P lives first) w ((state-then own K J P lives first) v w hv x), (inits-hold w.names.number is (each_mapped (InitAt v.names.number) (InitAt w.names.number) (λ e z. (core-up own K J P lives first) v.names.number w.names.number x.stage.up e.value z) is z), q)))))
+        (λ c w x q. ((state-self own K J P lives first) w ((state-then own K J P lives first) v w hv x), (inits-hold w.names.number is (each-implied (InitAt v.names.number) (InitAt w.names.number) (λ e z. (core-up own K J P lives first) v.names.number w.names.number x.stage.up e.value z) is z), q)))))
 
     pub letrec-holds : (place : Span) (level depth : ℕ) (t : Tree) (star : Bool) (bs : List BindingSpec) (forms : List Tree) (s : State) → (F own K J P lives first) s → Each ((SpecAt own K J P lives first) s.names.number) bs → (Ts own K J P lives first) s.names.number forms
         → (Gave own K J P lives first) (C own K J P lives first) s (letrec_form go (site_at place level depth) (letrec_parts t star bs forms) s)
@@ -275,7 +275,7 @@ module _ (own : LibName) (K : ℕ → Mark → Type 0) (J : ℕ → FrameNo → 
         let i = (counted-holds own K J P lives first) s h in
         (gave-within own K J P lives first) (C own K J P lives first) (λ v. after (fresh_frame v) (letrec_in go (site_at place level depth) (letrec_parts t star bs forms))) s
         ((gave-from own K J P lives first) (C own K J P lives first) s u (letrec_in go (site_at place level depth) (letrec_parts t star bs forms) f u) i
-        (letrec-in-holds place level depth t star bs forms f u ((state-then own K J P lives first) s u h i) ((frame-made own K J P lives first) s h) (each_mapped ((SpecAt own K J P lives first) s.names.number) ((SpecAt own K J P lives first) (s.names.number + 1)) ((spec-up own K J P lives first) s.names.number (s.names.number + 1) (one-more s)) bs k)
+        (letrec-in-holds place level depth t star bs forms f u ((state-then own K J P lives first) s u h i) ((frame-made own K J P lives first) s h) (each-implied ((SpecAt own K J P lives first) s.names.number) ((SpecAt own K J P lives first) (s.names.number + 1)) ((spec-up own K J P lives first) s.names.number (s.names.number + 1) (one-more s)) bs k)
         ((trees-up own K J P lives first) s.names.number (s.names.number + 1) (one-more s) forms g)))
 
     -- Calls, branches, assignments, sequences.
@@ -368,7 +368,7 @@ module _ (own : LibName) (K : ℕ → Mark → Type 0) (J : ℕ → FrameNo → 
         (λ x u j z. let hu = (state-then own K J P lives first) t u ht j in
         (gave-after own K J P lives first) (λ n xs. Each (ClauseAt n) xs) (C own K J P lives first) u (all_clauses go (site_at place level depth) literals cs u) (λ xs. give (matching c (clauses xs) span))
         ((gave-each own K J P lives first) PatternCaseAt ClauseAt pattern-case-up clause-up (pattern_clause go (site_at place level depth) literals) (λ e v q a. clause-holds place level depth literals e v q a) [] cs u hu tt
-        (each_mapped (PatternCaseAt s.names.number) (PatternCaseAt u.names.number) (pattern-case-up s.names.number u.names.number (omega (arith, i.stage.up, j.stage.up))) cs g))
+        (each-implied (PatternCaseAt s.names.number) (PatternCaseAt u.names.number) (pattern-case-up s.names.number u.names.number (omega (arith, i.stage.up, j.stage.up))) cs g))
         (λ xs v q a. ((state-self own K J P lives first) v ((state-then own K J P lives first) u v hu q), ((core-up own K J P lives first) t.names.number v.names.number (omega (arith, j.stage.up, q.stage.up)) c y, clauses-hold v.names.number xs a)))))
 
     -- Keywords.
@@ -401,7 +401,7 @@ module _ (own : LibName) (K : ℕ → Mark → Type 0) (J : ℕ → FrameNo → 
         let i = (counted-holds own K J P lives first) s h in
         (gave-from own K J P lives first) (Ts own K J P lives first) s u (after (keywords go (site_at place level depth) recursive bs f u) (λ _. give (map (stamp f) forms))) i
         ((gave-after own K J P lives first) Any (Ts own K J P lives first) u (keywords go (site_at place level depth) recursive bs f u) (λ _. give (map (stamp f) forms))
-        (keywords-hold place level depth recursive bs f u ((state-then own K J P lives first) s u h i) ((frame-made own K J P lives first) s h) (each_mapped ((SpecAt own K J P lives first) s.names.number) ((SpecAt own K J P lives first) (s.names.number + 1)) ((spec-up own K J P lives first) s.names.number (s.names.number + 1) (one-more s)) bs k))
+        (keywords-hold place level depth recursive bs f u ((state-then own K J P lives first) s u h i) ((frame-made own K J P lives first) s h) (each-implied ((SpecAt own K J P lives first) s.names.number) ((SpecAt own K J P lives first) (s.names.number + 1)) ((spec-up own K J P lives first) s.names.number (s.names.number + 1) (one-more s)) bs k))
         (λ x v j y. ((state-self own K J P lives first) v ((state-then own K J P lives first) u v ((state-then own K J P lives first) s u h i) j), stamps-hold own K J P lives v.names.number f forms (lives.frames (s.names.number + 1) v.names.number f j.stage.up ((frame-made own K J P lives first) s h)) ((trees-up own K J P lives first) s.names.number v.names.number (omega (arith, one-more s, j.stage.up)) forms g))))
 
     pub keywords-form-holds : (place : Span) (level depth : ℕ) (recursive : Bool) (bs : List BindingSpec) (forms : List Tree) (s : State) → (F own K J P lives first) s → Each ((SpecAt own K J P lives first) s.names.number) bs → (Ts own K J P lives first) s.names.number forms

@@ -1,5 +1,7 @@
 -- Changes with certain marks and frames leave a leaf that had them alone with them alone; and so it is of its history.
 use Rattle.std.proofs.Common.{◌≡◌, Bool, true, false, List, [], ◌∷◌, ◌++◌, Option, None, Some, refl, sym, ap, ◌∙◌, subst, inl, inr, if◌then◌else◌}
+use Rattle.base_data.proofs.ElementLemmas.{each-and, each-dropped, each-implied}
+use Rattle.base_data.specs.Elements.{Each}
 use Rattle.base_data.specs.declared.name.FrameNo.{FrameNo}
 use Rattle.base_data.specs.declared.name.Mark.{Mark}
 use Rattle.stx_tree.specs.Context.{LeafContext, entered, stamped, framed, unmarked, left, act, acts}
@@ -7,9 +9,7 @@ use Rattle.stx_tree.specs.Marks.{is_first}
 use Rattle.stx_tree.specs.declared.change.Change.{Change}
 use Rattle.stx_tree.specs.declared.change.Change.TheVariants as change
 use Rattle.stx_tree.specs.declared.stamp.Stamp.{Stamp}
-use Rattle.eval_value.specs.Cells.{Each}
 use Rattle.law_fresh.specs.Leaves.{OptionHolds}
-use Rattle.law_fresh.proofs.Eachs.{each_and, each_dropped, each_mapped}
 use Rattle.law_fresh_expansion.specs.History.{IsBeginning, HasHistory}
 use Rattle.law_fresh_expansion.specs.Known.{HasMarks}
 use Rattle.law_fresh_expansion.specs.Living.{IsChangeOf}
@@ -33,7 +33,7 @@ module _ (K : Mark → Type 0) (J : FrameNo → Type 0) where
   left-has m f c k j h = by (is_first m c.marks)
     where
       by : (b : Bool) → HasMarks K J (if b then unmarked c else framed f (entered m c))
-      by true = record { marks = each_dropped K 1 c.marks h.marks; stamps = h.stamps }
+      by true = record { marks = each-dropped K 1 c.marks h.marks; stamps = h.stamps }
       by false = framed-has f (entered m c) j (entered-has m c k h)
 
   pub act-has : (x : Change) (c : LeafContext) → IsChangeOf K J x → HasMarks K J c → HasMarks K J (act x c)
@@ -61,18 +61,18 @@ module _ (K : Mark → Type 0) (J : FrameNo → Type 0) where
     beginning = h.beginning;
     begins = h.begins;
     changes = h.changes ++ x ∷ [];
-    are = each_and (IsChangeOf K J) h.changes x h.are k;
+    are = each-and (IsChangeOf K J) h.changes x h.are k;
     gives = sym (acts-more h.changes x h.beginning) ∙ ap (act x) h.gives;
   }
 
 module _ (K K' : Mark → Type 0) (J J' : FrameNo → Type 0) (more : (m : Mark) → K m → K' m) (wide : (f : FrameNo) → J f → J' f) where
   marks-wider : (ms : List Mark) → Each K ms → Each K' ms
-  marks-wider ms h = each_mapped K K' more ms h
+  marks-wider ms h = each-implied K K' more ms h
 
   pub has-wider : (c : LeafContext) → HasMarks K J c → HasMarks K' J' c
   has-wider c h = record {
     marks = marks-wider c.marks h.marks;
-    stamps = each_mapped (λ (t : Stamp). J t.frame × Each K t.marks) (λ (t : Stamp). J' t.frame × Each K' t.marks) (λ t k. (wide t.frame k.0, marks-wider t.marks k.1)) c.stamps h.stamps;
+    stamps = each-implied (λ (t : Stamp). J t.frame × Each K t.marks) (λ (t : Stamp). J' t.frame × Each K' t.marks) (λ t k. (wide t.frame k.0, marks-wider t.marks k.1)) c.stamps h.stamps;
   }
 
   option-wider : (o : Option FrameNo) → OptionHolds J o → OptionHolds J' o
@@ -93,6 +93,6 @@ module _ (K K' : Mark → Type 0) (J J' : FrameNo → Type 0) (more : (m : Mark)
     beginning = h.beginning;
     begins = begins-wider h.beginning h.begins;
     changes = h.changes;
-    are = each_mapped (IsChangeOf K J) (IsChangeOf K' J') change-wider h.changes h.are;
+    are = each-implied (IsChangeOf K J) (IsChangeOf K' J') change-wider h.changes h.are;
     gives = h.gives;
   }

@@ -1,6 +1,8 @@
 -- `quasiquote` and `quasisyntax` forms keep that all in the state of an expansion may be met, given that what is done inside them does.
 use Rattle.std.proofs.Common.{◌≤◌, ◌+◌, ℕ, zero, suc, Bool, true, false, List, [], ◌∷◌, ◌++◌, map, Result, Ok, Err, arith, if◌then◌else◌}
+use Rattle.base_data.proofs.ElementLemmas.{each-and, each-implied}
 use Rattle.base_data.specs.Act.{after, give}
+use Rattle.base_data.specs.Elements.{Each}
 use Rattle.base_data.specs.declared.fault.Fault.{Fault}
 use Rattle.base_data.specs.declared.library.LibName.{LibName}
 use Rattle.base_data.specs.declared.name.FrameNo.{FrameNo}
@@ -10,7 +12,7 @@ use Rattle.stx_tree.specs.Changes.{stamp}
 use Rattle.stx_tree.specs.Context.{LeafContext}
 use Rattle.stx_tree.specs.Tree.{Tree}
 use Rattle.core_language.specs.Core.{PlainCore, cores, instance}
-use Rattle.core_language.specs.Pattern.{PlainPattern, PlainPatterns, patterns}
+use Rattle.core_language.specs.Pattern.{PlainPattern, patterns}
 use Rattle.core_language.specs.Pattern as pattern
 use Rattle.core_language.specs.Template.{PlainTemplate}
 use Rattle.eval_pattern.specs.declared.compile.PatternVariable.{PatternVariable}
@@ -40,9 +42,7 @@ use Rattle.expand_forms.specs.Inside.{Inside}
 use Rattle.expand_forms.specs.Quasi.{part_core, parts_in_order, quasi_made, quasi_form}
 use Rattle.expand_forms.specs.Site.{site_at}
 use Rattle.expand_forms.specs.Forms.{template_parts}
-use Rattle.eval_value.specs.Cells.{Each}
 use Rattle.law_fresh.specs.Leaves.{CoresHold, TemplateHolds, PatternHolds, PatternsHold}
-use Rattle.law_fresh.proofs.Eachs.{each_and, each_mapped}
 use Rattle.law_fresh.proofs.Trees.{OkHolds}
 use Rattle.law_fresh_expansion.specs.Living.{Lives}
 use Rattle.law_fresh_expansion.proofs.Changing.{stamp-holds}
@@ -95,13 +95,13 @@ module _ (own : LibName) (K : ℕ → Mark → Type 0) (J : ℕ → FrameNo → 
   with-made-holds n t depth done h k = by (nat_lt most_round depth)
     where
       by : (b : Bool) → Each (PartAt n) (if b then done ++ part t depth ∷ [] else done)
-      by true = each_and (PartAt n) done (part t depth) k h
+      by true = each-and (PartAt n) done (part t depth) k h
       by false = k
 
   mutual
     quasi-parts-hold : (n : ℕ) (t : Tree) (depth : ℕ) (done : List PartForm) (q : PlainQuasi) → (T own K J P lives first) n t → Each (PartAt n) done → QuasiHolds (P n) q → Each (PartAt n) (quasi_parts t depth done q)
     quasi-parts-hold n t depth done (constant c) h k j = with-made-holds n t depth done h k
-    quasi-parts-hold n t depth done (expression e) h k j = each_and (PartAt n) done (part e depth) k j
+    quasi-parts-hold n t depth done (expression e) h k j = each-and (PartAt n) done (part e depth) k j
     quasi-parts-hold n t depth done (quasi_plan.call m qs) h k j = all-parts-hold n t (deeper depth) (with_made t (deeper depth) done) qs h (with-made-holds n t (deeper depth) done h k) j
 
     all-parts-hold : (n : ℕ) (t : Tree) (depth : ℕ) (done : List PartForm) (qs : PlainQuasis) → (T own K J P lives first) n t → Each (PartAt n) done → QuasisHold (P n) qs → Each (PartAt n) (all_quasi_parts t depth done qs)
@@ -147,7 +147,7 @@ module _ (own : LibName) (K : ℕ → Mark → Type 0) (J : ℕ → FrameNo → 
     all-filled-hold n done none cs h k = (h, k)
     all-filled-hold n done (more q qs) cs h k =
         let p = filled-holds n q cs k in
-        all-filled-hold n (done ++ (filled q cs).0 ∷ []) qs (filled q cs).1 (each_and ((C own K J P lives first) n) done (filled q cs).0 h p.0) p.1
+        all-filled-hold n (done ++ (filled q cs).0 ∷ []) qs (filled q cs).1 (each-and ((C own K J P lives first) n) done (filled q cs).0 h p.0) p.1
 
   -- Inserts.
 
@@ -175,7 +175,7 @@ module _ (own : LibName) (K : ℕ → Mark → Type 0) (J : ℕ → FrameNo → 
 
   form-at-up : (m n : ℕ) → m ≤ n → (q : QuasiForm) → FormAt m q → FormAt n q
   form-at-up m n le (forms.Quote q) h = quasi-up m n le q h
-  form-at-up m n le (forms.Syntax q) h = ((tree-up own K J P lives first) m n le q.template h.0, each_mapped (InsertAt m) (InsertAt n) (insert-up m n le) q.inserts h.1)
+  form-at-up m n le (forms.Syntax q) h = ((tree-up own K J P lives first) m n le q.template h.0, each-implied (InsertAt m) (InsertAt n) (insert-up m n le) q.inserts h.1)
 
   -- the pattern has no literals
   under-holds : (n d : ℕ) (p : PlainPattern) → PatternHolds (P n) p → PatternHolds (P n) (pattern_under d p)
@@ -203,7 +203,7 @@ module _ (own : LibName) (K : ℕ → Mark → Type 0) (J : ℕ → FrameNo → 
         (λ x v a b. let hv = (state-then own K J P lives first) u v hu a in
         (gave-after own K J P lives first) (λ n x. TemplateHolds (P n) x) (C own K J P lives first) v (template_of place level (stamp f q.template) v) (λ x. give (match_of vs x (place_of t place) cs))
         ((template-holds own K J P lives first) place level (stamp f q.template) v hv (stamp-holds own K J P lives v.names.number f q.template (lives.frames s.names.number v.names.number f (omega (arith, i.stage.up, a.stage.up)) r) ((tree-up own K J P lives first) s.names.number v.names.number (omega (arith, i.stage.up, a.stage.up)) q.template k)))
-        (λ x w c d. ((state-self own K J P lives first) w ((state-then own K J P lives first) v w hv c), match-holds w.names.number vs x (place_of t place) cs d (each_mapped ((C own K J P lives first) s.names.number) ((C own K J P lives first) w.names.number) ((core-up own K J P lives first) s.names.number w.names.number (omega (arith, i.stage.up, a.stage.up, c.stage.up))) cs j)))))
+        (λ x w c d. ((state-self own K J P lives first) w ((state-then own K J P lives first) v w hv c), match-holds w.names.number vs x (place_of t place) cs d (each-implied ((C own K J P lives first) s.names.number) ((C own K J P lives first) w.names.number) ((core-up own K J P lives first) s.names.number w.names.number (omega (arith, i.stage.up, a.stage.up, c.stage.up))) cs j)))))
 
     inserted-holds : (q : QuasiSyntax) (cs : List PlainCore) (s : State) → (F own K J P lives first) s → (T own K J P lives first) s.names.number q.template → Each (InsertAt s.names.number) q.inserts → Cs s.names.number cs → (Gave own K J P lives first) (C own K J P lives first) s (inserted place level t q cs s)
     unfolding inserted fresh_frame
@@ -214,8 +214,8 @@ module _ (own : LibName) (K : ℕ → Mark → Type 0) (J : ℕ → FrameNo → 
         (gave-within own K J P lives first) (C own K J P lives first) (λ v. after (fresh_frame v) (inserted_in place level t q cs)) s
         ((gave-from own K J P lives first) (C own K J P lives first) s u (inserted_in place level t q cs f u) i
         (inserted-in-holds q cs f u ((state-then own K J P lives first) s u h i) ((frame-made own K J P lives first) s h) ((tree-up own K J P lives first) s.names.number (s.names.number + 1) (omega arith) q.template k)
-        (each_mapped (InsertAt s.names.number) (InsertAt (s.names.number + 1)) (insert-up s.names.number (s.names.number + 1) (omega arith)) q.inserts g)
-        (each_mapped ((C own K J P lives first) s.names.number) ((C own K J P lives first) (s.names.number + 1)) ((core-up own K J P lives first) s.names.number (s.names.number + 1) (omega arith)) cs j)))
+        (each-implied (InsertAt s.names.number) (InsertAt (s.names.number + 1)) (insert-up s.names.number (s.names.number + 1) (omega arith)) q.inserts g)
+        (each-implied ((C own K J P lives first) s.names.number) ((C own K J P lives first) (s.names.number + 1)) ((core-up own K J P lives first) s.names.number (s.names.number + 1) (omega arith)) cs j)))
 
     code-holds : (q : QuasiForm) (cs : List PlainCore) (s : State) → (F own K J P lives first) s → FormAt s.names.number q → Cs s.names.number cs → (Gave own K J P lives first) (C own K J P lives first) s (code_of place level t q cs s)
     code-holds (forms.Quote q) cs s h k j = ((state-self own K J P lives first) s h, (filled-holds s.names.number q cs j).0)

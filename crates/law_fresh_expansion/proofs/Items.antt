@@ -1,7 +1,9 @@
 -- What is taken of a form of a body has the leaves of the form.
 use Rattle.std.proofs.Common.{◌≤◌, ℕ, Bool, true, false, List, Result, Ok, Err, if◌then◌else◌}
 use Rattle.std.specs.Prelude.{◌||◌, ◌&&◌, not}
+use Rattle.base_data.proofs.ElementLemmas.{each-and, each-implied}
 use Rattle.base_data.specs.Act.{after, give}
+use Rattle.base_data.specs.Elements.{Each}
 use Rattle.base_data.specs.declared.fault.Fault.{Fault}
 use Rattle.base_data.specs.declared.fault.FaultKind.TheVariants as kind
 use Rattle.base_data.specs.declared.library.LibName.{LibName}
@@ -35,8 +37,6 @@ use Rattle.expand_heads.specs.declared.taken.Taken.{Taken}
 use Rattle.expand_heads.specs.declared.taken.Waiting.{Waiting}
 use Rattle.expand_heads.specs.declared.taken.Waits.{Waits}
 use Rattle.expand_heads.specs.declared.taken.Waits.TheVariants as waits
-use Rattle.eval_value.specs.Cells.{Each}
-use Rattle.law_fresh.proofs.Eachs.{each_and, each_mapped}
 use Rattle.law_fresh.proofs.Trees.{OkHolds}
 use Rattle.law_fresh_expansion.specs.Forms.{WaitsHold}
 use Rattle.law_fresh_expansion.specs.Living.{Lives}
@@ -77,13 +77,13 @@ module _ (own : LibName) (K : ℕ → Mark → Type 0) (J : ℕ → FrameNo → 
   waits-up m n le (waits.Expression t) h = (tree-up own K J P lives first) m n le t h
 
   pub waiting-up : (m n : ℕ) → m ≤ n → (ws : List Waiting) → Each (WaitingAt m) ws → Each (WaitingAt n) ws
-  waiting-up m n le ws h = each_mapped (WaitingAt m) (WaitingAt n) (λ w k. waits-up m n le w.what k) ws h
+  waiting-up m n le ws h = each-implied (WaitingAt m) (WaitingAt n) (λ w k. waits-up m n le w.what k) ws h
 
   pub taken-up : (m n : ℕ) → m ≤ n → (d : Taken) → TakenAt m d → TakenAt n d
   taken-up m n le d h = waiting-up m n le d.waiting h
 
   more-waits : (n : ℕ) (at : BodyAt) (depth : ℕ) (d : Taken) (w : Waits) → TakenAt n d → WaitsAt n w → TakenAt n (with_waiting at depth d w)
-  more-waits n at depth d w h k = each_and (WaitingAt n) d.waiting (waiting_at at depth w) h k
+  more-waits n at depth d w h k = each-and (WaitingAt n) d.waiting (waiting_at at depth w) h k
 
   module _ (at : BodyAt) (depth : ℕ) where
     -- the definition of a variable
@@ -148,7 +148,7 @@ module _ (own : LibName) (K : ℕ → Mark → Type 0) (J : ℕ → FrameNo → 
     -- Forms.
 
     waits-so : (d : Taken) (t : Tree) (s : State) → (F own K J P lives first) s → TakenAt s.names.number d → (T own K J P lives first) s.names.number t → (Gave own K J P lives first) BothAt s (alone (wait at depth d t) s)
-    waits-so d t s h k g = ((state-self own K J P lives first) s h, (each_and (WaitingAt s.names.number) d.waiting (waiting_at at depth (waits.Expression t)) k g, tt))
+    waits-so d t s h k g = ((state-self own K J P lives first) s h, (each-and (WaitingAt s.names.number) d.waiting (waiting_at at depth (waits.Expression t)) k g, tt))
 
     target-holds : (d : Taken) (t : Tree) (st : Standing) (s : State) → (F own K J P lives first) s → TakenAt s.names.number d → (T own K J P lives first) s.names.number t → (Gave own K J P lives first) BothAt s (target_item at depth d t st s)
     target-holds d t (standing.Keyword l) s h k g = ((state-self own K J P lives first) s h, (k, tt))

@@ -1,6 +1,7 @@
 -- Known marks are such as may be met, and the mark of the next name is none of them.
 use Rattle.std.proofs.Common.{◌≡◌, ◌≤◌, ◌<◌, ℕ, suc, Bool, true, false, List, [], ◌∷◌, ◌++◌, refl, ap, ◌∙◌, subst, arith, inl, inr}
 use Rattle.std.specs.Prelude.{cond}
+use Rattle.base_data.specs.Elements.{Among, Each}
 use Rattle.base_data.specs.Named.{Named}
 use Rattle.base_data.specs.declared.library.LibName.{LibName}
 use Rattle.base_data.specs.declared.library.LibName.TheVariants as library
@@ -19,11 +20,10 @@ use Rattle.stx_frames.specs.Rows.{Row}
 use Rattle.core_quasi.specs.QuasiSyntax.{core_mark}
 use Rattle.stx_frames.specs.Scope.{Scope}
 use Rattle.law_hygiene.specs.Binder.{IsOfOther, IsNew}
-use Rattle.law_hygiene.specs.Marked.{has_mark, StampedWithout, Lacks, Among, Untouched}
-use Rattle.law_hygiene.specs.Marked as marked
+use Rattle.law_hygiene.specs.Marked.{has_mark, StampedWithout, Lacks, Untouched}
+use Rattle.base_data.specs.Elements as elements
 use Rattle.eval_stage.specs.Stage.{PlainStage}
 use Rattle.expand_standing.specs.State.{State, stage_of}
-use Rattle.eval_value.specs.Cells.{Each}
 use Rattle.law_fresh.specs.Leaves.{TreeHolds}
 use Rattle.law_fresh.specs.Below.{mark_named}
 use Rattle.law_fresh.specs.Names.{temporary_context}
@@ -139,7 +139,7 @@ module _ (libs : List LibName) (own : LibName) where
     pub lacks-it : (c : LeafContext) → P n c → Lacks M c
     lacks-it c h = record { marks = lacks-mark c.marks h.marks; stamps = lacks-stamps c.stamps h.stamps }
 
-    both-lack : (xs ys : List LeafContext) → marked.Each (Lacks M) xs → marked.Each (Lacks M) ys → marked.Each (Lacks M) (xs ++ ys)
+    both-lack : (xs ys : List LeafContext) → elements.Each (Lacks M) xs → elements.Each (Lacks M) ys → elements.Each (Lacks M) (xs ++ ys)
     both-lack [] ys h k = k
     both-lack (x ∷ xs) ys h k = (h.0, both-lack xs ys h.1 k)
 
@@ -149,7 +149,7 @@ module _ (libs : List LibName) (own : LibName) where
     new-tree (tree.pair s a d) h = both-lack (contexts a) (contexts d) (new-tree a h.0) (new-tree d h.1)
     new-tree (tree.vector s d) h = new-tree d h
 
-    new-in : (rs : List Row) → Each (λ (r : Row). Each (K n) r.marks) rs → marked.Each (IsOfOther M) rs
+    new-in : (rs : List Row) → Each (λ (r : Row). Each (K n) r.marks) rs → elements.Each (IsOfOther M) rs
     new-in [] h = tt
     new-in (r ∷ rs) h = (lacks-mark r.marks h.0, new-in rs h.1)
 

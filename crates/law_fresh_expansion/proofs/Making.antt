@@ -1,12 +1,11 @@
 -- The stamps of leaves with known marks and frames name frames that were made.
 use Rattle.std.proofs.Common.{ℕ, List, subst, inl, inr}
+use Rattle.base_data.proofs.ElementLemmas.{each-implied}
+use Rattle.base_data.specs.Elements.{Among, Each}
 use Rattle.base_data.specs.declared.library.LibName.{LibName}
 use Rattle.base_data.specs.declared.name.FrameNo.{FrameNo}
 use Rattle.stx_tree.specs.Context.{LeafContext}
 use Rattle.stx_tree.specs.declared.stamp.Stamp.{Stamp}
-use Rattle.law_hygiene.specs.Marked.{Among}
-use Rattle.eval_value.specs.Cells.{Each}
-use Rattle.law_fresh.proofs.Eachs.{each_mapped}
 use Rattle.law_fresh.proofs.Wider.{tree_wider}
 use Rattle.law_fresh_expansion.specs.Known.{IsKnown, IsKnownFrame, IsNewAmong, HasKnown}
 use Rattle.law_fresh_expansion.specs.Made.{IsMade, StampedByMade, StampsAreMade}
@@ -18,7 +17,7 @@ module _ (libs : List LibName) (own : LibName) (n : ℕ) (new : IsNewAmong libs 
 
   pub stamps-made : (c : LeafContext) → HasKnown libs own n c → StampedByMade own n c
   stamps-made c h =
-      each_mapped (λ (t : Stamp). IsKnownFrame libs own n t.frame × Each (IsKnown libs own n) t.marks) (λ (t : Stamp). IsMade own n t.frame) (λ t k. frame-made t.frame k.0) c.stamps h.stamps
+      each-implied (λ (t : Stamp). IsKnownFrame libs own n t.frame × Each (IsKnown libs own n) t.marks) (λ (t : Stamp). IsMade own n t.frame) (λ t k. frame-made t.frame k.0) c.stamps h.stamps
 
 pub are-made : StampsAreMade
 are-made libs own n t new h = tree_wider (HasKnown libs own n) (StampedByMade own n) (stamps-made libs own n new) t h

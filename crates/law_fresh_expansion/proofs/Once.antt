@@ -1,6 +1,8 @@
 -- Each leaf has a history in which no use introduces it twice.
 use Rattle.std.proofs.Common.{◌≡◌, ◌≢◌, ◌≤◌, ◌<◌, ℕ, suc, true, false, List, [], ◌∷◌, ◌++◌, map, Option, None, refl, sym, ap, ◌∙◌, subst, arith, cond, inl, inr}
 use Rattle.std.specs.Prelude.{IsFalse}
+use Rattle.base_data.proofs.ElementLemmas.{each-and, each-implied}
+use Rattle.base_data.specs.Elements.{Among, Each}
 use Rattle.base_data.specs.declared.library.LibName.{LibName}
 use Rattle.base_data.specs.declared.library.LibName.TheVariants as library
 use Rattle.base_data.specs.declared.name.FrameNo.{FrameNo}
@@ -8,14 +10,13 @@ use Rattle.base_data.specs.declared.name.Mark.{Mark}
 use Rattle.stx_tree.specs.Context.{LeafContext, entered, left, act, acts}
 use Rattle.core_quasi.specs.QuasiSyntax.{core_mark}
 use Rattle.law_hygiene.specs.History.{Event, stamped, introduced, change_of, uses, IsOnce}
-use Rattle.law_hygiene.specs.Marked.{has_mark, Among}
+use Rattle.law_hygiene.specs.Marked.{has_mark}
 use Rattle.law_hygiene.proofs.Marking.{same_mark-self, same_mark-differs, lacks_first}
-use Rattle.law_hygiene.proofs.Using.{left_introduced, left_came_in, marks_introduced}
-use Rattle.eval_value.specs.Cells.{Each}
+use Rattle.law_hygiene.proofs.Using.{left_introduced, left_came_in}
+use Rattle.law_hygiene.proofs.Living.{marks_after}
 use Rattle.law_fresh.specs.Leaves.{OptionHolds}
 use Rattle.law_fresh.specs.Below.{mark_named}
 use Rattle.law_fresh.specs.Names.{temporary_context}
-use Rattle.law_fresh.proofs.Eachs.{each_and, each_mapped}
 use Rattle.law_fresh_expansion.specs.Events.{IsEventOf, HasEvents, HasKnownEvents}
 use Rattle.law_fresh_expansion.specs.History.{IsBeginning, HasHistory}
 use Rattle.law_fresh_expansion.specs.Known.{IsKnown, IsKnownFrame, IsNewAmong}
@@ -24,24 +25,6 @@ use Rattle.law_fresh_expansion.proofs.Having.{begins-wider, change-wider, histor
 use Rattle.law_fresh_expansion.proofs.Knowing.{known-later, frame-later, lacks-it}
 
 -- The marks after events that come once are those of the uses.
-
-marks-event : (e : Event) (es : List Event) (c : LeafContext) → IsOnce (e ∷ es) c.marks → (act (change_of e) c).marks ≡ uses (e ∷ []) c.marks
-marks-event (stamped f) es c h = refl
-marks-event (introduced m f) es c h = marks_introduced m f c (lacks_first m c.marks h.0)
-
-uses-event : (e : Event) (es : List Event) (ms : List Mark) → uses (e ∷ es) ms ≡ uses es (uses (e ∷ []) ms)
-uses-event (stamped f) es ms = refl
-uses-event (introduced m f) es ms = refl
-
-once-event : (e : Event) (es : List Event) (ms : List Mark) → IsOnce (e ∷ es) ms → IsOnce es (uses (e ∷ []) ms)
-once-event (stamped f) es ms h = h
-once-event (introduced m f) es ms h = h.1
-
-pub marks-after : (es : List Event) (c : LeafContext) → IsOnce es c.marks → (acts (map change_of es) c).marks ≡ uses es c.marks
-marks-after [] c h = refl
-marks-after (e ∷ es) c h =
-    marks-after es (act (change_of e) c) (subst (IsOnce es) (sym (marks-event e es c h)) (once-event e es c.marks h))
-    ∙ ap (uses es) (marks-event e es c h) ∙ sym (uses-event e es c.marks)
 
 -- One event more.
 
@@ -69,8 +52,8 @@ module _ (K : Mark → Type 0) (J : FrameNo → Type 0) where
     marks = h.marks;
     begins = h.begins;
     events = h.events ++ e ∷ [];
-    are = each_and (IsEventOf K J) h.events e h.are is;
-    once = once-more h.events e h.marks h.once (subst (IsFresh e) (ap (λ (d : LeafContext). d.marks) (sym h.gives) ∙ marks-after h.events (record { marks = h.marks; stamps = [] }) h.once) new);
+    are = each-and (IsEventOf K J) h.events e h.are is;
+    once = once-more h.events e h.marks h.once (subst (IsFresh e) (ap (λ (d : LeafContext). d.marks) (sym h.gives) ∙ marks_after h.events (record { marks = h.marks; stamps = [] }) h.once) new);
     gives = acts-more h.events e (record { marks = h.marks; stamps = [] }) ∙ ap (act (change_of e)) h.gives;
   }
 
@@ -90,7 +73,7 @@ module _ (K K' : Mark → Type 0) (J J' : FrameNo → Type 0) (more : (m : Mark)
     marks = h.marks;
     begins = begins-wider K K' J J' more wide (record { marks = h.marks; stamps = [] }) h.begins;
     events = h.events;
-    are = each_mapped (IsEventOf K J) (IsEventOf K' J') (λ e i. change-wider K K' J J' more wide (change_of e) i) h.events h.are;
+    are = each-implied (IsEventOf K J) (IsEventOf K' J') (λ e i. change-wider K K' J J' more wide (change_of e) i) h.events h.are;
     once = h.once;
     gives = h.gives;
   }

@@ -1,6 +1,8 @@
 -- The literals and the variables of a pattern have the leaves of its form; its variables take names.
 use Rattle.std.proofs.Common.{◌≡◌, ◌≤◌, ℕ, ◌+◌, Bool, true, false, List, [], ◌∷◌, Option, None, Some, Result, Ok, Err, arith, if◌then◌else◌}
+use Rattle.base_data.proofs.ElementLemmas.{each-and}
 use Rattle.base_data.specs.Act.{after}
+use Rattle.base_data.specs.Elements.{Each}
 use Rattle.base_data.specs.Gives.{◌>>=◌}
 use Rattle.base_data.specs.Named.{Named}
 use Rattle.base_data.specs.declared.fault.Fault.{Fault}
@@ -15,10 +17,8 @@ use Rattle.eval_pattern.specs.Compile.{PatternScope, Taken, Element, Walked, is_
 use Rattle.eval_pattern.specs.Keywords.{is_form}
 use Rattle.eval_pattern.specs.declared.compile.Compiled.{Compiled}
 use Rattle.eval_pattern.specs.declared.compile.PatternVariable.{PatternVariable}
-use Rattle.eval_value.specs.Cells.{Each}
 use Rattle.law_fresh.specs.Leaves.{TreeHolds, PatternHolds, PatternsHold}
 use Rattle.law_fresh.specs.Leaves.{OptionHolds}
-use Rattle.law_fresh.proofs.Eachs.{each_and}
 
 -- the type of the parts so far, which its crate keeps to itself
 abbrev Given : {A B : Type 0} → (A → B) → Type 0
@@ -76,15 +76,15 @@ module _ (P : LeafContext → Type 0) (own : LibName) where
   parts-hold x h = on-hold x.before (dots_of x.repeated x.after) h.0 (dots-hold x.repeated x.after h.1.0 h.1.1)
 
   with-part-holds : (o : Option PlainPattern) (x : PatternParts) (p : PlainPattern) → PartsHold x → PatternHolds P p → PartsHold (with_part o x p)
-  with-part-holds None x p h k = (each_and (PatternHolds P) x.before p h.0 k, h.1)
-  with-part-holds (Some r) x p h k = (h.0, (h.1.0, each_and (PatternHolds P) x.after p h.1.1 k))
+  with-part-holds None x p h k = (each-and (PatternHolds P) x.before p h.0 k, h.1)
+  with-part-holds (Some r) x p h k = (h.0, (h.1.0, each-and (PatternHolds P) x.after p h.1.1 k))
 
   abbrev IsElement : Element → Type 0
   IsElement x = (depth : ℕ) (n : ℕ) (s : Taken) → TakenFrom n s → GaveBy (PatternFrom n) (x.1 depth s)
 
   module _ (c : PatternScope) where
     variable-holds : (t : Tree) (depth n : ℕ) (s : Taken) → T t → TakenFrom n s → GaveBy (PatternFrom n) (new_variable c.place t depth s)
-    variable-holds t depth n s g h = by-if (PatternFrom n) (is_known s.0 t) _ _ tt (tt, (each_and VariableHolds s.0 (named s.1 t depth) h.0 g, (h.1.0, omega (arith, h.1.1))))
+    variable-holds t depth n s g h = by-if (PatternFrom n) (is_known s.0 t) _ _ tt (tt, (each-and VariableHolds s.0 (named s.1 t depth) h.0 g, (h.1.0, omega (arith, h.1.1))))
 
     leaf-holds : (t : Tree) (depth n : ℕ) (s : Taken) → T t → TakenFrom n s → GaveBy (PatternFrom n) (leaf_pattern c t depth s)
     leaf-holds t depth n s g h =

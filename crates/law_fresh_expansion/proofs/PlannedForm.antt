@@ -1,6 +1,7 @@
 -- Uses in forms are expanded, and all forms keep that all in the state of an expansion may be met.
 use Rattle.std.proofs.Common.{ℕ, zero, suc, Bool, true, false, List, Option, None, Some, arith}
 use Rattle.std.specs.Prelude.{nat_lt}
+use Rattle.base_data.proofs.ElementLemmas.{each-and}
 use Rattle.base_data.specs.Act.{after, give}
 use Rattle.base_data.specs.declared.library.LibName.{LibName}
 use Rattle.base_data.specs.declared.name.FrameNo.{FrameNo}
@@ -46,7 +47,6 @@ use Rattle.expand_forms.specs.Site.{site_at}
 use Rattle.expand_forms.specs.Forms.{definition_parts, let_syntax_parts}
 use Rattle.expand_forms.proofs.Linked.{linked-keeps}
 use Rattle.law_fresh.specs.Leaves.{OptionHolds}
-use Rattle.law_fresh.proofs.Eachs.{each_and}
 use Rattle.law_fresh_expansion.specs.Living.{Lives}
 use Rattle.law_fresh_expansion.specs.States.{RecordsHold}
 use Rattle.law_fresh_expansion.proofs.Forms.{KeepsFresh, splice-holds, case-holds, lambda-holds, case-lambda-holds, letrec-holds, application-holds, conditional-holds, set-holds, in-sequence-holds, syntax-case-holds, keyword-holds, with-keywords-holds, keywords-form-holds}
@@ -124,7 +124,7 @@ module _ (own : LibName) (K : ℕ → Mark → Type 0) (J : ℕ → FrameNo → 
 
     set-item-holds : (at : BodyAt) (depth : ℕ) (d : Taken) (t : Tree) (l : Label) (b : Bool) (s : State) → (F own K J P lives first) s → (TakenAt own K J P lives first) s.names.number d → (T own K J P lives first) s.names.number t → (Gave own K J P lives first) ItemStepAt s (set_item_step at depth d t l b s)
     set-item-holds at depth d t l true s h k g = ((state-self own K J P lives first) s h, k)
-    set-item-holds at depth d t l false s h k g = ((state-self own K J P lives first) s h, (each_and ((WaitingAt own K J P lives first) s.names.number) d.waiting (waiting_at at depth (waits.Expression t)) k g, tt))
+    set-item-holds at depth d t l false s h k g = ((state-self own K J P lives first) s h, (each-and ((WaitingAt own K J P lives first) s.names.number) d.waiting (waiting_at at depth (waits.Expression t)) k g, tt))
 
     item-step-of-holds : (at : BodyAt) (depth : ℕ) (t : Tree) (d : Taken) (i : HeadItem) (s : State) → (F own K J P lives first) s → (TakenAt own K J P lives first) s.names.number d → (T own K J P lives first) s.names.number t → (HeadItemAt own K J P lives first) s.names.number i → (Gave own K J P lives first) ItemStepAt s (item_step_of rs at depth t d i s)
     item-step-of-holds at depth t d (head_items.Use k) s h j g y = ((state-self own K J P lives first) s h, j)

@@ -4,10 +4,13 @@ use Rattle.std.specs.BTreeMap.{insert_entry}
 use Rattle.std.specs.Ordering.{nat_cmp, match_ordering}
 use Rattle.std.specs.declared.cmp.Ordering.{Ordering}
 use Rattle.std.specs.declared.cmp.Ordering.TheVariants as ordering
+use Rattle.base_data.proofs.ElementLemmas.{each-append, each-implied}
 use Rattle.base_data.specs.Act.{after, give}
+use Rattle.base_data.specs.Elements.{Among, Each}
 use Rattle.base_data.specs.Named.{Named}
 use Rattle.base_data.specs.Same.{same_library}
 use Rattle.base_data.specs.declared.fault.Fault.{Fault}
+use Rattle.base_data.specs.declared.imported_name.ImportedName.{ImportedName}
 use Rattle.base_data.specs.declared.library.LibName.{LibName}
 use Rattle.base_data.specs.declared.name.FrameNo.{FrameNo}
 use Rattle.base_data.specs.declared.name.Label.{Label}
@@ -28,7 +31,6 @@ use Rattle.core_language.specs.declared.binding.Binding.TheVariants as binding
 use Rattle.core_language.specs.declared.record.CompiledLibrary.{CompiledLibrary}
 use Rattle.core_records.specs.Frame.{rows_for, introduced_numbers, record_frame}
 use Rattle.eval_code.specs.Codes.{Codes}
-use Rattle.law_hygiene.specs.Marked.{Among}
 use Rattle.eval_stage.specs.Stage.{keyword_at, expression_in, expression_of}
 use Rattle.eval_stage.specs.declared.keyword.Keyword.{Keyword}
 use Rattle.eval_stage.specs.declared.keyword.Keyword.TheVariants as keyword
@@ -37,7 +39,6 @@ use Rattle.expand_standing.specs.Start.{bindings_of, rows_of, first_frame, impor
 use Rattle.expand_standing.specs.State.{State, stage_of}
 use Rattle.expand_heads.specs.Items.{begun}
 use Rattle.expand_heads.specs.declared.taken.Taken.{Taken}
-use Rattle.eval_value.specs.Cells.{Each}
 use Rattle.expand_forms.specs.Body.{finish_all}
 use Rattle.expand_forms.specs.Expanding.{ready, body_of, library_record}
 use Rattle.expand_forms.specs.Expression.{inside, full_room}
@@ -45,7 +46,6 @@ use Rattle.expand_forms.specs.Inside.{Inside}
 use Rattle.expand_forms.specs.Top.{stands_for, export, all_exports, exports, give_record, record_in, body_at, second_pass, first_pass, top}
 use Rattle.expand_forms.specs.declared.top.TopAt.{TopAt}
 use Rattle.law_fresh.specs.Leaves.{OptionHolds, TreeHolds, CodesHold, LineHolds, LinesHold}
-use Rattle.law_fresh.proofs.Eachs.{each_both, each_mapped}
 use Rattle.law_fresh.proofs.Variables.{looked_up}
 use Rattle.law_fresh.proofs.Wider.{tree_wider, codes_wider, lines_wider}
 use Rattle.law_fresh_expansion.specs.Events.{HasEvents, EventsStay}
@@ -101,7 +101,7 @@ module _ (K : Mark → Type 0) where
 
   joined-ok : (ps : List (ℕ × List FrameRow)) → PlacesOk ps → Each RowOk (joined ps)
   joined-ok [] h = tt
-  joined-ok (p ∷ ps) h = each_both RowOk p.1 (joined ps) h.0 (joined-ok ps h.1)
+  joined-ok (p ∷ ps) h = each-append RowOk p.1 (joined ps) h.0 (joined-ok ps h.1)
 
   pub rows-in-ok : (l : LibName) (fs : Scope) → RowsHold K fs → Each RowOk (rows_in l fs)
   rows-in-ok l fs h = joined-ok (placed l fs) (placed-ok l fs h)
@@ -115,7 +115,7 @@ module _ (K : Mark → Type 0) where
   unfolding record_frame
   record-frame-ok = core-rows-ok introduced_numbers
 
-  pub import-rows-ok : (f : FrameNo) (is : List (List ℕ × Label)) → Each RowOk (map (import_row f) is)
+  pub import-rows-ok : (f : FrameNo) (is : List ImportedName) → Each RowOk (map (import_row f) is)
   import-rows-ok f [] = tt
   import-rows-ok f (i ∷ is) = (tt, import-rows-ok f is)
 
@@ -155,7 +155,7 @@ module _ (own : LibName) (K : ℕ → Mark → Type 0) (J : ℕ → FrameNo → 
   below-holds : (s : State) (n : ℕ) → (F own K J P lives first) s → BindingsHold (P s.names.number) (own_below s n)
   below-holds s zero h = tt
   below-holds s (suc n) h =
-      each_both (λ (b : Label × Binding). BindingHolds (P s.names.number) b.1) (own_below s n) (own_row s n) (below-holds s n h) (row-at-holds s (own_label s n) (bound_to s.bindings (own_label s n)) h)
+      each-append (λ (b : Label × Binding). BindingHolds (P s.names.number) b.1) (own_below s n) (own_row s n) (below-holds s n h) (row-at-holds s (own_label s n) (bound_to s.bindings (own_label s n)) h)
 
   own-holds : (s : State) → (F own K J P lives first) s → BindingsHold (P s.names.number) (own_bindings s)
   unfolding own_bindings
@@ -178,7 +178,7 @@ module _ (own : LibName) (K : ℕ → Mark → Type 0) (J : ℕ → FrameNo → 
   pub exports-hold : (at : TopAt) (es : List (List ℕ × Tree)) (s : State) → (F own K J P lives first) s → (Gave own K J P lives first) Any s (exports at es s)
   unfolding exports
   exports-hold at es s h =
-      (gave-after own K J P lives first) (λ n ls. Each (λ (l : List ℕ × Label). Unit {0}) ls) Any s (all_exports at es s) (λ ls s'. after (export_labels ls s') (λ _. give ls))
+      (gave-after own K J P lives first) (λ n ls. Each (λ (l : ImportedName). Unit {0}) ls) Any s (all_exports at es s) (λ ls s'. after (export_labels ls s') (λ _. give ls))
       ((gave-each own K J P lives first) (λ n e. Unit {0}) (λ n l. Unit {0}) (λ m n le e k. tt) (λ m n le l k. tt) (export at) (λ e t i j. export-holds at e t i) [] es s h tt (no-leaves es))
       (λ ls u i y. let j = (state-self own K J P lives first) u ((state-then own K J P lives first) s u h i) in (record { stage = j.stage; bindings = j.bindings }, tt))
 
@@ -220,15 +220,15 @@ module _ (own : LibName) (records : List CompiledLibrary) where
     Pn n c = KnownBy Q L own n c
 
     known-marks : (n : ℕ) (ms : List Mark) → Each (IsOfOne L) ms → Each (Kn n) ms
-    known-marks n ms h = each_mapped (IsOfOne L) (Kn n) (λ m k. inl k) ms h
+    known-marks n ms h = each-implied (IsOfOne L) (Kn n) (λ m k. inl k) ms h
 
     own-marks : (n : ℕ) (ms : List Mark) → Each (Kn n) ms → Each (IsOfOne (own ∷ L)) ms
-    own-marks n ms h = each_mapped (Kn n) (IsOfOne (own ∷ L)) (λ m k. own-or n m.0 k) ms h
+    own-marks n ms h = each-implied (Kn n) (IsOfOne (own ∷ L)) (λ m k. own-or n m.0 k) ms h
 
     -- what the records before bind, their lines, their rows
     all-bindings : (rs : List CompiledLibrary) → Each (RecordHasOnly Q L) rs → BindingsHold (Pn 1) (bindings_of rs)
     all-bindings [] h = tt
-    all-bindings (r ∷ rs) h = each_both (λ (b : Label × Binding). BindingHolds (Pn 1) b.1) r.bindings (bindings_of rs) (bindings-wider (HasOnly Q L) (Pn 1) (as-known 1) r.bindings h.0.bindings) (all-bindings rs h.1)
+    all-bindings (r ∷ rs) h = each-append (λ (b : Label × Binding). BindingHolds (Pn 1) b.1) r.bindings (bindings_of rs) (bindings-wider (HasOnly Q L) (Pn 1) (as-known 1) r.bindings h.0.bindings) (all-bindings rs h.1)
 
     all-lines : (rs : List CompiledLibrary) → Each (RecordHasOnly Q L) rs → RecordsHold (Pn 1) rs
     all-lines [] h = tt
@@ -237,10 +237,10 @@ module _ (own : LibName) (records : List CompiledLibrary) where
     all-rows : (rs : List CompiledLibrary) → Each (RecordHasOnly Q L) rs → Each (λ (f : FrameRow). Each (Kn 1) f.marks) (rows_of rs)
     all-rows [] h = tt
     all-rows (r ∷ rs) h =
-        each_both (λ (f : FrameRow). Each (Kn 1) f.marks) r.frames (rows_of rs)
-        (each_mapped (λ (f : FrameRow). Each (IsOfOne L) f.marks) (λ (f : FrameRow). Each (Kn 1) f.marks) (λ f k. known-marks 1 f.marks k) r.frames h.0.frames) (all-rows rs h.1)
+        each-append (λ (f : FrameRow). Each (Kn 1) f.marks) r.frames (rows_of rs)
+        (each-implied (λ (f : FrameRow). Each (IsOfOne L) f.marks) (λ (f : FrameRow). Each (Kn 1) f.marks) (λ f k. known-marks 1 f.marks k) r.frames h.0.frames) (all-rows rs h.1)
 
-    module _ (imports : List (List ℕ × Label)) (codes : Codes) (only : Each (RecordHasOnly Q L) records) (texts : CodesHold (HasOnly Q L) codes) where
+    module _ (imports : List ImportedName) (codes : Codes) (only : Each (RecordHasOnly Q L) records) (texts : CodesHold (HasOnly Q L) codes) where
       start-holds : FreshStateHolds own Kn Pn 1 (started own records imports codes)
       unfolding started
       start-holds = record {
@@ -248,8 +248,8 @@ module _ (own : LibName) (records : List CompiledLibrary) where
           up = omega arith;
           library = refl;
           frames = adopted-holds (Kn 1) [] (rows_of records ++ (record_frame ++ map (import_row (first_frame own)) imports)) tt
-              (each_both (λ (f : FrameRow). Each (Kn 1) f.marks) (rows_of records) (record_frame ++ map (import_row (first_frame own)) imports) (all-rows records only)
-              (each_both (λ (f : FrameRow). Each (Kn 1) f.marks) record_frame (map (import_row (first_frame own)) imports) (record-frame-ok (Kn 1)) (import-rows-ok (Kn 1) (first_frame own) imports)));
+              (each-append (λ (f : FrameRow). Each (Kn 1) f.marks) (rows_of records) (record_frame ++ map (import_row (first_frame own)) imports) (all-rows records only)
+              (each-append (λ (f : FrameRow). Each (Kn 1) f.marks) record_frame (map (import_row (first_frame own)) imports) (record-frame-ok (Kn 1)) (import-rows-ok (Kn 1) (first_frame own) imports)));
           cells = tt;
           codes = codes_wider (HasOnly Q L) (Pn 1) (as-known 1) codes texts;
           globals = tt;
@@ -271,7 +271,7 @@ module _ (own : LibName) (records : List CompiledLibrary) where
       read-holds n c e = subst (Pn n) (sym e) (rise own Kn Jn Pn lives 0 n (omega arith) blank lives.read)
 
       forms-hold : (n : ℕ) (ts : List Tree) → Each WasRead ts → Each (TreeHolds (Pn n)) ts
-      forms-hold n ts h = each_mapped WasRead (TreeHolds (Pn n)) (λ t k. tree_wider (λ c. c ≡ blank) (Pn n) (read-holds n) t k) ts h
+      forms-hold n ts h = each-implied WasRead (TreeHolds (Pn n)) (λ t k. tree_wider (λ c. c ≡ blank) (Pn n) (read-holds n) t k) ts h
 
       of-record : (r : CompiledLibrary) (q : Result (CompiledLibrary × State) Fault) → Gave own Kn Jn Pn lives 1 (RecordAt own Kn Jn Pn lives 1) (started own records imports codes) q → record_in q ≡ Ok r → RecordHasOnly Q (own ∷ L) r
       of-record r (Err f) h e = absurd (cc)
@@ -281,7 +281,7 @@ module _ (own : LibName) (records : List CompiledLibrary) where
           subst (RecordHasOnly Q (own ∷ L)) is (record {
             run = lines_wider (Pn n) (HasOnly Q (own ∷ L)) (as-only n) p.0.run h.1.run;
             bindings = bindings-wider (Pn n) (HasOnly Q (own ∷ L)) (as-only n) p.0.bindings h.1.bindings;
-            frames = each_mapped (λ (f : FrameRow). Each (Kn n) f.marks) (λ (f : FrameRow). Each (IsOfOne (own ∷ L)) f.marks) (λ f k. own-marks n f.marks k) p.0.frames h.1.frames;
+            frames = each-implied (λ (f : FrameRow). Each (Kn n) f.marks) (λ (f : FrameRow). Each (IsOfOne (own ∷ L)) f.marks) (λ f k. own-marks n f.marks k) p.0.frames h.1.frames;
           })
 
       pub record-law : (path version : List ℕ) (place : Span) (es : List (List ℕ × Tree)) (forms : List Tree) (r : CompiledLibrary) → Each WasRead forms

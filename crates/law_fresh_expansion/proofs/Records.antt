@@ -1,5 +1,7 @@
 -- What record forms stand for has the leaves of the form, and those that such forms introduce.
 use Rattle.std.proofs.Common.{ℕ, ◌+◌, Bool, List, [], ◌∷◌, ◌++◌, Option, None, Some, Ok, Err, codes}
+use Rattle.base_data.proofs.ElementLemmas.{each-and}
+use Rattle.base_data.specs.Elements.{Each}
 use Rattle.base_data.specs.Gives.{◌>>=◌}
 use Rattle.base_data.specs.declared.span.Span.{Span}
 use Rattle.stx_tree.specs.Context.{LeafContext, blank}
@@ -23,10 +25,8 @@ use Rattle.core_records.specs.declared.clause.RecordClause.TheVariants as clause
 use Rattle.core_records.specs.declared.clause.Uid.{Uid}
 use Rattle.core_records.specs.declared.clause.Uid.TheVariants as uid
 use Rattle.core_records.specs.declared.names.RecordNames.{RecordNames}
-use Rattle.eval_value.specs.Cells.{Each}
 use Rattle.law_fresh.specs.Leaves.{TreeHolds}
 use Rattle.law_fresh.specs.Leaves.{OptionHolds}
-use Rattle.law_fresh.proofs.Eachs.{each_and}
 use Rattle.law_fresh.proofs.Trees.{OkHolds, list_of_holds, vector_of_holds, within_holds}
 use Rattle.law_fresh_expansion.proofs.Shapes.{then-holds, some-holds, if-holds, all-of-holds, proper-holds}
 
@@ -237,7 +237,7 @@ module _ (P : LeafContext → Type 0) (written : P blank) (by_records : P (recor
 
   entries-good : (done : List Tree) (fs : List Field) → Ts done → Each FieldHolds fs → RowGood (field_entries done fs)
   entries-good done [] h k = h
-  entries-good done (f ∷ fs) h k = then-holds T Ts (field_entry f) (λ t. field_entries (done ++ t ∷ []) fs) (entry-good f k.0) (λ t j. entries-good (done ++ t ∷ []) fs (each_and T done t h j) k.1)
+  entries-good done (f ∷ fs) h k = then-holds T Ts (field_entry f) (λ t. field_entries (done ++ t ∷ []) fs) (entry-good f k.0) (λ t j. entries-good (done ++ t ∷ []) fs (each-and T done t h j) k.1)
 
   no-fields : (o : Option (List Field)) → OptionHolds (Each FieldHolds) o → Each FieldHolds (or_no_fields o)
   no-fields None h = tt
@@ -357,11 +357,11 @@ module _ (P : LeafContext → Type 0) (written : P blank) (by_records : P (recor
 
   with-mutator-good : (k : ℕ) (done : List Tree) (o : Option Tree) → Ts done → OptionHolds T o → RowGood (with_mutator k done o)
   with-mutator-good k done None h j = h
-  with-mutator-good k done (Some put) h j = then-holds T Ts (mutator_definition k put) (λ t. Ok (done ++ t ∷ [])) (mutator-good k put j) (λ t g. each_and T done t h g)
+  with-mutator-good k done (Some put) h j = then-holds T Ts (mutator_definition k put) (λ t. Ok (done ++ t ∷ [])) (mutator-good k put j) (λ t g. each-and T done t h g)
 
   with-field-good : (k : ℕ) (done : List Tree) (f : Field) → Ts done → FieldHolds f → RowGood (with_field k done f)
   with-field-good k done f h j =
-      then-holds T Ts (accessor_definition k f.accessor) (λ t. with_mutator k (done ++ t ∷ []) f.mutator) (accessor-good k f.accessor j.1.0) (λ t g. with-mutator-good k (done ++ t ∷ []) f.mutator (each_and T done t h g) j.1.1)
+      then-holds T Ts (accessor_definition k f.accessor) (λ t. with_mutator k (done ++ t ∷ []) f.mutator) (accessor-good k f.accessor j.1.0) (λ t g. with-mutator-good k (done ++ t ∷ []) f.mutator (each-and T done t h g) j.1.1)
 
   with-fields-good : (k : ℕ) (done : List Tree) (fs : List Field) → Ts done → Each FieldHolds fs → RowGood (with_fields k done fs)
   with-fields-good k done [] h j = h

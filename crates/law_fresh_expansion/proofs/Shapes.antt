@@ -1,5 +1,6 @@
 -- The parts of a form that a shape gives have the leaves of the form.
 use Rattle.std.proofs.Common.{List}
+use Rattle.base_data.specs.Elements.{Each}
 use Rattle.base_data.specs.declared.span.Span.{Span}
 use Rattle.stx_tree.specs.Context.{LeafContext}
 use Rattle.stx_tree.specs.Tree.{Tree}
@@ -11,7 +12,6 @@ use Rattle.core_shapes.specs.declared.shape.FormalIds.{FormalIds}
 use Rattle.core_shapes.specs.declared.shape.LambdaCase.{LambdaCase}
 use Rattle.core_shapes.specs.declared.shape.PatternCase.{PatternCase}
 use Rattle.core_shapes.specs.declared.shape.Shape.{Shape}
-use Rattle.eval_value.specs.Cells.{Each}
 use Rattle.law_invariant_expansion.proofs.Shapes as shapes
 use Rattle.law_fresh.specs.Leaves.{OptionHolds, TreeHolds, leaves}
 use Rattle.law_fresh.proofs.Closed.{leaves-closed}

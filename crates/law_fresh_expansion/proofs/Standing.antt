@@ -1,6 +1,8 @@
 -- What binds, uses and compiles in an expansion keeps that all in its state may be met.
 use Rattle.std.proofs.Common.{◌≤◌, ◌<◌, ◌+◌, ℕ, Bool, true, false, List, [], ◌∷◌, ◌++◌, length, Option, None, Some, Result, Ok, Err, sym, arith, subst, if◌then◌else◌}
+use Rattle.base_data.proofs.ElementLemmas.{each-and, each-implied}
 use Rattle.base_data.specs.Act.{after, give, each, gather}
+use Rattle.base_data.specs.Elements.{Each}
 use Rattle.base_data.specs.Named.{Named}
 use Rattle.base_data.specs.declared.fault.Bare.{Bare}
 use Rattle.base_data.specs.declared.fault.Fault.{Fault}
@@ -48,11 +50,9 @@ use Rattle.expand_standing.specs.Uses.{macro_expression, use_keyword, asks_varia
 use Rattle.expand_standing.specs.declared.binders.BoundSpec.{BoundSpec}
 use Rattle.expand_standing.proofs.Noted.{noted-keeps}
 use Rattle.eval_template.specs.Compile as templates
-use Rattle.eval_value.specs.Cells.{Each}
 use Rattle.law_fresh.specs.Below.{mark_named}
 use Rattle.law_fresh.specs.Leaves.{TreeHolds, CoreHolds, TemplateHolds, PatternHolds}
 use Rattle.law_fresh.specs.Leaves.{OptionHolds}
-use Rattle.law_fresh.proofs.Eachs.{each_and, each_mapped}
 use Rattle.law_fresh.proofs.Trees.{OkHolds}
 use Rattle.law_fresh.proofs.Variables.{looked_up}
 use Rattle.law_fresh.proofs.Wider.{tree_wider, core_wider}
@@ -74,7 +74,7 @@ binding-wider P Q k (binding.Core f) h = tt
 binding-wider P Q k (binding.Primitive op) h = tt
 
 pub bindings-wider : (P Q : LeafContext → Type 0) → ((c : LeafContext) → P c → Q c) → (bs : List (Label × Binding)) → BindingsHold P bs → BindingsHold Q bs
-bindings-wider P Q k bs h = each_mapped (λ (b : Label × Binding). BindingHolds P b.1) (λ (b : Label × Binding). BindingHolds Q b.1) (λ b j. binding-wider P Q k b.1 j) bs h
+bindings-wider P Q k bs h = each-implied (λ (b : Label × Binding). BindingHolds P b.1) (λ (b : Label × Binding). BindingHolds Q b.1) (λ b j. binding-wider P Q k b.1 j) bs h
 
 module _ (own : LibName) (K : ℕ → Mark → Type 0) (J : ℕ → FrameNo → Type 0) (P : ℕ → LeafContext → Type 0) (lives : Lives own K J P) (first : ℕ) where
   abbrev pub F : State → Type 0
@@ -100,7 +100,7 @@ module _ (own : LibName) (K : ℕ → Mark → Type 0) (J : ℕ → FrameNo → 
   tree-up m n le t h = tree_wider (P m) (P n) (up m n le) t h
 
   pub trees-up : (m n : ℕ) → m ≤ n → (ts : List Tree) → Ts m ts → Ts n ts
-  trees-up m n le ts h = each_mapped (T m) (T n) (tree-up m n le) ts h
+  trees-up m n le ts h = each-implied (T m) (T n) (tree-up m n le) ts h
 
   pub core-up : (m n : ℕ) → m ≤ n → (c : PlainCore) → C m c → C n c
   core-up m n le c h = core_wider (P m) (P n) (up m n le) c h
@@ -150,8 +150,8 @@ module _ (own : LibName) (K : ℕ → Mark → Type 0) (J : ℕ → FrameNo → 
   gave-each {X} {Y} Q W q-up w-up step one done (x ∷ xs) s h d k =
       gave-after W (λ n ys. Each (W n) ys) s (step x s) (λ a. each step (done ++ a ∷ []) xs) (one x s h k.0)
       (λ a t i y. gave-each Q W q-up w-up step one (done ++ a ∷ []) xs t (state-then s t h i)
-      (each_and (W t.names.number) done a (each_mapped (W s.names.number) (W t.names.number) (w-up s.names.number t.names.number i.stage.up) done d) y)
-      (each_mapped (Q s.names.number) (Q t.names.number) (q-up s.names.number t.names.number i.stage.up) xs k.1))
+      (each-and (W t.names.number) done a (each-implied (W s.names.number) (W t.names.number) (w-up s.names.number t.names.number i.stage.up) done d) y)
+      (each-implied (Q s.names.number) (Q t.names.number) (q-up s.names.number t.names.number i.stage.up) xs k.1))
 
   pub gave-gather : {X D : Type 0} (Q : ℕ → X → Type 0) (W : ℕ → D → Type 0) → ((m n : ℕ) → m ≤ n → (x : X) → Q m x → Q n x) → (step : D → X → Does D)
       → ((d : D) (x : X) (s : State) → F s → W s.names.number d → Q s.names.number x → Gave W s (step d x s)) → (d : D) (xs : List X) (s : State) → F s → W s.names.number d → Each (Q s.names.number) xs
@@ -160,7 +160,7 @@ module _ (own : LibName) (K : ℕ → Mark → Type 0) (J : ℕ → FrameNo → 
   gave-gather Q W q-up step one d [] s h w k = (state-self s h, w)
   gave-gather {X} {D} Q W q-up step one d (x ∷ xs) s h w k =
       gave-after W W s (step d x s) (λ e. gather step e xs) (one d x s h w k.0)
-      (λ e t i y. gave-gather Q W q-up step one e xs t (state-then s t h i) y (each_mapped (Q s.names.number) (Q t.names.number) (q-up s.names.number t.names.number i.stage.up) xs k.1))
+      (λ e t i y. gave-gather Q W q-up step one e xs t (state-then s t h i) y (each-implied (Q s.names.number) (Q t.names.number) (q-up s.names.number t.names.number i.stage.up) xs k.1))
 
   -- what comes into scope goes
   pub gave-within : {A : Type 0} (W : ℕ → A → Type 0) (m : Does A) (s : State) → Gave W s (m s) → Gave W s (within m s)
@@ -211,7 +211,7 @@ module _ (own : LibName) (K : ℕ → Mark → Type 0) (J : ℕ → FrameNo → 
   put-variable-holds l v s h = (
     record {
       stage = let g = stage-self own K J P lives first (stage_of s) h.stage in record { up = g.up; library = g.library; frames = g.frames; cells = g.cells; codes = g.codes; globals = g.globals; keywords = g.keywords };
-      bindings = each_and (λ (b : Label × Binding). BindingHolds (P s.names.number) b.1) s.bindings (l, binding.Variable v) h.bindings tt;
+      bindings = each-and (λ (b : Label × Binding). BindingHolds (P s.names.number) b.1) s.bindings (l, binding.Variable v) h.bindings tt;
     },
     tt,
   )
@@ -281,7 +281,7 @@ module _ (own : LibName) (K : ℕ → Mark → Type 0) (J : ℕ → FrameNo → 
   put-keyword-holds l level s h = (
     record {
       stage = let g = stage-self own K J P lives first (stage_of s) h.stage in record { up = g.up; library = g.library; frames = g.frames; cells = g.cells; codes = g.codes; globals = g.globals; keywords = g.keywords };
-      bindings = each_and (λ (b : Label × Binding). BindingHolds (P s.names.number) b.1) s.bindings (l, binding.Macro level None) h.bindings tt;
+      bindings = each-and (λ (b : Label × Binding). BindingHolds (P s.names.number) b.1) s.bindings (l, binding.Macro level None) h.bindings tt;
     },
     tt,
   )
@@ -441,7 +441,7 @@ module _ (own : LibName) (K : ℕ → Mark → Type 0) (J : ℕ → FrameNo → 
   put-pattern-variable-holds l level depth s h = (
     record {
       stage = let g = stage-self own K J P lives first (stage_of s) h.stage in record { up = g.up; library = g.library; frames = g.frames; cells = g.cells; codes = g.codes; globals = g.globals; keywords = g.keywords };
-      bindings = each_and (λ (b : Label × Binding). BindingHolds (P s.names.number) b.1) s.bindings (l, binding.PatternVariable level depth) h.bindings tt;
+      bindings = each-and (λ (b : Label × Binding). BindingHolds (P s.names.number) b.1) s.bindings (l, binding.PatternVariable level depth) h.bindings tt;
     },
     tt,
   )

@@ -1,6 +1,7 @@
 -- The mark that a use takes is new.
 use Rattle.std.proofs.Common.{◌≡◌, ℕ, List, Option, Result, Ok, refl, ap, subst}
 use Rattle.base_data.specs.Act.{after}
+use Rattle.base_data.specs.Elements.{Among}
 use Rattle.base_data.specs.declared.fault.Fault.{Fault}
 use Rattle.base_data.specs.declared.library.LibName.{LibName}
 use Rattle.base_data.specs.declared.library.LibName.TheVariants as library
@@ -13,7 +14,7 @@ use Rattle.stx_tree.specs.Tree.{Tree}
 use Rattle.core_language.specs.Core.{PlainCore}
 use Rattle.core_language.specs.declared.core_form.CoreForm.{CoreForm}
 use Rattle.core_language.specs.declared.record.CompiledLibrary.{CompiledLibrary}
-use Rattle.law_hygiene.specs.Marked.{Among, Untouched}
+use Rattle.law_hygiene.specs.Marked.{Untouched}
 use Rattle.eval_stage.specs.Stage.{PlainStage, fresh_mark, name_after}
 use Rattle.eval_stage.specs.Transformers.{keyword_value}
 use Rattle.eval_stage.specs.Uses.{used, transform_marked}

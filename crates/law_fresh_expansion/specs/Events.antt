@@ -1,16 +1,15 @@
 -- The history of a leaf by its uses: what it was made as, which uses introduced it since, each once, and the frames that it was stamped with.
 use Rattle.std.specs.Prelude.{◌≡◌, ℕ, List, []}
+use Rattle.base_data.specs.Elements.{Among, Each}
+use Rattle.base_data.specs.declared.imported_name.ImportedName.{ImportedName}
 use Rattle.base_data.specs.declared.library.LibName.{LibName}
 use Rattle.base_data.specs.declared.library.LibName.TheVariants as library
 use Rattle.base_data.specs.declared.name.FrameNo.{FrameNo}
-use Rattle.base_data.specs.declared.name.Label.{Label}
 use Rattle.base_data.specs.declared.name.Mark.{Mark}
 use Rattle.stx_tree.specs.Context.{LeafContext}
 use Rattle.core_language.specs.declared.record.CompiledLibrary.{CompiledLibrary}
 use Rattle.eval_code.specs.Codes.{Codes}
 use Rattle.law_hygiene.specs.History.{Event, change_of, IsOnce, after}
-use Rattle.law_hygiene.specs.Marked.{Among}
-use Rattle.eval_value.specs.Cells.{Each}
 use Rattle.expand_standing.specs.Start.{started}
 use Rattle.expand_forms.specs.Expression.{inside}
 use Rattle.expand_forms.specs.Inside.{Inside}
@@ -47,7 +46,7 @@ pub record EventsStay : Type 0 where
       → KeepsFresh own (IsKnown libs own) (IsKnownFrame libs own) (HasKnownEvents libs own) (around go)
   pub inside_keeps : (libs : List LibName) (own : LibName) (records : List CompiledLibrary) (room : ℕ) → Among libs library.Core → IsNewAmong libs own
       → KeepsFresh own (IsKnown libs own) (IsKnownFrame libs own) (HasKnownEvents libs own) (inside records room)
-  pub starts : (own : LibName) (records : List CompiledLibrary) (imports : List (List ℕ × Label)) (codes : Codes) → IsNewAmong (libraries_of records) own
+  pub starts : (own : LibName) (records : List CompiledLibrary) (imports : List ImportedName) (codes : Codes) → IsNewAmong (libraries_of records) own
       → Each (RecordHasOnly HasEvents (libraries_of records)) records → CodesHold (HasOnly HasEvents (libraries_of records)) codes
       → FreshStateHolds own (IsKnown (libraries_of records) own) (HasKnownEvents (libraries_of records) own)
       (started own records imports codes).names.number (started own records imports codes)

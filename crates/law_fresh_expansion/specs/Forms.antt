@@ -1,5 +1,6 @@
 -- Forms, and what was taken of a body so far, in which all leaves may be met.
 use Rattle.std.specs.Prelude.{List}
+use Rattle.base_data.specs.Elements.{Each}
 use Rattle.stx_tree.specs.Context.{LeafContext}
 use Rattle.stx_tree.specs.Tree.{Tree}
 use Rattle.core_shapes.specs.declared.shape.FormalIds.{FormalIds}
@@ -7,7 +8,6 @@ use Rattle.expand_heads.specs.declared.taken.Taken.{Taken}
 use Rattle.expand_heads.specs.declared.taken.Waiting.{Waiting}
 use Rattle.expand_heads.specs.declared.taken.Waits.{Waits}
 use Rattle.expand_heads.specs.declared.taken.Waits.TheVariants as waits
-use Rattle.eval_value.specs.Cells.{Each}
 use Rattle.law_fresh.specs.Leaves.{OptionHolds, TreeHolds}
 
 module _ (P : LeafContext → Type 0) where

@@ -1,11 +1,11 @@
 -- The history of a leaf: what it was made as, and the changes since then, to enter, to leave and to stamp.
 use Rattle.std.specs.Prelude.{◌≡◌, ◌⊎◌, ℕ, List, [], ◌∷◌}
+use Rattle.base_data.specs.Elements.{Each}
 use Rattle.base_data.specs.declared.library.LibName.{LibName}
 use Rattle.base_data.specs.declared.name.FrameNo.{FrameNo}
 use Rattle.base_data.specs.declared.name.Mark.{Mark}
 use Rattle.stx_tree.specs.Context.{LeafContext, blank, acts}
 use Rattle.stx_tree.specs.declared.change.Change.{Change}
-use Rattle.eval_value.specs.Cells.{Each}
 use Rattle.law_fresh_expansion.specs.Known.{IsKnown, IsKnownFrame}
 use Rattle.law_fresh_expansion.specs.Living.{IsChangeOf}
 

@@ -1,5 +1,6 @@
 -- An expansion keeps that all in its state may be met.
 use Rattle.std.specs.Prelude.{◌≡◌, ℕ, List, Ok}
+use Rattle.base_data.specs.Elements.{Among}
 use Rattle.base_data.specs.declared.library.LibName.{LibName}
 use Rattle.base_data.specs.declared.library.LibName.TheVariants as library
 use Rattle.base_data.specs.declared.name.FrameNo.{FrameNo}
@@ -14,7 +15,6 @@ use Rattle.core_shapes.specs.declared.shape.FormalIds.{FormalIds}
 use Rattle.expand_standing.specs.State.{State}
 use Rattle.expand_heads.specs.declared.taken.BodyAt.{BodyAt}
 use Rattle.expand_heads.specs.declared.taken.Taken.{Taken}
-use Rattle.law_hygiene.specs.Marked.{Among}
 use Rattle.expand_forms.specs.Body.{item}
 use Rattle.expand_forms.specs.Expression.{lambda_case, form_at, inside}
 use Rattle.expand_forms.specs.Inside.{Inside}

@@ -1,5 +1,6 @@
 -- Names that are known: those of certain libraries, and of the library that is expanded those that were taken before a name.
 use Rattle.std.specs.Prelude.{◌≡◌, ◌<◌, ◌⊎◌, ℕ, List, ◌∷◌, map}
+use Rattle.base_data.specs.Elements.{Among, Each}
 use Rattle.base_data.specs.Named.{Named}
 use Rattle.base_data.specs.declared.library.LibName.{LibName}
 use Rattle.base_data.specs.declared.library.LibName.TheVariants as library
@@ -8,8 +9,6 @@ use Rattle.base_data.specs.declared.name.Mark.{Mark}
 use Rattle.stx_tree.specs.Context.{LeafContext}
 use Rattle.stx_tree.specs.declared.stamp.Stamp.{Stamp}
 use Rattle.core_language.specs.declared.record.CompiledLibrary.{CompiledLibrary}
-use Rattle.law_hygiene.specs.Marked.{Among}
-use Rattle.eval_value.specs.Cells.{Each}
 
 abbrev pub IsKnownName : List LibName → LibName → ℕ → Named → Type 0
 IsKnownName libs own n x = Among libs x.library ⊎ ((x.library ≡ own) × (x.number < n))

@@ -1,5 +1,6 @@
 -- What may be met on the leaves of an expansion.
 use Rattle.std.specs.Prelude.{◌≤◌, ◌<◌, ℕ, suc, [], ◌∷◌, Option}
+use Rattle.base_data.specs.Elements.{Each}
 use Rattle.base_data.specs.declared.library.LibName.{LibName}
 use Rattle.base_data.specs.declared.name.FrameNo.{FrameNo}
 use Rattle.base_data.specs.declared.name.Mark.{Mark}
@@ -9,7 +10,6 @@ use Rattle.stx_tree.specs.declared.change.Change.{Change}
 use Rattle.stx_tree.specs.declared.change.Change.TheVariants as change
 use Rattle.core_records.specs.Introduced.{core_frame}
 use Rattle.core_quasi.specs.QuasiSyntax.{core_mark}
-use Rattle.eval_value.specs.Cells.{Each}
 use Rattle.law_fresh.specs.Leaves.{OptionHolds}
 use Rattle.law_fresh.specs.Below.{mark_named}
 use Rattle.law_fresh.specs.Names.{FreshRises, temporary_context}

@@ -1,8 +1,9 @@
 -- The marks in the records that expansion gives, so that the next library begins as this one did.
 use Rattle.std.specs.Prelude.{◌≡◌, ℕ, List, ◌∷◌, Ok}
+use Rattle.base_data.specs.Elements.{Among, Each}
+use Rattle.base_data.specs.declared.imported_name.ImportedName.{ImportedName}
 use Rattle.base_data.specs.declared.library.LibName.{LibName}
 use Rattle.base_data.specs.declared.name.FrameNo.{FrameNo}
-use Rattle.base_data.specs.declared.name.Label.{Label}
 use Rattle.base_data.specs.declared.name.Mark.{Mark}
 use Rattle.base_data.specs.declared.span.Span.{Span}
 use Rattle.stx_tree.specs.Context.{LeafContext, blank}
@@ -10,8 +11,6 @@ use Rattle.stx_tree.specs.Tree.{Tree}
 use Rattle.stx_tree.specs.declared.frame_row.FrameRow.{FrameRow}
 use Rattle.core_language.specs.declared.record.CompiledLibrary.{CompiledLibrary}
 use Rattle.eval_code.specs.Codes.{Codes}
-use Rattle.law_hygiene.specs.Marked.{Among}
-use Rattle.eval_value.specs.Cells.{Each}
 use Rattle.expand_standing.specs.Start.{started}
 use Rattle.expand_forms.specs.Expanding.{ready, library_record}
 use Rattle.law_fresh.specs.Leaves.{TreeHolds, CodesHold, LinesHold}
@@ -41,7 +40,7 @@ abbrev pub KnownBy : ((Mark → Type 0) → (FrameNo → Type 0) → LeafContext
 KnownBy Q libs own n c = Q (IsKnown libs own n) (IsKnownFrame libs own n) c
 
 abbrev pub StartsKnownBy : ((Mark → Type 0) → (FrameNo → Type 0) → LeafContext → Type 0) → Type 0
-StartsKnownBy Q = (own : LibName) (records : List CompiledLibrary) (imports : List (List ℕ × Label)) (codes : Codes)
+StartsKnownBy Q = (own : LibName) (records : List CompiledLibrary) (imports : List ImportedName) (codes : Codes)
     → Each (RecordHasOnly Q (libraries_of records)) records → CodesHold (HasOnly Q (libraries_of records)) codes
     → FreshStateHolds own (IsKnown (libraries_of records) own) (KnownBy Q (libraries_of records) own)
     (started own records imports codes).names.number (started own records imports codes)
@@ -58,7 +57,7 @@ abbrev pub WasRead : Tree → Type 0
 WasRead t = TreeHolds (λ c. c ≡ blank) t
 
 abbrev pub RecordsKeep : ((Mark → Type 0) → (FrameNo → Type 0) → LeafContext → Type 0) → Type 0
-RecordsKeep Q = (own : LibName) (path : List ℕ) (records : List CompiledLibrary) (imports : List (List ℕ × Label)) (version : List ℕ)
+RecordsKeep Q = (own : LibName) (path : List ℕ) (records : List CompiledLibrary) (imports : List ImportedName) (version : List ℕ)
     (place : Span) (exports : List (List ℕ × Tree)) (forms : List Tree) (codes : Codes) (r : CompiledLibrary)
     → IsNewAmong (libraries_of records) own → Each (RecordHasOnly Q (libraries_of records)) records
     → CodesHold (HasOnly Q (libraries_of records)) codes → Each WasRead forms

@@ -1,5 +1,6 @@
 -- Stages and states in which all leaves and rows may be met.
 use Rattle.std.specs.Prelude.{ℕ, List, Option}
+use Rattle.base_data.specs.Elements.{Each}
 use Rattle.base_data.specs.declared.library.LibName.{LibName}
 use Rattle.base_data.specs.declared.name.Label.{Label}
 use Rattle.base_data.specs.declared.name.Mark.{Mark}
@@ -11,7 +12,6 @@ use Rattle.core_language.specs.declared.record.CompiledLibrary.{CompiledLibrary}
 use Rattle.eval_stage.specs.Stage.{PlainStage}
 use Rattle.eval_stage.specs.declared.keyword.Keyword.{Keyword}
 use Rattle.expand_standing.specs.State.{State, stage_of}
-use Rattle.eval_value.specs.Cells.{Each}
 use Rattle.law_invariants.specs.Stages as stages
 use Rattle.law_fresh.specs.Leaves.{leaves}
 

@@ -1,5 +1,6 @@
 -- The mark that a use of a keyword takes is new.
 use Rattle.std.specs.Prelude.{◌≡◌, List, Option, Ok}
+use Rattle.base_data.specs.Elements.{Among}
 use Rattle.base_data.specs.declared.library.LibName.{LibName}
 use Rattle.base_data.specs.declared.library.LibName.TheVariants as library
 use Rattle.base_data.specs.declared.name.FrameNo.{FrameNo}
@@ -11,7 +12,7 @@ use Rattle.core_language.specs.Core.{PlainCore}
 use Rattle.core_language.specs.declared.core_form.CoreForm.{CoreForm}
 use Rattle.core_language.specs.declared.record.CompiledLibrary.{CompiledLibrary}
 use Rattle.law_hygiene.specs.Binder.{IsNew}
-use Rattle.law_hygiene.specs.Marked.{Among, Lacks, Untouched}
+use Rattle.law_hygiene.specs.Marked.{Lacks, Untouched}
 use Rattle.eval_stage.specs.Stage.{PlainStage, name_after}
 use Rattle.eval_stage.specs.Transformers.{keyword_value}
 use Rattle.eval_stage.specs.Uses.{used, transform_marked}

@@ -6,25 +6,13 @@ use Rattle.eval_value.specs.declared.value.Value.TheVariants as value
 use Rattle.eval_prims.specs.Chains.{list_elements}
 use Rattle.eval_code.specs.Meaning.{eval_of, first_called, applied}
 use Rattle.eval_code.specs.Setting.{PlainSetting}
-use Rattle.eval_code.specs.Spread.{Call, apply_args, before_last, parted, with_elements, with_front, on_parts, spread_once, spread_on, spread_to, spread}
+use Rattle.eval_code.specs.Spread.{Call, apply_args, parted, with_elements, with_front, on_parts, spread_once, spread_on, spread_to, spread}
 use Rattle.eval_code.specs.State.{WorldState}
 use Rattle.eval_code.proofs.Paid.{within_or_past, charged_paid, charged_short}
 use Rattle.eval_code.proofs.Spreading.{parted_last, args_shorter}
 use Rattle.law_given.specs.Calls.{End, ended, call_of, CallEnds, Calls}
 use Rattle.law_given.proofs.Giving.{gives-same}
-
-abbrev parts_or : List Value × Value → Option (List Value × Value) → List Value × Value
-parts_or d None = d
-parts_or d (Some p) = p
-
-front_length : (xs : List Value) (x : Value) → suc (length xs) ≡ length (before_last x (parted xs)).0 + 1
-front_length [] x = refl
-front_length (y ∷ ys) x = omega (arith, front_length ys y)
-
--- all but the last are one less
-front_shorter : (xs : List Value) (p : List Value × Value) → parted xs ≡ Some p → length xs ≡ length p.0 + 1
-front_shorter [] p e = cc
-front_shorter (x ∷ xs) p e = front_length xs x ∙ ap (λ (q : List Value × Value). length q.0 + 1) (ap (parts_or p) e)
+use Rattle.law_eval.proofs.Carried.{front_shorter}
 
 module _ (s : WorldState) where
   -- two ways to go on are the same where there is so much fuel and so many values

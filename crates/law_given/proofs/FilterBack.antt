@@ -14,6 +14,7 @@ use Rattle.eval_code.specs.Setting.{PlainSetting}
 use Rattle.eval_code.specs.State.{WorldState, next_place, with_cell}
 use Rattle.eval_code.specs.Variables.{Entries}
 use Rattle.law_eval.specs.Kept.{LaterWorld}
+use Rattle.law_eval.proofs.Keeping.{later_then, later_with}
 use Rattle.law_lists.specs.Runs.{IsList}
 use Rattle.law_given.specs.Calls.{call_of, Calls}
 use Rattle.law_given.specs.Codes.{label, code_no, var, one_case, app, car, cdr, cons, filter_some, filter_loop}
@@ -25,7 +26,7 @@ use Rattle.law_given.proofs.FindLoop.{by-truth}
 use Rattle.law_given.proofs.Inside.{Home, home-later, one_home}
 use Rattle.law_given.proofs.Inverting.{Parted, Consed, arms-true, arms-false, if-back, false-back, cons-back}
 use Rattle.law_given.proofs.Knows.{Knows}
-use Rattle.law_given.proofs.Later.{later-refl, later-then, later-with, calls-later, list-later, in-turn-from, in-turn-to}
+use Rattle.law_given.proofs.Later.{later-refl, calls-later, list-later, in-turn-from, in-turn-to}
 use Rattle.law_given.proofs.Loop as loop
 use Rattle.law_given.proofs.Loop.{Names}
 use Rattle.law_given.proofs.LoopBack.{body-back, first-back, again-back, loop-back}
@@ -73,13 +74,13 @@ module _ (w : PlainSetting) (known : code_at w.codes (code_no 61) ≡ Some (proc
     behind = calls-later w f (x ∷ []) at parts.value parts.state first
 
     far : LaterWorld s parts.state
-    far = later-then s at parts.state enter behind
+    far = later_then s at parts.state enter behind
 
     taken : truth_of parts.value ≡ true → Did (x ∷ xs) s v t
     taken e = record {
       answers = parts.value ∷ rest.answers;
       in_turn = subst (λ a. InTurn w f (x ∷ xs) s (parts.value ∷ rest.answers) a) made.state_is
-          (one_call enter first (in-turn-to w f xs rest.answers parts.state made.behind after rest.in_turn (later-with made.behind (cell.Pair made.car_value made.cdr_value))));
+          (one_call enter first (in-turn-to w f xs rest.answers parts.state made.behind after rest.in_turn (later_with made.behind (cell.Pair made.car_value made.cdr_value))));
       list = subst (λ b. IsList t.cells (when_true b x (chosen xs rest.answers)) v) (sym e)
           (subst (λ (a : WorldState). IsList a.cells (x ∷ chosen xs rest.answers) v) made.state_is
           (subst (λ b. IsList after.cells (x ∷ chosen xs rest.answers) b) made.value_is

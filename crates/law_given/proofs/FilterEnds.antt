@@ -14,6 +14,7 @@ use Rattle.eval_code.specs.Setting.{PlainSetting}
 use Rattle.eval_code.specs.State.{WorldState, next_place}
 use Rattle.eval_code.specs.Variables.{Entries}
 use Rattle.law_eval.specs.Kept.{LaterWorld}
+use Rattle.law_eval.proofs.Keeping.{later_then}
 use Rattle.law_lists.specs.Runs.{IsList}
 use Rattle.law_given.specs.Calls.{End, CallEnds, Calls}
 use Rattle.law_given.specs.Codes.{label, code_no, var, one_case, app, car, cdr, filter_some, filter_loop}
@@ -23,7 +24,7 @@ use Rattle.law_given.proofs.Giving.{Evaluates, ExpressionEnds, true-ends, false-
 use Rattle.law_given.proofs.FilterLoop.{nothing, some}
 use Rattle.law_given.proofs.Inside.{Home, home-later, one_home}
 use Rattle.law_given.proofs.Knows.{Knows}
-use Rattle.law_given.proofs.Later.{later-refl, later-then, calls-later, list-later, in-turn-from, stops-from, all-end-later}
+use Rattle.law_given.proofs.Later.{later-refl, calls-later, list-later, in-turn-from, stops-from, all-end-later}
 use Rattle.law_given.proofs.Loop as loop
 use Rattle.law_given.proofs.Loop.{Names}
 use Rattle.law_given.proofs.LoopText.{home_place, ready, ready-home, ready-later, loop-by-ends}
@@ -97,7 +98,7 @@ module _ (w : PlainSetting) (known : code_at w.codes (code_no 61) ≡ Some (proc
     -- by the end of the call
     ends-by : (r : End) (u : WorldState) → CallEnds w f (x ∷ []) at r u → AfterValue r (AllEnd w f xs u)
         → ((v : WorldState) → LaterWorld s v → AllEnd w f xs v → Kept xs d v ⊎ Faulted xs d v) → Kept (x ∷ xs) l s ⊎ Faulted (x ∷ xs) l s
-    ends-by (Ok y) u h a again = elim (again u (later-then s at u enter (calls-later w f (x ∷ []) at y u h)) a) [
+    ends-by (Ok y) u h a again = elim (again u (later_then s at u enter (calls-later w f (x ∷ []) at y u h)) a) [
       | inl m ↦ inl (some w known f p x l d xs s round pair y u h m)
       | inr m ↦ inr (stopped-behind y u h m)
     ]

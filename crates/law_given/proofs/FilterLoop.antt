@@ -13,6 +13,7 @@ use Rattle.eval_code.specs.Setting.{PlainSetting}
 use Rattle.eval_code.specs.State.{WorldState, next_place, with_cell}
 use Rattle.eval_code.specs.Variables.{Entries}
 use Rattle.law_eval.specs.Kept.{LaterWorld}
+use Rattle.law_eval.proofs.Keeping.{later_then, later_with}
 use Rattle.law_lists.specs.Runs.{here, IsList}
 use Rattle.law_given.specs.Calls.{Calls}
 use Rattle.law_given.specs.Codes.{label, code_no, var, one_case, app, car, cdr, filter_some, filter_loop}
@@ -20,7 +21,7 @@ use Rattle.law_given.specs.Given.{Filters}
 use Rattle.law_given.specs.InTurn.{no_call, one_call, AllGive, when_true, chosen}
 use Rattle.law_given.proofs.Giving.{Evaluates, if-true, if-false}
 use Rattle.law_given.proofs.Inside.{Home, home-later, one_home}
-use Rattle.law_given.proofs.Later.{later-refl, later-then, later-with, calls-later, list-later, in-turn-to}
+use Rattle.law_given.proofs.Later.{later-refl, calls-later, list-later, in-turn-to}
 use Rattle.law_given.proofs.Primitives.{next_pair, cons-is, nil-is}
 use Rattle.law_given.proofs.MapOne.{list-none, list-some, list-more}
 use Rattle.law_given.proofs.Loop as loop
@@ -88,7 +89,7 @@ module _ (w : PlainSetting) (known : code_at w.codes (code_no 61) ≡ Some (proc
               (if-true w _ _ _ q s1 u (with_cell (cell.Pair x rest.value) rest.state) y (next_pair w rest.state) test e
               (cons-is w (car (var 64)) q u u x (loop.first-read w 61 60 63 64 filter_loop known p home names f l s round u behind x d pair) _ rest.value rest.state others));
           answers = y ∷ rest.answers;
-          in_turn = one_call enter called (in-turn-to w f xs rest.answers u rest.state (with_cell (cell.Pair x rest.value) rest.state) rest.in_turn (later-with rest.state (cell.Pair x rest.value)));
+          in_turn = one_call enter called (in-turn-to w f xs rest.answers u rest.state (with_cell (cell.Pair x rest.value) rest.state) rest.in_turn (later_with rest.state (cell.Pair x rest.value)));
           list = subst (λ b. IsList (rest.state.cells ++ cell.Pair x rest.value ∷ []) (when_true b x (chosen xs rest.answers)) (next_pair w rest.state)) (sym e)
               (list-more rest.state.cells x rest.value (chosen xs rest.answers) rest.list);
         }
@@ -107,5 +108,5 @@ module _ (w : PlainSetting) (known : code_at w.codes (code_no 61) ≡ Some (proc
       let c = list-some r in
       let enter = loop.entered-later w 61 60 63 64 filter_loop known p home names f l s round in
       let made = give (loop.entered w 61 60 63 64 filter_loop known p home names f l s round) enter in
-      let behind = later-then s (loop.entered w 61 60 63 64 filter_loop known p home names f l s round) made.1 enter (calls-later w f (x ∷ []) _ made.0 made.1 made.2) in
+      let behind = later_then s (loop.entered w 61 60 63 64 filter_loop known p home names f l s round) made.1 enter (calls-later w f (x ∷ []) _ made.0 made.1 made.2) in
       some x l c.0 xs s round c.1 made.0 made.1 made.2 (filter-loop xs c.0 made.1 (home-later s made.1 behind p home round) (list-later s made.1 behind xs c.0 c.2) made.3)

@@ -12,6 +12,7 @@ use Rattle.eval_code.specs.Setting.{PlainSetting}
 use Rattle.eval_code.specs.State.{WorldState, next_place}
 use Rattle.eval_code.specs.Variables.{Entries}
 use Rattle.law_eval.specs.Kept.{LaterWorld}
+use Rattle.law_eval.proofs.Keeping.{later_then}
 use Rattle.law_lists.specs.Runs.{IsList}
 use Rattle.law_given.specs.Calls.{Calls}
 use Rattle.law_given.specs.Codes.{label, code_no, var, one_case, app, car, find_some, find_loop}
@@ -19,7 +20,7 @@ use Rattle.law_given.specs.Given.{Finds, first_or_false}
 use Rattle.law_given.specs.InTurn.{not_there, passed, there, SearchGives}
 use Rattle.law_given.proofs.Giving.{Evaluates, if-true, if-false}
 use Rattle.law_given.proofs.Inside.{Home, home-later, one_home}
-use Rattle.law_given.proofs.Later.{later-refl, later-then, calls-later, list-later}
+use Rattle.law_given.proofs.Later.{later-refl, calls-later, list-later}
 use Rattle.law_given.proofs.Primitives.{bool-is}
 use Rattle.law_given.proofs.MapOne.{list-none, list-some}
 use Rattle.law_given.proofs.Loop as loop
@@ -93,6 +94,6 @@ module _ (w : PlainSetting) (known : code_at w.codes (code_no 78) ≡ Some (proc
   find-loop (x ∷ xs) l s round r give =
       let c = list-some r in
       let made = give (s1 x l c.0 xs s round c.1) (enter x l c.0 xs s round c.1) in
-      let behind = later-then s (s1 x l c.0 xs s round c.1) made.1 (enter x l c.0 xs s round c.1) (calls-later w f (x ∷ []) _ made.0 made.1 made.2) in
+      let behind = later_then s (s1 x l c.0 xs s round c.1) made.1 (enter x l c.0 xs s round c.1) (calls-later w f (x ∷ []) _ made.0 made.1 made.2) in
       by-truth (truth_of made.0) (FoundGiven (x ∷ xs) l s) (λ e. found x l c.0 xs s round c.1 made.0 made.1 made.2 e)
       (λ e. missed x l c.0 xs s round c.1 made.0 made.1 made.2 e (find-loop xs c.0 made.1 (home-later s made.1 behind p home round) (list-later s made.1 behind xs c.0 c.2) (made.3 e)))

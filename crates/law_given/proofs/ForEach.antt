@@ -17,6 +17,7 @@ use Rattle.eval_code.specs.Setting.{PlainSetting}
 use Rattle.eval_code.specs.State.{WorldState, next_place, with_cell}
 use Rattle.eval_code.specs.Variables.{Entries}
 use Rattle.law_eval.specs.Kept.{LaterWorld}
+use Rattle.law_eval.proofs.Keeping.{later_then, later_with}
 use Rattle.law_lists.specs.Runs.{IsList}
 use Rattle.law_given.specs.Calls.{End, CallEnds, Calls}
 use Rattle.law_given.specs.Codes.{label, code_no, var, prim, formals, one_case, app, datum_at, text_code, for_each_body, for_each_text}
@@ -27,7 +28,7 @@ use Rattle.law_given.proofs.Applying.{apply-ends, apply-none}
 use Rattle.law_given.proofs.Calling.{case-ends, text-ends}
 use Rattle.law_given.proofs.Inside.{Inside, entered-inside, own}
 use Rattle.law_given.proofs.Knows.{Knows}
-use Rattle.law_given.proofs.Later.{later-then, later-with, list-later, in-turn-from, stops-from, all-give-later, all-end-later}
+use Rattle.law_given.proofs.Later.{list-later, in-turn-from, stops-from, all-give-later, all-end-later}
 use Rattle.law_given.proofs.MapText.{map-given, map-ended, map-only}
 use Rattle.law_given.proofs.Inverting.{Parted, call-four-back, sequence-back, case-back, text-back}
 use Rattle.law_given.proofs.Unique.{gives-one-value, gives-one-state}
@@ -73,7 +74,7 @@ module _ (w : PlainSetting) (knows : Knows w.codes) (f l : Value) (s : WorldStat
   inside = entered-inside outside vars p [] (record { around = None; is = slice_get-added s.cells (cell.Scope [] None) })
 
   behind : LaterWorld s inner
-  behind = later-then s outside inner (later-with s (cell.Scope [] None)) (later-with outside (cell.Scope vars (Some p)))
+  behind = later_then s outside inner (later_with s (cell.Scope [] None)) (later_with outside (cell.Scope vars (Some p)))
 
   -- (apply map f l ls)
   mapping : (r : End) (t : WorldState) → CallEnds w (value.Prim (record { 0 = names.MAP })) (f ∷ l ∷ []) inner r t → ExpressionEnds w (app (prim names.APPLY) (prim names.MAP ∷ var 23 ∷ var 24 ∷ var 25 ∷ [])) q inner r t

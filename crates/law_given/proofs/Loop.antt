@@ -15,6 +15,7 @@ use Rattle.eval_code.specs.Setting.{PlainSetting}
 use Rattle.eval_code.specs.State.{WorldState, next_place, with_cell}
 use Rattle.eval_code.specs.Variables.{Entries}
 use Rattle.law_eval.specs.Kept.{LaterWorld}
+use Rattle.law_eval.proofs.Keeping.{later_with}
 use Rattle.law_lists.proofs.RunLemmas.{pair_still}
 use Rattle.law_given.specs.Calls.{End, CallEnds, Calls}
 use Rattle.law_given.specs.Codes.{label, code_no, var, formals, one_case, app, car, cdr, is_null}
@@ -22,7 +23,6 @@ use Rattle.law_given.proofs.Giving.{Evaluates, ExpressionEnds, call-one-ends, ca
 use Rattle.law_given.proofs.Looking.{later-stay}
 use Rattle.law_given.proofs.Calling.{closure-ends, case-ends}
 use Rattle.law_given.proofs.Inside.{Inside, Home, inside-later, entered-inside, own, outer}
-use Rattle.law_given.proofs.Later.{later-with}
 use Rattle.law_given.proofs.Primitives.{pair-not-nil, null-is, car-is, cdr-is}
 use Rattle.law_given.proofs.MapOne.{pair-later}
 
@@ -58,7 +58,7 @@ module _ (w : PlainSetting) (code go m n : ℕ) (body : PlainCore) (known : code
   loop-called v t h = loop-ends (Ok v) t h
 
   pub entered-later : LaterWorld s entered
-  entered-later = later-with s (cell.Scope (two_vars m n f l) (Some p))
+  entered-later = later_with s (cell.Scope (two_vars m n f l) (Some p))
 
   module _ (u : WorldState) (behind : LaterWorld entered u) where
     inside : Inside u.cells q (two_vars m n f l) p home

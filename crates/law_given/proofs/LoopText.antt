@@ -15,13 +15,13 @@ use Rattle.eval_code.specs.Procedures.{has_text, text_number}
 use Rattle.eval_code.specs.Setting.{PlainSetting}
 use Rattle.eval_code.specs.State.{WorldState, next_place, with_cell}
 use Rattle.law_eval.specs.Kept.{LaterWorld}
+use Rattle.law_eval.proofs.Keeping.{later_then, later_with}
 use Rattle.law_given.specs.Calls.{End, Ends, CallEnds, Calls}
 use Rattle.law_given.specs.Codes.{label, code_no, var, lambda, one_case, text_code}
 use Rattle.law_given.proofs.Giving.{Evaluates}
 use Rattle.law_given.proofs.Looking.{in_cell, variable-is}
 use Rattle.law_given.proofs.Calling.{text-ends, closure-ends-back}
 use Rattle.law_given.proofs.Inside.{Home, one_home, letrec-is}
-use Rattle.law_given.proofs.Later.{later-then, later-with}
 
 abbrev pub loop_text : ℕ → ℕ → List ℕ → PlainCore → PlainCore → PlainCore
 loop_text go code formals loop body = letrec false (init (label go) (lambda code formals None loop) no_init) body
@@ -40,7 +40,7 @@ module _ (w : PlainSetting) (s : WorldState) (go code : ℕ) where
   ready-home = record { around = Some (next_place s); is = slice_get-added outside.cells (cell.Scope (one_home (label go) (code_no code) home_place) (Some (next_place s))) }
 
   pub ready-later : LaterWorld s ready
-  ready-later = later-then s outside ready (later-with s (cell.Scope [] None)) (later-with outside (cell.Scope (one_home (label go) (code_no code) home_place) (Some (next_place s))))
+  ready-later = later_then s outside ready (later_with s (cell.Scope [] None)) (later_with outside (cell.Scope (one_home (label go) (code_no code) home_place) (Some (next_place s))))
 
   module _ (op : ℕ) (formals : List ℕ) (loop : PlainCore) (self : same_label (label go) (label go) ≡ true) (other : nat_eq op names.APPLY ≡ false) (yes : has_text op ≡ true) where
     -- the text gives a procedure, which is called

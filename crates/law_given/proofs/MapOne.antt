@@ -19,6 +19,7 @@ use Rattle.eval_code.specs.Setting.{PlainSetting}
 use Rattle.eval_code.specs.State.{WorldState, next_place, with_cell}
 use Rattle.eval_code.specs.Variables.{Entries}
 use Rattle.law_eval.specs.Kept.{LaterWorld}
+use Rattle.law_eval.proofs.Keeping.{later_then, later_with}
 use Rattle.law_lists.specs.Runs.{here, next, IsList}
 use Rattle.law_lists.proofs.RunLemmas.{stay_added, pair_still, runs_still}
 use Rattle.law_given.specs.Calls.{End, call_of, CallEnds, Calls}
@@ -29,7 +30,7 @@ use Rattle.law_given.proofs.Giving.{Evaluates, ExpressionEnds, if-true, false-en
 use Rattle.law_given.proofs.Calling.{closure-ends, closure-back, case-ends}
 use Rattle.law_given.proofs.Inside.{Inside, Home, home-later, inside-later, entered-inside, own, outer}
 use Rattle.law_given.proofs.Looking.{later-stay}
-use Rattle.law_given.proofs.Later.{later-then, later-with, calls-later, list-later, in-turn-to}
+use Rattle.law_given.proofs.Later.{calls-later, list-later, in-turn-to}
 use Rattle.law_given.proofs.Inverting.{false-back, call-one-back, call-two-back, Consed, cons-back, case-back}
 use Rattle.law_given.proofs.Unique.{gives-one-value, gives-one-state}
 use Rattle.law_given.proofs.Primitives.{pair-not-nil, next_pair, null-is, car-is, cdr-is, cons-is, nil-is}
@@ -86,7 +87,7 @@ module _ (w : PlainSetting) (known : code_at w.codes (code_no 4) ≡ Some (proce
     called = body-called nil s nil s1
         (if-true w _ _ _ q s1 s1 s1 (truth true) nil (null-is w (var 7) q s1 s1 nil (own w s1 q (vars nil) p (map_home p) inside (label 7) nil refl) true refl) refl (nil-is w _ q s1));
     answers = [];
-    in_turn = no_call (later-with s (cell.Scope (vars nil) (Some p)));
+    in_turn = no_call (later_with s (cell.Scope (vars nil) (Some p)));
     list = here;
   }
     where
@@ -107,7 +108,7 @@ module _ (w : PlainSetting) (known : code_at w.codes (code_no 4) ≡ Some (proce
     q = next_place s
 
     enter : LaterWorld s at
-    enter = later-with s (cell.Scope (vars l) (Some p))
+    enter = later_with s (cell.Scope (vars l) (Some p))
 
     inside : Inside at.cells q (vars l) p (map_home p)
     inside = entered-inside s (vars l) p (map_home p) home
@@ -163,7 +164,7 @@ module _ (w : PlainSetting) (known : code_at w.codes (code_no 4) ≡ Some (proce
             (cons-is w map_first q at u y (first-ends (Ok y) u called) map_others rest.value rest.state (others-end (Ok rest.value) rest.state rest.called));
         answers = y ∷ rest.answers;
         in_turn = one_call enter called
-            (in-turn-to w f xs rest.answers u rest.state (with_cell (cell.Pair y rest.value) rest.state) rest.in_turn (later-with rest.state (cell.Pair y rest.value)));
+            (in-turn-to w f xs rest.answers u rest.state (with_cell (cell.Pair y rest.value) rest.state) rest.in_turn (later_with rest.state (cell.Pair y rest.value)));
         list = list-more rest.state.cells y rest.value rest.answers rest.list;
       }
 
@@ -182,7 +183,7 @@ module _ (w : PlainSetting) (known : code_at w.codes (code_no 4) ≡ Some (proce
     -- by the end of the call
     ends-by : (r : End) (u : WorldState) → CallEnds w f (x ∷ []) at r u → AfterValue r (AllEnd w f xs u)
         → ((v : WorldState) → LaterWorld s v → AllEnd w f xs v → MapGives xs d v ⊎ Faulted xs d v) → MapGives (x ∷ xs) l s ⊎ Faulted (x ∷ xs) l s
-    ends-by (Ok y) u h a again = elim (again u (later-then s at u enter (calls-later w f (x ∷ []) at y u h)) a) [
+    ends-by (Ok y) u h a again = elim (again u (later_then s at u enter (calls-later w f (x ∷ []) at y u h)) a) [
       | inl m ↦ inl (some y u h m)
       | inr m ↦ inr (stops-behind y u h m)
     ]
@@ -192,8 +193,8 @@ module _ (w : PlainSetting) (known : code_at w.codes (code_no 4) ≡ Some (proce
   map-one [] l s home r give = subst (λ x. MapGives [] x s) (sym (list-none r)) (nothing s home)
   map-one (x ∷ xs) l s home r give =
       let c = list-some r in
-      let made = give (begun l s) (later-with s (cell.Scope (vars l) (Some p))) in
-      let behind = later-then s (begun l s) made.1 (later-with s (cell.Scope (vars l) (Some p))) (calls-later w f (x ∷ []) (begun l s) made.0 made.1 made.2) in
+      let made = give (begun l s) (later_with s (cell.Scope (vars l) (Some p))) in
+      let behind = later_then s (begun l s) made.1 (later_with s (cell.Scope (vars l) (Some p))) (calls-later w f (x ∷ []) (begun l s) made.0 made.1 made.2) in
       some x l c.0 xs s home c.1 made.0 made.1 made.2
       (map-one xs c.0 made.1 (home-later s made.1 behind p (map_home p) home) (list-later s made.1 behind xs c.0 c.2) made.3)
 
@@ -202,7 +203,7 @@ module _ (w : PlainSetting) (known : code_at w.codes (code_no 4) ≡ Some (proce
   map-ends [] l s home r give = inl (subst (λ x. MapGives [] x s) (sym (list-none r)) (nothing s home))
   map-ends (x ∷ xs) l s home r give =
       let c = list-some r in
-      let made = give (begun l s) (later-with s (cell.Scope (vars l) (Some p))) in
+      let made = give (begun l s) (later_with s (cell.Scope (vars l) (Some p))) in
       ends-by x l c.0 xs s home c.1 made.0 made.1 made.2 made.3
       (λ v k g. map-ends xs c.0 v (home-later s v k p (map_home p) home) (list-later s v k xs c.0 c.2) g)
 
@@ -213,7 +214,7 @@ module _ (w : PlainSetting) (known : code_at w.codes (code_no 4) ≡ Some (proce
   only-some x l d xs s v t home pair called again = record {
     answers = made.car_value ∷ rest.answers;
     in_turn = subst (λ a. InTurn w f (x ∷ xs) s (made.car_value ∷ rest.answers) a) made.state_is
-        (one_call (enter x l d xs s home pair) first (in-turn-to w f xs rest.answers made.between made.behind after rest.in_turn (later-with made.behind (cell.Pair made.car_value made.cdr_value))));
+        (one_call (enter x l d xs s home pair) first (in-turn-to w f xs rest.answers made.between made.behind after rest.in_turn (later_with made.behind (cell.Pair made.car_value made.cdr_value))));
     list = subst (λ (a : WorldState). IsList a.cells (made.car_value ∷ rest.answers) v) made.state_is
         (subst (λ b. IsList after.cells (made.car_value ∷ rest.answers) b) made.value_is (list-more made.behind.cells made.car_value made.cdr_value rest.answers rest.list));
   }
@@ -256,7 +257,7 @@ module _ (w : PlainSetting) (known : code_at w.codes (code_no 4) ≡ Some (proce
           made.cdr_given
 
       rest : Mapped w f xs made.between made.cdr_value made.behind
-      rest = again made.between (later-then s start made.between (enter x l d xs s home pair) (calls-later w f (x ∷ []) start made.car_value made.between first)) made.cdr_value made.behind others
+      rest = again made.between (later_then s start made.between (enter x l d xs s home pair) (calls-later w f (x ∷ []) start made.car_value made.between first)) made.cdr_value made.behind others
 
   pub only-one : (xs : List Value) (l : Value) (s : WorldState) (v : Value) (t : WorldState) → Home s.cells p (map_home p) → IsList s.cells xs l → Calls w g (f ∷ l ∷ []) s v t → Mapped w f xs s v t
   only-one [] l s v t home r called =

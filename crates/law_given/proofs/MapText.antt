@@ -18,6 +18,7 @@ use Rattle.eval_code.specs.Setting.{PlainSetting}
 use Rattle.eval_code.specs.State.{WorldState, store, next_place, with_cell}
 use Rattle.eval_code.specs.Variables.{Entries, cell_with, assigned}
 use Rattle.law_eval.specs.Kept.{LaterWorld}
+use Rattle.law_eval.proofs.Keeping.{later_then, later_with}
 use Rattle.law_lists.specs.Runs.{IsList}
 use Rattle.law_given.specs.Calls.{End, CallEnds, Calls}
 use Rattle.law_given.specs.Codes.{label, code_no, var, formals, one_case, lambda, text_code, map_one, map_many, map_body, map_text}
@@ -27,7 +28,7 @@ use Rattle.law_given.proofs.Giving.{gives-same, gives-then, Evaluates, evaluates
 use Rattle.law_given.proofs.Looking.{assigned-last}
 use Rattle.law_given.proofs.Calling.{case-ends, text-ends}
 use Rattle.law_given.proofs.Inside.{Inside, Home, entered-inside, own, outer}
-use Rattle.law_given.proofs.Later.{later-then, later-with, list-later, in-turn-from, stops-from, all-give-later, all-end-later}
+use Rattle.law_given.proofs.Later.{list-later, in-turn-from, stops-from, all-give-later, all-end-later}
 use Rattle.law_given.proofs.Primitives.{null-is}
 use Rattle.law_given.proofs.MapOne.{map_home, map-one, map-ends, only-one}
 use Rattle.law_given.proofs.Inverting.{true-back, call-two-back, case-back, text-back}
@@ -103,8 +104,8 @@ module _ (w : PlainSetting) (s : WorldState) where
 
     behind : LaterWorld s inner
     behind =
-        later-then s outside inner (later-with s (cell.Scope [] None))
-        (later-then outside ready inner (later-with outside (cell.Scope (map_home home_place) (Some (next_place s)))) (later-with ready (cell.Scope vars (Some home_place))))
+        later_then s outside inner (later_with s (cell.Scope [] None))
+        (later_then outside ready inner (later_with outside (cell.Scope (map_home home_place) (Some (next_place s)))) (later_with ready (cell.Scope vars (Some home_place))))
 
     home : Home ready.cells home_place (map_home home_place)
     home = record { around = Some (next_place s); is = slice_get-added outside.cells (cell.Scope (map_home home_place) (Some (next_place s))) }

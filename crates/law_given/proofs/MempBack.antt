@@ -13,6 +13,7 @@ use Rattle.eval_code.specs.Setting.{PlainSetting}
 use Rattle.eval_code.specs.State.{WorldState, next_place}
 use Rattle.eval_code.specs.Variables.{Entries}
 use Rattle.law_eval.specs.Kept.{LaterWorld}
+use Rattle.law_eval.proofs.Keeping.{later_then}
 use Rattle.law_lists.specs.Runs.{IsList}
 use Rattle.law_given.specs.Calls.{call_of, Calls}
 use Rattle.law_given.specs.Codes.{label, code_no, var, one_case, app, car, cdr, memp_some, memp_loop}
@@ -24,7 +25,7 @@ use Rattle.law_given.proofs.FindLoop.{by-truth}
 use Rattle.law_given.proofs.Inside.{Home, home-later, one_home}
 use Rattle.law_given.proofs.Inverting.{Parted, arms-true, arms-false, if-back, false-back}
 use Rattle.law_given.proofs.Knows.{Knows}
-use Rattle.law_given.proofs.Later.{later-refl, later-then, calls-later, list-later, search-from}
+use Rattle.law_given.proofs.Later.{later-refl, calls-later, list-later, search-from}
 use Rattle.law_given.proofs.Loop as loop
 use Rattle.law_given.proofs.Loop.{Names}
 use Rattle.law_given.proofs.LoopBack.{body-back, first-back, again-back, loop-back}
@@ -71,7 +72,7 @@ module _ (w : PlainSetting) (known : code_at w.codes (code_no 86) ≡ Some (proc
     behind = calls-later w f (x ∷ []) at parts.value parts.state first
 
     far : LaterWorld s parts.state
-    far = later-then s at parts.state enter behind
+    far = later_then s at parts.state enter behind
 
     taken : IsList s.cells (x ∷ xs) l → truth_of parts.value ≡ true → TailFound w f l (x ∷ xs) s v t
     taken r e = record {
@@ -96,7 +97,7 @@ module _ (w : PlainSetting) (known : code_at w.codes (code_no 86) ≡ Some (proc
     missed e = record {
       rest = rest.rest;
       search = passed enter first e rest.search;
-      tail = longer w known f p t.cells x l d (pair_still s.cells t.cells (later-stay s t (later-then s parts.state t far (calls-later w g (f ∷ d ∷ []) parts.state v t others))) l x d pair) rest.rest v rest.tail;
+      tail = longer w known f p t.cells x l d (pair_still s.cells t.cells (later-stay s t (later_then s parts.state t far (calls-later w g (f ∷ d ∷ []) parts.state v t others))) l x d pair) rest.rest v rest.tail;
     }
       where
         others : Calls w g (f ∷ d ∷ []) parts.state v t

@@ -14,6 +14,7 @@ use Rattle.eval_code.specs.Setting.{PlainSetting}
 use Rattle.eval_code.specs.State.{WorldState, next_place}
 use Rattle.eval_code.specs.Variables.{Entries}
 use Rattle.law_eval.specs.Kept.{LaterWorld}
+use Rattle.law_eval.proofs.Keeping.{later_then}
 use Rattle.law_lists.specs.Runs.{IsList}
 use Rattle.law_given.specs.Calls.{End, CallEnds, Calls}
 use Rattle.law_given.specs.Codes.{label, code_no, one_case, memp_some, memp_loop}
@@ -24,7 +25,7 @@ use Rattle.law_given.proofs.FindLoop.{by-truth}
 use Rattle.law_given.proofs.MempLoop.{nothing, found, missed}
 use Rattle.law_given.proofs.Inside.{Home, home-later, one_home}
 use Rattle.law_given.proofs.Knows.{Knows}
-use Rattle.law_given.proofs.Later.{later-refl, later-then, calls-later, list-later, search-from, search-stops-from, search-ends-later}
+use Rattle.law_given.proofs.Later.{later-refl, calls-later, list-later, search-from, search-stops-from, search-ends-later}
 use Rattle.law_given.proofs.Loop as loop
 use Rattle.law_given.proofs.Loop.{Names}
 use Rattle.law_given.proofs.LoopText.{home_place, ready, ready-home, ready-later, loop-by-ends}
@@ -86,7 +87,7 @@ module _ (w : PlainSetting) (known : code_at w.codes (code_no 86) ≡ Some (proc
         → ((v : WorldState) → LaterWorld s v → SearchEnds w f xs v → Ended xs d v ⊎ Faulted xs d v) → Ended (x ∷ xs) l s ⊎ Faulted (x ∷ xs) l s
     ends-by list (Ok y) u h a again =
         by-truth (truth_of y) (Ended (x ∷ xs) l s ⊎ Faulted (x ∷ xs) l s) (λ e. inl (found w known f p x l d xs s round pair list y u h e))
-        (λ e. elim (again u (later-then s at u enter (calls-later w f (x ∷ []) at y u h)) (a e)) [
+        (λ e. elim (again u (later_then s at u enter (calls-later w f (x ∷ []) at y u h)) (a e)) [
           | inl m ↦ inl (missed w known f p x l d xs s round pair y u h e m)
           | inr m ↦ inr (stopped-behind y u h e m)
         ])

@@ -13,6 +13,7 @@ use Rattle.eval_code.specs.Setting.{PlainSetting}
 use Rattle.eval_code.specs.State.{WorldState, next_place}
 use Rattle.eval_code.specs.Variables.{Entries}
 use Rattle.law_eval.specs.Kept.{LaterWorld}
+use Rattle.law_eval.proofs.Keeping.{later_then}
 use Rattle.law_lists.specs.Runs.{here, IsList}
 use Rattle.law_given.specs.Calls.{Calls}
 use Rattle.law_given.specs.Codes.{label, code_no, var, one_case, app, car, memp_some, memp_loop}
@@ -20,7 +21,7 @@ use Rattle.law_given.specs.Given.{FindsTail}
 use Rattle.law_given.specs.InTurn.{not_there, passed, there, SearchGives}
 use Rattle.law_given.proofs.Giving.{Evaluates, if-true, if-false}
 use Rattle.law_given.proofs.Inside.{Home, home-later, one_home}
-use Rattle.law_given.proofs.Later.{later-refl, later-then, calls-later, list-later}
+use Rattle.law_given.proofs.Later.{later-refl, calls-later, list-later}
 use Rattle.law_given.proofs.Primitives.{bool-is}
 use Rattle.law_given.proofs.MapOne.{list-none, list-some}
 use Rattle.law_given.proofs.Loop as loop
@@ -84,7 +85,7 @@ module _ (w : PlainSetting) (known : code_at w.codes (code_no 86) ≡ Some (proc
       called = with-test y u l u called (λ test. if-true w _ _ _ (next_place s) s1 u u y l test e (loop.list-read w 86 85 88 89 memp_loop known p home names f l s round u behind));
       rest = x ∷ xs;
       search = there enter called e (later-refl u);
-      tail = ([], here, list-later s u (later-then s s1 u enter behind) (x ∷ xs) l r);
+      tail = ([], here, list-later s u (later_then s s1 u enter behind) (x ∷ xs) l r);
     }
       where
         behind : LaterWorld s1 u
@@ -105,13 +106,13 @@ module _ (w : PlainSetting) (known : code_at w.codes (code_no 86) ≡ Some (proc
         behind = calls-later w f (x ∷ []) s1 y u called
 
         far : LaterWorld s rest.state
-        far = later-then s u rest.state (later-then s s1 u enter behind) (calls-later w g (f ∷ d ∷ []) u rest.value rest.state rest.called)
+        far = later_then s u rest.state (later_then s s1 u enter behind) (calls-later w g (f ∷ d ∷ []) u rest.value rest.state rest.called)
 
   pub memp-loop : (xs : List Value) (l : Value) (s : WorldState) → Home s.cells p home → IsList s.cells xs l → SearchGives w f xs s → FoundGiven xs l s
   memp-loop [] l s round r give = subst (λ x. FoundGiven [] x s) (sym (list-none r)) (nothing s round)
   memp-loop (x ∷ xs) l s round r give =
       let c = list-some r in
       let made = give (s1 x l c.0 xs s round c.1) (enter x l c.0 xs s round c.1) in
-      let behind = later-then s (s1 x l c.0 xs s round c.1) made.1 (enter x l c.0 xs s round c.1) (calls-later w f (x ∷ []) _ made.0 made.1 made.2) in
+      let behind = later_then s (s1 x l c.0 xs s round c.1) made.1 (enter x l c.0 xs s round c.1) (calls-later w f (x ∷ []) _ made.0 made.1 made.2) in
       by-truth (truth_of made.0) (FoundGiven (x ∷ xs) l s) (λ e. found x l c.0 xs s round c.1 r made.0 made.1 made.2 e)
       (λ e. missed x l c.0 xs s round c.1 made.0 made.1 made.2 e (memp-loop xs c.0 made.1 (home-later s made.1 behind p home round) (list-later s made.1 behind xs c.0 c.2) (made.3 e)))

@@ -14,6 +14,7 @@ use Rattle.eval_code.specs.Setting.{PlainSetting}
 use Rattle.eval_code.specs.State.{WorldState, next_place, with_cell}
 use Rattle.eval_code.specs.Variables.{Entries}
 use Rattle.law_eval.specs.Kept.{LaterWorld}
+use Rattle.law_eval.proofs.Keeping.{later_then, later_with}
 use Rattle.law_lists.specs.Runs.{IsList}
 use Rattle.law_given.specs.Calls.{call_of, Calls}
 use Rattle.law_given.specs.Codes.{label, code_no, var, prim, formals, one_case, lambda, app, text_code, remp_test, remp_body, remp_text}
@@ -25,7 +26,7 @@ use Rattle.law_given.proofs.FilterBack.{filter-only}
 use Rattle.law_given.proofs.Inverting.{call-one-back, call-two-back, argument-back, case-back, text-back}
 use Rattle.law_given.proofs.Inside.{Inside, Home, home-later, entered-inside, own, outer}
 use Rattle.law_given.proofs.Knows.{Knows}
-use Rattle.law_given.proofs.Later.{later-then, later-with, calls-later, list-later, in-turn-from, all-give-later}
+use Rattle.law_given.proofs.Later.{calls-later, list-later, in-turn-from, all-give-later}
 use Rattle.law_given.proofs.Primitives.{not-called, not-is, not-turns}
 use Rattle.law_given.proofs.ListTexts.{filter-given}
 use Rattle.law_given.proofs.Unique.{gives-one-value, gives-one-state}
@@ -60,13 +61,13 @@ module _ (w : PlainSetting) (knows : Knows w.codes) (f l : Value) where
         inside = entered-inside s ((label 74, Some x) ∷ []) p vars round
 
     pub far : (x : Value) (s : WorldState) (y : Value) (t : WorldState) → Calls w f (x ∷ []) (tested x s) y t → LaterWorld s t
-    far x s y t h = later-then s (tested x s) t (later-with s (cell.Scope ((label 74, Some x) ∷ []) (Some p))) (calls-later w f (x ∷ []) (tested x s) y t h)
+    far x s y t h = later_then s (tested x s) t (later_with s (cell.Scope ((label 74, Some x) ∷ []) (Some p))) (calls-later w f (x ∷ []) (tested x s) y t h)
 
     turned-gives : (xs : List Value) (s : WorldState) → Home s.cells p vars → AllGive w f xs s → AllGive w turned xs s
     turned-gives [] s round give = tt
     turned-gives (x ∷ xs) s round give = λ t k.
         let around = home-later s t k p vars round in
-        let c = give (tested x t) (later-then s t (tested x t) k (later-with t (cell.Scope ((label 74, Some x) ∷ []) (Some p)))) in
+        let c = give (tested x t) (later_then s t (tested x t) k (later_with t (cell.Scope ((label 74, Some x) ∷ []) (Some p)))) in
         (truth (is_false c.0), c.1, turned-called x t around c.0 c.1 c.2, turned-gives xs c.1 (home-later t c.1 (far x t c.0 c.1 c.2) p vars around) c.3)
 
     -- the calls of f behind the calls of that
@@ -78,7 +79,7 @@ module _ (w : PlainSetting) (knows : Knows w.codes) (f l : Value) where
     turned-back xs zs o s t e round give (one_call {x = x} {y = z} {xs = xs'} {ys = zs'} {t = r} {u = u} k c i) =
         let from : LaterWorld s r = subst (λ a. LaterWorld a r) e k in
         let around = home-later s r from p vars round in
-        let enter = later-then s r (tested x r) from (later-with r (cell.Scope ((label 74, Some x) ∷ []) (Some p))) in
+        let enter = later_then s r (tested x r) from (later_with r (cell.Scope ((label 74, Some x) ∷ []) (Some p))) in
         let made = give (tested x r) enter in
         let called = turned-called x r around made.0 made.1 made.2 in
         let value_is : truth (is_false made.0) ≡ z = gives-one-value (call_of w turned (x ∷ []) r) (truth (is_false made.0)) z made.1 u called c in
@@ -103,7 +104,7 @@ module _ (w : PlainSetting) (knows : Knows w.codes) (f l : Value) where
         (own w (tested x r) (next_place r) ((label 74, Some x) ∷ []) p vars inside (label 74) x refl) asked.first in
         let value_is : truth (is_false asked.value) ≡ z = gives-one-value (call_of w (value.Prim (record { 0 = names.NOT })) (asked.value ∷ []) asked.state) (truth (is_false asked.value)) z asked.state u (not-called w asked.value asked.state) asked.onward in
         let state_is : asked.state ≡ u = gives-one-state (call_of w (value.Prim (record { 0 = names.NOT })) (asked.value ∷ []) asked.state) (truth (is_false asked.value)) z asked.state u (not-called w asked.value asked.state) asked.onward in
-        let enter = later-then s r (tested x r) k (later-with r (cell.Scope ((label 74, Some x) ∷ []) (Some p))) in
+        let enter = later_then s r (tested x r) k (later_with r (cell.Scope ((label 74, Some x) ∷ []) (Some p))) in
         let rest = turned-did xs' zs' u t (home-later r u (calls-later w turned (x ∷ []) r z u c) p vars around) i in (
           asked.value ∷ rest.0,
           one_call enter (subst (λ a. Calls w f (x ∷ []) (tested x r) asked.value a) state_is called) rest.1,
@@ -148,7 +149,7 @@ module _ (w : PlainSetting) (knows : Knows w.codes) (f l : Value) where
         round = record { around = Some (next_place s); is = inside.frame }
 
         behind : LaterWorld s inner
-        behind = later-then s outside inner (later-with s (cell.Scope [] None)) (later-with outside (cell.Scope vars (Some (next_place s))))
+        behind = later_then s outside inner (later_with s (cell.Scope [] None)) (later_with outside (cell.Scope vars (Some (next_place s))))
 
         gives : AllGive w f xs inner
         gives = all-give-later w f xs s inner behind give
@@ -171,7 +172,7 @@ module _ (w : PlainSetting) (knows : Knows w.codes) (f l : Value) where
         round = record { around = Some (next_place s); is = inside.frame }
 
         behind : LaterWorld s inner
-        behind = later-then s outside inner (later-with s (cell.Scope [] None)) (later-with outside (cell.Scope vars (Some (next_place s))))
+        behind = later_then s outside inner (later_with s (cell.Scope [] None)) (later_with outside (cell.Scope vars (Some (next_place s))))
 
         body : Evaluates w remp_body q inner v t
         body =

@@ -17,6 +17,7 @@ use Rattle.eval_code.specs.Setting.{PlainSetting}
 use Rattle.eval_code.specs.State.{WorldState, next_place, with_cell}
 use Rattle.eval_code.specs.Variables.{Entries}
 use Rattle.law_eval.specs.Kept.{LaterWorld}
+use Rattle.law_eval.proofs.Keeping.{later_then, later_with}
 use Rattle.law_lists.specs.Runs.{IsList}
 use Rattle.law_given.specs.Calls.{End, call_of, CallEnds, Calls}
 use Rattle.law_given.specs.Codes.{label, code_no, var, prim, formals, one_case, lambda, app, text_code, remp_test, remp_body, remp_text}
@@ -27,7 +28,7 @@ use Rattle.law_given.proofs.Calling.{closure-ends, case-ends, text-ends}
 use Rattle.law_given.proofs.FilterEnds.{filter-ended}
 use Rattle.law_given.proofs.Inside.{Inside, Home, home-later, entered-inside, own, outer}
 use Rattle.law_given.proofs.Knows.{Knows}
-use Rattle.law_given.proofs.Later.{later-then, later-with, list-later, in-turn-from, stops-from, all-end-later}
+use Rattle.law_given.proofs.Later.{list-later, in-turn-from, stops-from, all-end-later}
 use Rattle.law_given.proofs.Remp.{turned-called, far, turned-did}
 use Rattle.law_given.proofs.Unique.{ends-one-end, ends-one-state}
 
@@ -66,7 +67,7 @@ module _ (w : PlainSetting) (knows : Knows w.codes) (f l : Value) where
     turned-ends : (xs : List Value) (s : WorldState) → Home s.cells p vars → AllEnd w f xs s → AllEnd w turned xs s
     turned-ends [] s round give = tt
     turned-ends (x ∷ xs) s round give = λ t k.
-        let made = give (tested x t) (later-then s t (tested x t) k (later-with t (cell.Scope ((label 74, Some x) ∷ []) (Some p)))) in
+        let made = give (tested x t) (later_then s t (tested x t) k (later_with t (cell.Scope ((label 74, Some x) ∷ []) (Some p)))) in
         turned-end x xs t (home-later s t k p vars round) made.0 made.1 made.2 made.3 (λ v around a. turned-ends xs v around a)
 
     -- the call of f that stopped that procedure
@@ -77,7 +78,7 @@ module _ (w : PlainSetting) (knows : Knows w.codes) (f l : Value) where
         absurd (cc)
     stop-here x xs e s r t k round c (Err d) u h =
         let mine : CallEnds w turned (x ∷ []) r (Err d) u = turned-stops x r round d u h in
-        stops_here (later-then s r (tested x r) k (later-with r (cell.Scope ((label 74, Some x) ∷ []) (Some p))))
+        stops_here (later_then s r (tested x r) k (later_with r (cell.Scope ((label 74, Some x) ∷ []) (Some p))))
         (subst (λ a. CallEnds w f (x ∷ []) (tested x r) (Err e) a) (ends-one-state (call_of w turned (x ∷ []) r) (Err d) (Err e) u t mine c)
         (subst (λ a. CallEnds w f (x ∷ []) (tested x r) a u) (ends-one-end (call_of w turned (x ∷ []) r) (Err d) (Err e) u t mine c) h))
 
@@ -86,7 +87,7 @@ module _ (w : PlainSetting) (knows : Knows w.codes) (f l : Value) where
         → ((v : WorldState) → Home v.cells p vars → AllEnd w f xs v → Stops w turned xs v e t → Stops w f xs v e t) → Stops w f (x ∷ xs) s e t
     stop-behind x z xs e s r b t k round c i (Ok y) u h a again =
         let same : u ≡ b = ends-one-state (call_of w turned (x ∷ []) r) (Ok (truth (is_false y))) (Ok z) u b (turned-called w knows f l p x r round y u h) c in
-        stops_behind (later-then s r (tested x r) k (later-with r (cell.Scope ((label 74, Some x) ∷ []) (Some p)))) h
+        stops_behind (later_then s r (tested x r) k (later_with r (cell.Scope ((label 74, Some x) ∷ []) (Some p)))) h
         (again u (home-later r u (far w knows f l p x r y u h) p vars round) a (subst (λ v. Stops w turned xs v e t) (sym same) i))
     stop-behind x z xs e s r b t k round c i (Err d) u h a again =
         let wrong : Err d ≡ Ok z = ends-one-end (call_of w turned (x ∷ []) r) (Err d) (Ok z) u b (turned-stops x r round d u h) c in
@@ -95,10 +96,10 @@ module _ (w : PlainSetting) (knows : Knows w.codes) (f l : Value) where
     stops-back : (xs : List Value) (e : Bare) (s t : WorldState) → Home s.cells p vars → AllEnd w f xs s → Stops w turned xs s e t → Stops w f xs s e t
     stops-back [] e s t round give i = elim i [ ]
     stops-back (x ∷ ys) e s t round give (stops_here {t = r} k c) =
-        let made = give (tested x r) (later-then s r (tested x r) k (later-with r (cell.Scope ((label 74, Some x) ∷ []) (Some p)))) in
+        let made = give (tested x r) (later_then s r (tested x r) k (later_with r (cell.Scope ((label 74, Some x) ∷ []) (Some p)))) in
         stop-here x ys e s r t k (home-later s r k p vars round) c made.0 made.1 made.2
     stops-back (x ∷ ys) e s t round give (stops_behind {y = z} {t = r} {u = b} k c i) =
-        let made = give (tested x r) (later-then s r (tested x r) k (later-with r (cell.Scope ((label 74, Some x) ∷ []) (Some p)))) in
+        let made = give (tested x r) (later_then s r (tested x r) k (later_with r (cell.Scope ((label 74, Some x) ∷ []) (Some p)))) in
         stop-behind x z ys e s r b t k (home-later s r k p vars round) c i made.0 made.1 made.2 made.3 (λ v around a j. stops-back ys e v t around a j)
 
   module _ (s : WorldState) where
@@ -140,7 +141,7 @@ module _ (w : PlainSetting) (knows : Knows w.codes) (f l : Value) where
         round = record { around = Some (next_place s); is = inside.frame }
 
         behind : LaterWorld s inner
-        behind = later-then s outside inner (later-with s (cell.Scope [] None)) (later-with outside (cell.Scope vars (Some (next_place s))))
+        behind = later_then s outside inner (later_with s (cell.Scope [] None)) (later_with outside (cell.Scope vars (Some (next_place s))))
 
         gives : AllEnd w f xs inner
         gives = all-end-later w f xs s inner behind give

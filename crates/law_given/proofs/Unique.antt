@@ -5,9 +5,10 @@ use Rattle.eval_code.specs.Setting.{PlainSetting}
 use Rattle.eval_code.specs.State.{WorldState, Outcome, done, faulted, unfit}
 use Rattle.law_eval.specs.Kept.{LaterWorld}
 use Rattle.law_eval.specs.Runs.{ByFuel}
+use Rattle.law_eval.proofs.Keeping.{later_then}
 use Rattle.law_given.specs.Calls.{End, ended, Ends, Gives, call_of}
 use Rattle.law_given.specs.InTurn.{InTurn, no_call, one_call, AllGive, AllGiveBy}
-use Rattle.law_given.proofs.Later.{later-then, calls-later}
+use Rattle.law_given.proofs.Later.{calls-later}
 
 abbrev pub value_or : Value → Outcome → Value
 value_or d (done v s n) = v
@@ -60,13 +61,13 @@ ends-one-state run r q t u g h = sym (state-of r t t h.0) ∙ ap (left_state t) 
 module _ (w : PlainSetting) (f : Value) (g : Value → Value) where
   pub by-later : (xs : List Value) (s t : WorldState) → LaterWorld s t → AllGiveBy w f g xs s → AllGiveBy w f g xs t
   by-later [] s t k h = tt
-  by-later (x ∷ xs) s t k h = (λ u l. h.0 u (later-then s t u k l), by-later xs s t k h.1)
+  by-later (x ∷ xs) s t k h = (λ u l. h.0 u (later_then s t u k l), by-later xs s t k h.1)
 
   pub by-all : (xs : List Value) (s : WorldState) → AllGiveBy w f g xs s → AllGive w f xs s
   by-all [] s h = tt
   by-all (x ∷ xs) s h = λ t k.
       let c = h.0 t k in
-      (g x, c.0, c.1, by-all xs c.0 (by-later xs s c.0 (later-then s t c.0 k (calls-later w f (x ∷ []) t (g x) c.0 c.1)) h.1))
+      (g x, c.0, c.1, by-all xs c.0 (by-later xs s c.0 (later_then s t c.0 k (calls-later w f (x ∷ []) t (g x) c.0 c.1)) h.1))
 
   -- the answers are what the function says
   pub by-answers : (xs ys : List Value) (s t : WorldState) → AllGiveBy w f g xs s → InTurn w f xs s ys t → ys ≡ map g xs
@@ -74,5 +75,5 @@ module _ (w : PlainSetting) (f : Value) (g : Value → Value) where
   by-answers xs ys s t h (one_call {x = x} {y = y} {xs = xs'} {ys = ys'} {t = r} {u = u} k c i) =
       let one = h.0 r k in
       let same : y ≡ g x = gives-one-value (call_of w f (x ∷ []) r) y (g x) u one.0 c one.1 in
-      let behind = later-then s r u k (calls-later w f (x ∷ []) r y u c) in
+      let behind = later_then s r u k (calls-later w f (x ∷ []) r y u c) in
       ap₂ (λ z zs. z ∷ zs) same (by-answers xs' ys' u t (by-later xs' s u behind h.1) i)

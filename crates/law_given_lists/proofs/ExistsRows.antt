@@ -16,6 +16,7 @@ use Rattle.eval_code.specs.Setting.{PlainSetting}
 use Rattle.eval_code.specs.State.{WorldState, Go, next_place, with_cell}
 use Rattle.eval_code.specs.Variables.{Entries}
 use Rattle.law_eval.specs.Kept.{LaterWorld}
+use Rattle.law_eval.proofs.Keeping.{later_then, later_with}
 use Rattle.law_lists.specs.Runs.{IsList}
 use Rattle.law_lists.proofs.RunLemmas.{pair_still}
 use Rattle.law_given.specs.Calls.{End, Ends, call_of, CallEnds, Calls}
@@ -24,7 +25,7 @@ use Rattle.law_given.proofs.FindLoop.{by-truth}
 use Rattle.law_given.proofs.Giving.{Evaluates, ExpressionEnds, procedure-is}
 use Rattle.law_given.proofs.Inside.{Inside, Home, one_home, home-later, inside-later, entered-inside, own, outer}
 use Rattle.law_given.proofs.Knows.{Knows}
-use Rattle.law_given.proofs.Later.{later-refl, later-then, later-with, calls-later, list-later}
+use Rattle.law_given.proofs.Later.{later-refl, calls-later, list-later}
 use Rattle.law_given.proofs.Looking.{get-below, later-stay, in_cell, in_parent, variable-is}
 use Rattle.law_given.proofs.Loop.{Names, two_vars, entered-later}
 use Rattle.law_given.proofs.LoopText.{home_place}
@@ -85,7 +86,7 @@ module _ (w : PlainSetting) (knows : Knows w.codes) (f : Value) (p : Place) wher
       asked-at = loop.asked-later w knows 43 42 45 46 exists_loop knows.exists_loop p home names f lv s round l more lists at (later-refl at) row (d ∷ ds) pairs
 
       till-asked : LaterWorld s asked.state
-      till-asked = later-then s at asked.state enter asked-at
+      till-asked = later_then s at asked.state enter asked-at
 
       ask-iff : (r : End) (t : WorldState) → Iff (ExpressionEnds w (on_cars (var 45) (var 46)) q at r t) (CallEnds w f row asked.state r t)
       ask-iff = loop.ask-iff w knows 43 42 45 46 exists_loop knows.exists_loop p home names f lv s round l more lists at (later-refl at) row (d ∷ ds) pairs
@@ -116,7 +117,7 @@ module _ (w : PlainSetting) (knows : Knows w.codes) (f : Value) (p : Place) wher
       -- what comes of an answer
       module _ (y : Value) (u : WorldState) (called : Calls w f row asked.state y u) where
         behind : LaterWorld at u
-        behind = later-then at asked.state u asked-at (calls-later w f row asked.state y u called)
+        behind = later_then at asked.state u asked-at (calls-later w f row asked.state y u called)
 
         abbrev frame : Entries
         frame = (label 50, Some y) ∷ []
@@ -125,7 +126,7 @@ module _ (w : PlainSetting) (knows : Knows w.codes) (f : Value) (p : Place) wher
         looked = with_cell (cell.Scope frame (Some q)) u
 
         look-later : LaterWorld u looked
-        look-later = later-with u (cell.Scope frame (Some q))
+        look-later = later_with u (cell.Scope frame (Some q))
 
         around : Inside u.cells q (two_vars 45 46 f lv) p home
         around = inside-later at u behind q (two_vars 45 46 f lv) p home (entered-inside s (two_vars 45 46 f lv) p home round)
@@ -142,7 +143,7 @@ module _ (w : PlainSetting) (knows : Knows w.codes) (f : Value) (p : Place) wher
             (case-iff w (code_no 48) q (y ∷ []) u (procedure_code (code_no 48) (one_case (50 ∷ []) None exists_next) true) (formals (50 ∷ []) None) exists_next r t knows.exists_next refl)
 
         far-looked : LaterWorld s looked
-        far-looked = later-then s at looked enter (later-then at u looked behind look-later)
+        far-looked = later_then s at looked enter (later_then at u looked behind look-later)
 
         -- (map cdr ls), on which the loop goes on
         lists-looked : IsList looked.cells (l ∷ more) lv
@@ -158,10 +159,10 @@ module _ (w : PlainSetting) (knows : Knows w.codes) (f : Value) (p : Place) wher
         left-looked = cdrs-later w knows looked lv (l ∷ more) lists-looked row (d ∷ ds) pairs-looked
 
         till-left : LaterWorld u left.state
-        till-left = later-then u looked left.state look-later left-looked
+        till-left = later_then u looked left.state look-later left-looked
 
         far : LaterWorld s left.state
-        far = later-then s looked left.state far-looked left-looked
+        far = later_then s looked left.state far-looked left-looked
 
         -- the loop is found in the third cell
         loop-read : Evaluates w (var 42) (next_place u) looked g looked

@@ -16,13 +16,14 @@ use Rattle.eval_code.specs.Setting.{PlainSetting}
 use Rattle.eval_code.specs.State.{WorldState, Go, next_place, with_cell}
 use Rattle.eval_code.specs.Variables.{Entries}
 use Rattle.law_eval.specs.Kept.{LaterWorld}
+use Rattle.law_eval.proofs.Keeping.{later_then, later_with}
 use Rattle.law_lists.specs.Runs.{IsList}
 use Rattle.law_given.specs.Calls.{End, Ends, call_of, CallEnds, Calls}
 use Rattle.law_given.specs.Codes.{label, code_no, var, prim, formals, one_case, app, car, cars, cdrs, first_is_null, fold_left_loop}
 use Rattle.law_given.proofs.Giving.{Evaluates, ExpressionEnds, primitive-is}
 use Rattle.law_given.proofs.Inside.{Inside, Home, one_home, home-later, inside-later, entered-inside, own, outer}
 use Rattle.law_given.proofs.Knows.{Knows}
-use Rattle.law_given.proofs.Later.{later-then, later-with, calls-later, list-later}
+use Rattle.law_given.proofs.Later.{calls-later, list-later}
 use Rattle.law_given.proofs.LoopText.{home_place}
 use Rattle.law_given.proofs.MapOne.{list-some}
 use Rattle.law_given.proofs.Primitives.{pair-not-nil, null-is, car-is}
@@ -60,7 +61,7 @@ module _ (w : PlainSetting) (knows : Knows w.codes) (f : Value) (p : Place) wher
     q = next_place s
 
     enter : LaterWorld s at
-    enter = later-with s (cell.Scope vars (Some p))
+    enter = later_with s (cell.Scope vars (Some p))
 
     body-iff : (r : End) (t : WorldState) → Iff (CallEnds w g (f ∷ z ∷ lv ∷ []) s r t) (ExpressionEnds w fold_left_loop q at r t)
     body-iff r t =
@@ -96,7 +97,7 @@ module _ (w : PlainSetting) (knows : Knows w.codes) (f : Value) (p : Place) wher
       asked-at = cars-later w knows at lv (l ∷ ls) lists-at row (d ∷ ds) pairs-at
 
       till-asked : LaterWorld s asked.state
-      till-asked = later-then s at asked.state enter asked-at
+      till-asked = later_then s at asked.state enter asked-at
 
       abbrev on_row : PlainCore
       on_row = app (prim names.APPLY) (var 96 ∷ var 97 ∷ cars (var 98) ∷ [])
@@ -121,7 +122,7 @@ module _ (w : PlainSetting) (knows : Knows w.codes) (f : Value) (p : Place) wher
 
       module _ (y : Value) (u : WorldState) (called : Calls w f (z ∷ row) asked.state y u) where
         behind : LaterWorld at u
-        behind = later-then at asked.state u asked-at (calls-later w f (z ∷ row) asked.state y u called)
+        behind = later_then at asked.state u asked-at (calls-later w f (z ∷ row) asked.state y u called)
 
         inside-then : Inside u.cells q vars p home
         inside-then = inside-later at u behind q vars p home inside
@@ -140,7 +141,7 @@ module _ (w : PlainSetting) (knows : Knows w.codes) (f : Value) (p : Place) wher
         till-left = cdrs-later w knows u lv (l ∷ ls) lists-then row (d ∷ ds) pairs-then
 
         far : LaterWorld s left.state
-        far = later-then s at left.state enter (later-then at u left.state behind till-left)
+        far = later_then s at left.state enter (later_then at u left.state behind till-left)
 
         again-iff : (r : End) (t : WorldState) → Real r → Iff (Ends (go_on y u) r t) (CallEnds w g (f ∷ y ∷ left.value ∷ []) left.state r t)
         again-iff r t real =

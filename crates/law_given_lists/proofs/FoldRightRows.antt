@@ -21,6 +21,7 @@ use Rattle.eval_code.specs.Setting.{PlainSetting}
 use Rattle.eval_code.specs.State.{WorldState, Go, store, next_place, with_cell}
 use Rattle.eval_code.specs.Variables.{Entries}
 use Rattle.law_eval.specs.Kept.{LaterWorld}
+use Rattle.law_eval.proofs.Keeping.{later_then, later_with}
 use Rattle.law_lists.specs.Runs.{Runs, here, next, IsList}
 use Rattle.law_lists.proofs.RunLemmas.{stored_runs, runs_stored}
 use Rattle.law_given.specs.Calls.{End, call_of, CallEnds, Calls}
@@ -28,7 +29,7 @@ use Rattle.law_given.specs.Codes.{label, code_no, var, prim, formals, one_case, 
 use Rattle.law_given.proofs.Giving.{Evaluates, ExpressionEnds, primitive-is, call-two}
 use Rattle.law_given.proofs.Inside.{Inside, Home, one_home, home-later, inside-later, entered-inside, own, outer}
 use Rattle.law_given.proofs.Knows.{Knows}
-use Rattle.law_given.proofs.Later.{later-then, later-with, calls-later, list-later}
+use Rattle.law_given.proofs.Later.{calls-later, list-later}
 use Rattle.law_given.proofs.LoopText.{home_place}
 use Rattle.law_given.proofs.MapOne.{list-some, list-more}
 use Rattle.law_given.proofs.Primitives.{pair-not-nil, next_pair, null-is, car-is, list-is, appended}
@@ -71,7 +72,7 @@ module _ (w : PlainSetting) (knows : Knows w.codes) (f z : Value) (p : Place) wh
     q = next_place s
 
     enter : LaterWorld s at
-    enter = later-with s (cell.Scope vars (Some p))
+    enter = later_with s (cell.Scope vars (Some p))
 
     body-iff : (r : End) (t : WorldState) → Iff (CallEnds w g (f ∷ z ∷ lv ∷ []) s r t) (ExpressionEnds w fold_right_loop q at r t)
     body-iff r t =
@@ -123,7 +124,7 @@ module _ (w : PlainSetting) (knows : Knows w.codes) (f z : Value) (p : Place) wh
       left-asked = cdrs-later w knows asked.state lv (l ∷ ls) lists-asked row (d ∷ ds) pairs-asked
 
       far : LaterWorld s left.state
-      far = later-then s at left.state enter (later-then at asked.state left.state asked-at left-asked)
+      far = later_then s at left.state enter (later_then at asked.state left.state asked-at left-asked)
 
       abbrev again : PlainCore
       again = app (var 109) (var 112 ∷ var 113 ∷ cdrs (var 114) ∷ [])
@@ -180,7 +181,7 @@ module _ (w : PlainSetting) (knows : Knows w.codes) (f z : Value) (p : Place) wh
             later-names t = omega arith
 
         joined-later : LaterWorld u joined
-        joined-later = later-then u listed joined (later-with u (cell.Pair y nil)) joined-listed
+        joined-later = later_then u listed joined (later_with u (cell.Pair y nil)) joined-listed
 
         last-one : IsList listed.cells (y ∷ []) (next_pair w u)
         last-one = list-more u.cells y nil [] here
@@ -190,7 +191,7 @@ module _ (w : PlainSetting) (knows : Knows w.codes) (f z : Value) (p : Place) wh
 
         row-elements : list_elements listed.cells asked.value ≡ Some row
         row-elements =
-            let behind = later-then asked.state u listed (later-then asked.state left.state u left-asked (calls-later w g (f ∷ z ∷ left.value ∷ []) left.state y u called)) (later-with u (cell.Pair y nil)) in
+            let behind = later_then asked.state u listed (later_then asked.state left.state u left-asked (calls-later w g (f ∷ z ∷ left.value ∷ []) left.state y u called)) (later_with u (cell.Pair y nil)) in
             elements-of listed.cells row asked.value (list-later asked.state listed behind row asked.value asked.list)
 
         gathered : Evaluates w fold_right_args q at arguments joined

@@ -14,13 +14,14 @@ use Rattle.eval_code.specs.Setting.{PlainSetting}
 use Rattle.eval_code.specs.State.{WorldState, next_place, with_cell}
 use Rattle.eval_code.specs.Variables.{Entries}
 use Rattle.law_eval.specs.Kept.{LaterWorld}
+use Rattle.law_eval.proofs.Keeping.{later_then, later_with}
 use Rattle.law_lists.specs.Runs.{IsList}
 use Rattle.law_given.specs.Calls.{End, CallEnds}
 use Rattle.law_given.specs.Codes.{label, code_no, var, formals, one_case, lambda, cons, text_code, enter_fold}
 use Rattle.law_given.proofs.Giving.{procedure-is}
 use Rattle.law_given.proofs.Inside.{Inside, Home, one_home, entered-inside, own, outer, letrec-is}
 use Rattle.law_given.proofs.Knows.{HasText, HasCase}
-use Rattle.law_given.proofs.Later.{later-then, later-with, list-later}
+use Rattle.law_given.proofs.Later.{list-later}
 use Rattle.law_given.proofs.Looking.{later-stay}
 use Rattle.law_given.proofs.LoopText.{loop_text, outside, home_place, ready, ready-home, ready-later}
 use Rattle.law_given.proofs.MapOne.{list-more}
@@ -75,15 +76,15 @@ module _ (w : PlainSetting) (s : WorldState) (go code : ℕ) (op k a b c d : ℕ
   loop_state = with_cell (cell.Pair l (rest_list more at_ready)) inner
 
   kept-inner : LaterWorld kept inner
-  kept-inner = later-with kept (cell.Scope entries (Some home_at))
+  kept-inner = later_with kept (cell.Scope entries (Some home_at))
 
   inner-loop : LaterWorld inner loop_state
-  inner-loop = later-with inner (cell.Pair l (rest_list more at_ready))
+  inner-loop = later_with inner (cell.Pair l (rest_list more at_ready))
 
   pub loop-later : LaterWorld s loop_state
   loop-later =
-      later-then s at_ready loop_state (ready-later w s go code)
-      (later-then at_ready kept loop_state (rest-later more at_ready) (later-then kept inner loop_state kept-inner inner-loop))
+      later_then s at_ready loop_state (ready-later w s go code)
+      (later_then at_ready kept loop_state (rest-later more at_ready) (later_then kept inner loop_state kept-inner inner-loop))
 
   home-kept : Home kept.cells home_at home_entries
   home-kept =

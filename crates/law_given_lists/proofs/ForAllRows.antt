@@ -15,6 +15,7 @@ use Rattle.eval_code.specs.Setting.{PlainSetting}
 use Rattle.eval_code.specs.State.{WorldState, next_place}
 use Rattle.eval_code.specs.Variables.{Entries}
 use Rattle.law_eval.specs.Kept.{LaterWorld}
+use Rattle.law_eval.proofs.Keeping.{later_then}
 use Rattle.law_lists.specs.Runs.{IsList}
 use Rattle.law_lists.proofs.RunLemmas.{pair_still}
 use Rattle.law_given.specs.Calls.{End, Ends, call_of, CallEnds, Calls}
@@ -23,7 +24,7 @@ use Rattle.law_given.proofs.FindLoop.{by-truth}
 use Rattle.law_given.proofs.Giving.{Evaluates, ExpressionEnds}
 use Rattle.law_given.proofs.Inside.{Home, one_home, home-later}
 use Rattle.law_given.proofs.Knows.{Knows}
-use Rattle.law_given.proofs.Later.{later-refl, later-then, calls-later}
+use Rattle.law_given.proofs.Later.{later-refl, calls-later}
 use Rattle.law_given.proofs.Looking.{later-stay}
 use Rattle.law_given.proofs.Loop.{Names, entered-later}
 use Rattle.law_given.proofs.LoopText.{home_place}
@@ -84,7 +85,7 @@ module _ (w : PlainSetting) (knows : Knows w.codes) (f : Value) (p : Place) wher
       asked-at = loop.asked-later w knows 29 28 31 32 for_all_loop knows.for_all_loop p home names f lv s round l more lists at (later-refl at) row (d ∷ ds) pairs
 
       till-asked : LaterWorld s asked.state
-      till-asked = later-then s at asked.state enter asked-at
+      till-asked = later_then s at asked.state enter asked-at
 
       ask-iff : (r : End) (t : WorldState) → Iff (ExpressionEnds w (on_cars (var 31) (var 32)) q at r t) (CallEnds w f row asked.state r t)
       ask-iff = loop.ask-iff w knows 29 28 31 32 for_all_loop knows.for_all_loop p home names f lv s round l more lists at (later-refl at) row (d ∷ ds) pairs
@@ -111,7 +112,7 @@ module _ (w : PlainSetting) (knows : Knows w.codes) (f : Value) (p : Place) wher
       -- what comes of an answer
       module _ (y : Value) (u : WorldState) (called : Calls w f row asked.state y u) where
         behind : LaterWorld at u
-        behind = later-then at asked.state u asked-at (calls-later w f row asked.state y u called)
+        behind = later_then at asked.state u asked-at (calls-later w f row asked.state y u called)
 
         -- (map cdr ls), on which the loop goes on
         abbrev left : Listed w (value.Prim (record { 0 = ops.MAP })) (value.Prim (record { 0 = ops.CDR }) ∷ lv ∷ []) u (d ∷ ds)
@@ -121,7 +122,7 @@ module _ (w : PlainSetting) (knows : Knows w.codes) (f : Value) (p : Place) wher
         till-left = loop.left-later w knows 29 28 31 32 for_all_loop knows.for_all_loop p home names f lv s round l more lists u behind row (d ∷ ds) pairs
 
         far : LaterWorld s left.state
-        far = later-then s at left.state enter (later-then at u left.state behind till-left)
+        far = later_then s at left.state enter (later_then at u left.state behind till-left)
 
         again-iff : truth_of y ≡ true → (r : End) (t : WorldState) → Iff (Ends ((two_arms w (eval_of w) (app (var 28) (var 31 ∷ cdrs (var 32) ∷ [])) no_more q) y u) r t) (CallEnds w g (f ∷ left.value ∷ []) left.state r t)
         again-iff e r t =

@@ -19,13 +19,14 @@ use Rattle.eval_code.specs.Setting.{PlainSetting}
 use Rattle.eval_code.specs.State.{WorldState, Go, next_place, with_cell}
 use Rattle.eval_code.specs.Variables.{Entries}
 use Rattle.law_eval.specs.Kept.{LaterWorld}
+use Rattle.law_eval.proofs.Keeping.{later_then, later_with}
 use Rattle.law_lists.specs.Runs.{here, IsList}
 use Rattle.law_given.specs.Calls.{End, call_of, CallEnds, Calls}
 use Rattle.law_given.specs.Codes.{label, code_no, var, prim, formals, one_case, app, car, cons, first_is_null, text_code, map_many, map_body, map_text}
 use Rattle.law_given.proofs.Giving.{Evaluates, ExpressionEnds, primitive-is, operand-stops, call-two}
 use Rattle.law_given.proofs.Inside.{Inside, Home, home-later, inside-later, entered-inside, own, outer}
 use Rattle.law_given.proofs.Knows.{Knows}
-use Rattle.law_given.proofs.Later.{later-refl, later-then, later-with, calls-later, list-later}
+use Rattle.law_given.proofs.Later.{later-refl, calls-later, list-later}
 use Rattle.law_given.proofs.MapOne.{list-some, list-more, map_home, map-one}
 use Rattle.law_given.proofs.MapText.{text-is}
 use Rattle.law_given.proofs.Primitives.{pair-not-nil, next_pair, null-is, car-is, nil-is, cons-is}
@@ -68,7 +69,7 @@ module _ (w : PlainSetting) (knows : Knows w.codes) (f : Value) (p : Place) wher
     q = next_place s
 
     enter : LaterWorld s at
-    enter = later-with s (cell.Scope vars (Some p))
+    enter = later_with s (cell.Scope vars (Some p))
 
     body-iff : (r : End) (t : WorldState) → Iff (CallEnds w g (f ∷ lv ∷ []) s r t) (ExpressionEnds w map_many q at r t)
     body-iff r t =
@@ -94,13 +95,13 @@ module _ (w : PlainSetting) (knows : Knows w.codes) (f : Value) (p : Place) wher
         inside-then = inside-later at u behind q vars p (map_home p) inside
 
         home-then : Home u.cells p (map_home p)
-        home-then = home-later s u (later-then s at u enter behind) p (map_home p) round
+        home-then = home-later s u (later_then s at u enter behind) p (map_home p) round
 
         lists-then : IsList u.cells (l ∷ ls) lv
         lists-then = list-later at u behind (l ∷ ls) lv lists-at
 
         pairs-then : Pairs u.cells row (d ∷ ds) (l ∷ ls)
-        pairs-then = pairs-later s u (later-then s at u enter behind) pairs
+        pairs-then = pairs-later s u (later_then s at u enter behind) pairs
 
         -- (one car ls) and (one cdr ls)
         abbrev cars_then : Listed w one (value.Prim (record { 0 = names.CAR }) ∷ lv ∷ []) u row
@@ -121,7 +122,7 @@ module _ (w : PlainSetting) (knows : Knows w.codes) (f : Value) (p : Place) wher
       asked-at = calls-later w one (value.Prim (record { 0 = names.CAR }) ∷ lv ∷ []) at asked.value asked.state asked.called
 
       till-asked : LaterWorld s asked.state
-      till-asked = later-then s at asked.state enter asked-at
+      till-asked = later_then s at asked.state enter asked-at
 
       abbrev on_row : PlainCore
       on_row = app (prim names.APPLY) (var 11 ∷ app (var 2) (prim names.CAR ∷ var 12 ∷ []) ∷ [])
@@ -148,7 +149,7 @@ module _ (w : PlainSetting) (knows : Knows w.codes) (f : Value) (p : Place) wher
 
       module _ (y : Value) (u : WorldState) (called : Calls w f row asked.state y u) where
         behind : LaterWorld at u
-        behind = later-then at asked.state u asked-at (calls-later w f row asked.state y u called)
+        behind = later_then at asked.state u asked-at (calls-later w f row asked.state y u called)
 
         abbrev left : Listed w one (value.Prim (record { 0 = names.CDR }) ∷ lv ∷ []) u (d ∷ ds)
         left = cdrs_then u behind
@@ -157,7 +158,7 @@ module _ (w : PlainSetting) (knows : Knows w.codes) (f : Value) (p : Place) wher
         till-left = calls-later w one (value.Prim (record { 0 = names.CDR }) ∷ lv ∷ []) u left.value left.state left.called
 
         far : LaterWorld s left.state
-        far = later-then s at left.state enter (later-then at u left.state behind till-left)
+        far = later_then s at left.state enter (later_then at u left.state behind till-left)
 
         again-iff : (r : End) (t : WorldState) → Iff (ExpressionEnds w on_rest q u r t) (CallEnds w g (f ∷ left.value ∷ []) left.state r t)
         again-iff r t =
@@ -179,7 +180,7 @@ module _ (w : PlainSetting) (knows : Knows w.codes) (f : Value) (p : Place) wher
         whole : (rows : List (List Value)) (v : Value) (t : WorldState) → MapDid w f rows u (Ok v) t → MapDid w f (row ∷ rows) s (Ok (next_pair w t)) (with_cell (cell.Pair y v) t)
         whole rows v t did = (
           y ∷ did.0,
-          one_call till-asked called (in-turn-to w f rows did.0 u t (with_cell (cell.Pair y v) t) did.1 (later-with t (cell.Pair y v))),
+          one_call till-asked called (in-turn-to w f rows did.0 u t (with_cell (cell.Pair y v) t) did.1 (later_with t (cell.Pair y v))),
           list-more t.cells y v did.0 did.2,
         )
 
@@ -274,19 +275,19 @@ module _ (w : PlainSetting) (knows : Knows w.codes) (f l m : Value) (ms : List V
   begun = with_cell (cell.Pair l rest) inner
 
   kept-inner : LaterWorld kept inner
-  kept-inner = later-with kept (cell.Scope entries (Some home_at))
+  kept-inner = later_with kept (cell.Scope entries (Some home_at))
 
   inner-begun : LaterWorld inner begun
-  inner-begun = later-with inner (cell.Pair l rest)
+  inner-begun = later_with inner (cell.Pair l rest)
 
   ready-kept : LaterWorld ready kept
   ready-kept = rest-later (m ∷ ms) ready
 
   far-begun : LaterWorld s begun
   far-begun =
-      later-then s outside begun (later-with s (cell.Scope [] None))
-      (later-then outside ready begun (later-with outside (cell.Scope (map_home home_at) (Some (next_place s))))
-      (later-then ready kept begun ready-kept (later-then kept inner begun kept-inner inner-begun)))
+      later_then s outside begun (later_with s (cell.Scope [] None))
+      (later_then outside ready begun (later_with outside (cell.Scope (map_home home_at) (Some (next_place s))))
+      (later_then ready kept begun ready-kept (later_then kept inner begun kept-inner inner-begun)))
 
   home-ready : Home ready.cells home_at (map_home home_at)
   home-ready = record { around = Some (next_place s); is = slice_get-added outside.cells (cell.Scope (map_home home_at) (Some (next_place s))) }
@@ -295,7 +296,7 @@ module _ (w : PlainSetting) (knows : Knows w.codes) (f l m : Value) (ms : List V
   inside-inner = entered-inside kept entries home_at (map_home home_at) (home-later ready kept ready-kept home_at (map_home home_at) home-ready)
 
   home-begun : Home begun.cells home_at (map_home home_at)
-  home-begun = home-later ready begun (later-then ready kept begun ready-kept (later-then kept inner begun kept-inner inner-begun)) home_at (map_home home_at) home-ready
+  home-begun = home-later ready begun (later_then ready kept begun ready-kept (later_then kept inner begun kept-inner inner-begun)) home_at (map_home home_at) home-ready
 
   lists-are : IsList begun.cells (l ∷ m ∷ ms) lists
   lists-are = list-more inner.cells l rest (m ∷ ms) (list-later kept inner kept-inner (m ∷ ms) rest (rest-is (m ∷ ms) ready))

@@ -22,6 +22,7 @@ use Rattle.eval_code.specs.Setting.{PlainSetting}
 use Rattle.eval_code.specs.State.{WorldState, store, next_place, with_cell}
 use Rattle.eval_code.specs.Variables.{Entries}
 use Rattle.law_eval.specs.Kept.{LaterWorld}
+use Rattle.law_eval.proofs.Keeping.{later_then, later_with}
 use Rattle.law_lists.specs.Runs.{IsList}
 use Rattle.law_lists.proofs.RunLemmas.{stored_runs}
 use Rattle.law_given.specs.Calls.{End, CallEnds}
@@ -29,7 +30,7 @@ use Rattle.law_given.specs.Codes.{label, code_no, var, formals, one_case, lambda
 use Rattle.law_given.proofs.Giving.{Evaluates, ExpressionEnds, procedure-is}
 use Rattle.law_given.proofs.Inside.{Inside, Home, one_home, inside-later, entered-inside, own, outer, letrec-is}
 use Rattle.law_given.proofs.Knows.{Knows, HasText, HasCase}
-use Rattle.law_given.proofs.Later.{later-then, later-with, list-later}
+use Rattle.law_given.proofs.Later.{list-later}
 use Rattle.law_given.proofs.Looking.{later-stay}
 use Rattle.law_given.proofs.Loop as loop
 use Rattle.law_given.proofs.Loop.{Names, two_vars}
@@ -58,7 +59,7 @@ module _ (w : PlainSetting) (knows : Knows w.codes) (code go m n : ℕ) (body : 
 
   module _ (l : Value) (more : List Value) (lists : IsList s.cells (l ∷ more) lv) (u : WorldState) (behind : LaterWorld at u) where
     far : LaterWorld s u
-    far = later-then s at u (later-with s (cell.Scope (two_vars m n f lv) (Some p))) behind
+    far = later_then s at u (later_with s (cell.Scope (two_vars m n f lv) (Some p))) behind
 
     pub lists-then : IsList u.cells (l ∷ more) lv
     lists-then = list-later s u far (l ∷ more) lv lists
@@ -169,15 +170,15 @@ module _ (w : PlainSetting) (s : WorldState) (go code : ℕ) (op k a b c : ℕ) 
   loop_state = with_cell (cell.Pair l (rest_list more at_ready)) inner
 
   kept-inner : LaterWorld kept inner
-  kept-inner = later-with kept (cell.Scope entries (Some home_at))
+  kept-inner = later_with kept (cell.Scope entries (Some home_at))
 
   inner-loop : LaterWorld inner loop_state
-  inner-loop = later-with inner (cell.Pair l (rest_list more at_ready))
+  inner-loop = later_with inner (cell.Pair l (rest_list more at_ready))
 
   pub loop-later : LaterWorld s loop_state
   loop-later =
-      later-then s at_ready loop_state (ready-later w s go code)
-      (later-then at_ready kept loop_state (rest-later more at_ready) (later-then kept inner loop_state kept-inner inner-loop))
+      later_then s at_ready loop_state (ready-later w s go code)
+      (later_then at_ready kept loop_state (rest-later more at_ready) (later_then kept inner loop_state kept-inner inner-loop))
 
   home-kept : Home kept.cells home_at home_entries
   home-kept =

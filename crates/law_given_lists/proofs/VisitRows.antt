@@ -16,12 +16,13 @@ use Rattle.eval_code.specs.Setting.{PlainSetting}
 use Rattle.eval_code.specs.State.{WorldState, Go, next_place, with_cell}
 use Rattle.eval_code.specs.Variables.{Entries}
 use Rattle.law_eval.specs.Kept.{LaterWorld}
+use Rattle.law_eval.proofs.Keeping.{later_then, later_with}
 use Rattle.law_given.specs.Calls.{End, CallEnds}
 use Rattle.law_given.specs.Codes.{label, code_no, var, prim, formals, one_case, app, datum_at, text_code, for_each_body, for_each_text}
 use Rattle.law_given.proofs.Giving.{Evaluates, ExpressionEnds, procedure-is, primitive-is, no-arm}
 use Rattle.law_given.proofs.Inside.{Inside, home-later, entered-inside, own}
 use Rattle.law_given.proofs.Knows.{Knows}
-use Rattle.law_given.proofs.Later.{later-then, later-with, list-later}
+use Rattle.law_given.proofs.Later.{list-later}
 use Rattle.law_given.proofs.Primitives.{bool-is}
 use Rattle.law_given.proofs.Unique.{ends-one-end, ends-one-state}
 use Rattle.law_given_lists.specs.Done.{MapDid, VisitDid}
@@ -61,10 +62,10 @@ module _ (w : PlainSetting) (knows : Knows w.codes) (f l m : Value) (ms : List V
   outside-kept = rest-later (m ∷ ms) outside
 
   kept-inner : LaterWorld kept inner
-  kept-inner = later-with kept (cell.Scope entries (Some p))
+  kept-inner = later_with kept (cell.Scope entries (Some p))
 
   far : LaterWorld s inner
-  far = later-then s outside inner (later-with s (cell.Scope [] None)) (later-then outside kept inner outside-kept kept-inner)
+  far = later_then s outside inner (later_with s (cell.Scope [] None)) (later_then outside kept inner outside-kept kept-inner)
 
   inside : Inside inner.cells q entries p []
   inside =

@@ -1,6 +1,8 @@
 -- Marks that are known, and one that is not.
 use Rattle.std.specs.Prelude.{◌≡◌, ◌≢◌, ℕ, Bool, true, false, cond, List, [], ◌∷◌, ◌++◌, Option, None, Some, drop, refl}
 use Rattle.std.proofs.Common.{sym, ◌∙◌, ap, true≢false}
+use Rattle.base_data.proofs.ElementLemmas.{each-append, each-first, each-last}
+use Rattle.base_data.specs.Elements.{Each}
 use Rattle.base_data.specs.declared.name.FrameNo.{FrameNo}
 use Rattle.base_data.specs.declared.name.Label.{Label}
 use Rattle.base_data.specs.declared.name.Mark.{Mark}
@@ -18,9 +20,8 @@ use Rattle.stx_frames.specs.Scope.{Scope, same_frame, with_row}
 use Rattle.stx_scope.specs.Stands.{row_for}
 use Rattle.law_hygiene.specs.Binder.{IsOfOther, IsNew}
 use Rattle.law_hygiene.specs.Known.{IsKnown, HasKnown, AreKnown, AreKnownInRows, IsWithKnown}
-use Rattle.law_hygiene.specs.Marked.{has_mark, StampedWithout, Lacks, SparesIn, Spares, Each, Untouched}
+use Rattle.law_hygiene.specs.Marked.{has_mark, StampedWithout, Lacks, SparesIn, Spares, Untouched}
 use Rattle.law_hygiene.proofs.Marking.{same_mark-differs}
-use Rattle.law_hygiene.proofs.Using.{each_left, each_right, each_both}
 
 module _ (P : Mark → Bool) where
   module _ (m : Mark) (new : P m ≡ false) where
@@ -84,8 +85,8 @@ module _ (P : Mark → Bool) where
   known_changed xs k (atom s a) h = tt
   known_changed xs k (leaf s x c) h = (known_acts xs k c h.0, tt)
   known_changed xs k (pair s a d) h =
-      each_both (HasKnown P) (contexts (changed xs a)) (contexts (changed xs d)) (known_changed xs k a (each_left (HasKnown P) (contexts a) (contexts d) h))
-      (known_changed xs k d (each_right (HasKnown P) (contexts a) (contexts d) h))
+      each-append (HasKnown P) (contexts (changed xs a)) (contexts (changed xs d)) (known_changed xs k a (each-first (HasKnown P) (contexts a) (contexts d) h))
+      (known_changed xs k d (each-last (HasKnown P) (contexts a) (contexts d) h))
   known_changed xs k (vector s d) h = known_changed xs k d h
 
   known_row : (fs : Scope) (f : FrameNo) (r : Row) → AreKnownInRows P fs → Each (IsKnown P) r.marks → AreKnownInRows P (with_row fs f r)
@@ -93,7 +94,7 @@ module _ (P : Mark → Bool) where
   known_row (e ∷ es) f r h k = by (same_frame f e.0) (known_row es f r h.1 k)
     where
       by : (b : Bool) → AreKnownInRows P (with_row es f r) → AreKnownInRows P (cond b ((e.0, e.1 ++ r ∷ []) ∷ es) (e ∷ with_row es f r))
-      by true n = (each_both (λ (q : Row). Each (IsKnown P) q.marks) e.1 (r ∷ []) h.0 (k, tt), h.1)
+      by true n = (each-append (λ (q : Row). Each (IsKnown P) q.marks) e.1 (r ∷ []) h.0 (k, tt), h.1)
       by false n = (h.0, n)
 
   pub known_bound : (fs : Scope) (f : FrameNo) (s : Option Span) (x : List ℕ) (c : LeafContext) (l : Label) → AreKnownInRows P fs → HasKnown P c

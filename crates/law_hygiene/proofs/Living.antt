@@ -1,6 +1,7 @@
 -- The marks of a leaf are those of the uses that introduced it.
 use Rattle.std.specs.Prelude.{◌≡◌, ◌⊎◌, ℕ, List, [], ◌∷◌, map, Option, None, Some, refl}
 use Rattle.std.proofs.Common.{sym, ◌∙◌, ap, subst, inl, inr}
+use Rattle.base_data.specs.Elements.{Among}
 use Rattle.base_data.specs.declared.name.FrameNo.{FrameNo}
 use Rattle.base_data.specs.declared.name.Label.{Label}
 use Rattle.base_data.specs.declared.name.Mark.{Mark}
@@ -12,28 +13,27 @@ use Rattle.stx_frames.specs.Scope.{Scope}
 use Rattle.stx_scope.specs.Stands.{row_for}
 use Rattle.law_hygiene.specs.Binder.{Captures}
 use Rattle.law_hygiene.specs.History.{Event, stamped, introduced, change_of, uses, IsOnce, after, IsStart}
-use Rattle.law_hygiene.specs.Marked.{Among}
 use Rattle.law_hygiene.proofs.Marking.{lacks_first}
 use Rattle.law_hygiene.proofs.Rowing.{by_a_stamp}
 use Rattle.law_hygiene.proofs.Using.{left_introduced, marks_introduced}
 
 -- after an event that comes once
-marks_event : (e : Event) (es : List Event) (c : LeafContext) → IsOnce (e ∷ es) c.marks → (act (change_of e) c).marks ≡ uses (e ∷ []) c.marks
+pub marks_event : (e : Event) (es : List Event) (c : LeafContext) → IsOnce (e ∷ es) c.marks → (act (change_of e) c).marks ≡ uses (e ∷ []) c.marks
 marks_event (stamped f) es c h = refl
 marks_event (introduced m f) es c h = marks_introduced m f c (lacks_first m c.marks h.0)
 
-uses_event : (e : Event) (es : List Event) (ms : List Mark) → uses (e ∷ es) ms ≡ uses es (uses (e ∷ []) ms)
+pub uses_event : (e : Event) (es : List Event) (ms : List Mark) → uses (e ∷ es) ms ≡ uses es (uses (e ∷ []) ms)
 uses_event (stamped f) es ms = refl
 uses_event (introduced m f) es ms = refl
 
-once_event : (e : Event) (es : List Event) (ms : List Mark) → IsOnce (e ∷ es) ms → IsOnce es (uses (e ∷ []) ms)
+pub once_event : (e : Event) (es : List Event) (ms : List Mark) → IsOnce (e ∷ es) ms → IsOnce es (uses (e ∷ []) ms)
 once_event (stamped f) es ms h = h
 once_event (introduced m f) es ms h = h.1
 
 once_then : (e : Event) (es : List Event) (c : LeafContext) → IsOnce (e ∷ es) c.marks → IsOnce es (act (change_of e) c).marks
 once_then e es c h = subst (IsOnce es) (sym (marks_event e es c h)) (once_event e es c.marks h)
 
-marks_after : (es : List Event) (c : LeafContext) → IsOnce es c.marks → (acts (map change_of es) c).marks ≡ uses es c.marks
+pub marks_after : (es : List Event) (c : LeafContext) → IsOnce es c.marks → (acts (map change_of es) c).marks ≡ uses es c.marks
 marks_after [] c h = refl
 marks_after (e ∷ es) c h = marks_after es (act (change_of e) c) (once_then e es c h) ∙ ap (uses es) (marks_event e es c h) ∙ sym (uses_event e es c.marks)
 

@@ -11,6 +11,7 @@ use Rattle.stx_tree.specs.SameMarks.{same_mark_decides}
 use Rattle.stx_tree.specs.Tree.{Tree, atom, leaf, pair, vector}
 use Rattle.stx_tree.specs.declared.change.Change.{Change}
 use Rattle.stx_tree.specs.declared.change.Change.TheVariants.{Enter, Leave, Stamp}
+use Rattle.stx_tree.proofs.ContextLaws.{marks-framed}
 use Rattle.law_hygiene.specs.Marked.{has_mark, Lacks, SparesIn, Spares}
 
 pub same_mark-self : (m : Mark) → same_mark m m ≡ true
@@ -69,10 +70,6 @@ pub lacks_acts : (m : Mark) (xs : List Change) (c : LeafContext) → Spares m xs
 lacks_acts m [] c d h = h
 lacks_acts m (x ∷ xs) c d h = lacks_acts m xs (act x c) d.1 (lacks_act m x c d.0 h)
 
-marks_framed : (f : Option FrameNo) (c : LeafContext) → (framed f c).marks ≡ c.marks
-marks_framed None c = refl
-marks_framed (Some f) c = refl
-
 -- a leaf that has the mark keeps it
 pub has_act : (m : Mark) (x : Change) (c : LeafContext) → SparesIn m x → has_mark m (act x c).marks ≡ has_mark m c.marks
 has_act m (Enter n) c d = has_more m n c.marks d
@@ -80,7 +77,7 @@ has_act m (Leave n f) c d = by (is_first n c.marks) refl
   where
     by : (b : Bool) → is_first n c.marks ≡ b → has_mark m (cond b (unmarked c) (framed f (entered n c))).marks ≡ has_mark m c.marks
     by true e = has_fewer m n c.marks d e
-    by false e = ap (has_mark m) (marks_framed f (entered n c)) ∙ has_more m n c.marks d
+    by false e = ap (has_mark m) (marks-framed f (entered n c)) ∙ has_more m n c.marks d
 has_act m (Stamp f) c d = refl
 
 pub has_acts : (m : Mark) (xs : List Change) (c : LeafContext) → Spares m xs → has_mark m (acts xs c).marks ≡ has_mark m c.marks

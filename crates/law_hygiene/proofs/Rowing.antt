@@ -4,6 +4,8 @@ use Rattle.std.proofs.Common.{sym, ◌∙◌, ap, subst, true≢false, inl, inr}
 use Rattle.std.proofs.lemmas.List.Elements.{filter-append}
 use Rattle.std.specs.Cmp.{first_so, second_so}
 use Rattle.std.specs.Cmp.Lexicographic.{pointwise}
+use Rattle.base_data.proofs.ElementLemmas.{each-at}
+use Rattle.base_data.specs.Elements.{Each, Among}
 use Rattle.base_data.specs.Same.{texts_decides}
 use Rattle.base_data.specs.declared.name.FrameNo.{FrameNo}
 use Rattle.base_data.specs.declared.name.Mark.{Mark}
@@ -11,7 +13,7 @@ use Rattle.stx_tree.specs.SameMarks.{same_marks, same_marks_decides}
 use Rattle.stx_tree.specs.declared.stamp.Stamp.{Stamp}
 use Rattle.stx_frames.specs.Rows.{Row, is_of, label_in}
 use Rattle.stx_frames.specs.Scope.{Scope, same_frame, rows_at, label_at, or_else, label_by, with_row}
-use Rattle.law_hygiene.specs.Marked.{has_mark, StampedWithout, Each, Among}
+use Rattle.law_hygiene.specs.Marked.{has_mark, StampedWithout}
 use Rattle.law_hygiene.specs.Binder.{row_in, row_by, IsRowAt, IsOfUse, IsOfOther, IntroducesNone, others, without, IsNew}
 
 label_in-row : (rs : List Row) (s : List ℕ) (ms : List Mark) → label_in rs s ms ≡ option_map (λ (r : Row). r.label) (row_in rs s ms)
@@ -45,11 +47,6 @@ row_in_is s ms (q ∷ rs) r h = by (is_of s ms q) refl h (row_in_is s ms rs r)
         (inl same, ap (λ (z : Row). z.symbol) same ∙ sym x, ap (λ (z : Row). z.marks) same ∙ sym y)
     by false e k n = let i = n k in (inr i.0, i.1, i.2)
 
-each_among : {A : Type 0} (P : A → Type 0) (xs : List A) (x : A) → Each P xs → Among xs x → P x
-each_among P [] x h a = absurd a
-each_among P (y ∷ ys) x h (inl e) = subst P (sym e) h.0
-each_among P (y ∷ ys) x h (inr a) = each_among P ys x h.1 a
-
 -- marks that pass a test find nothing where those of no row of the symbol do
 pub row_in-failed : (p : List Mark → Bool) (s : List ℕ) (ms : List Mark) → p ms ≡ true → (rs : List Row) → Each (λ (r : Row). r.symbol ≡ s → IsFalse (p r.marks)) rs
     → row_in rs s ms ≡ None
@@ -59,7 +56,7 @@ row_in-failed p s ms h rs n = by (row_in rs s ms) refl
     by None e = refl
     by (Some r) e =
         let i = row_in_is s ms rs r e in
-        absurd (true≢false (sym h ∙ sym (ap p i.2) ∙ each_among (λ (r : Row). r.symbol ≡ s → IsFalse (p r.marks)) rs r n i.0 i.1))
+        absurd (true≢false (sym h ∙ sym (ap p i.2) ∙ each-at (λ (r : Row). r.symbol ≡ s → IsFalse (p r.marks)) rs r n i.0 i.1))
 
 pub by_a_stamp : (fs : Scope) (s : List ℕ) (ts : List Stamp) (r : Row) → row_by fs s ts ≡ Some r → (t : Stamp) × Among ts t × IsRowAt fs r s t
 by_a_stamp fs s [] r h = absurd (cc)

@@ -4,8 +4,10 @@ use Rattle.std.proofs.Common.{sym, ◌∙◌, ap, subst, true≢false, inl, inr}
 use Rattle.std.proofs.lemmas.List.{map-append}
 use Rattle.std.specs.Cmp.{second_so}
 use Rattle.std.specs.Cmp.Lexicographic.{pointwise}
+use Rattle.base_data.proofs.ElementLemmas.{each-append, each-first, each-last}
 use Rattle.base_data.specs.Datum.{PlainDatum}
 use Rattle.base_data.specs.Datum as datum
+use Rattle.base_data.specs.Elements.{Each}
 use Rattle.base_data.specs.declared.name.FrameNo.{FrameNo}
 use Rattle.base_data.specs.declared.name.Label.{Label}
 use Rattle.base_data.specs.declared.name.Mark.{Mark}
@@ -18,13 +20,14 @@ use Rattle.stx_tree.specs.SameMarks.{same_mark_decides, same_marks, same_marks_d
 use Rattle.stx_tree.specs.Tree.{Tree, atom, leaf, pair, vector}
 use Rattle.stx_tree.specs.declared.change.Change.{Change}
 use Rattle.stx_tree.specs.declared.change.Change.TheVariants.{Enter, Leave, Stamp}
+use Rattle.stx_tree.proofs.ContextLaws.{marks-framed}
 use Rattle.stx_frames.specs.Rows.{Row}
 use Rattle.stx_frames.specs.Scope.{Scope, rows_at, or_else, label_by, with_row}
 use Rattle.stx_scope.specs.Same.{same_binder}
 use Rattle.stx_scope.specs.Stands.{symbol_of, stands, row_for}
 use Rattle.law_hygiene.specs.Binder.{row_in, row_by, binder_of, Captures, IsOfUse, IsOfOther, NoneBeginsWith, IntroducesNoneIn, without, IsNew}
 use Rattle.law_hygiene.specs.Hygiene.{IsOwnOr, IsBroughtIn, IsHygienic}
-use Rattle.law_hygiene.specs.Marked.{has_mark, StampedWithout, Lacks, CameIn, IsIntroduced, before, SparesIn, Spares, leaves, Each, Untouched, IsOutput}
+use Rattle.law_hygiene.specs.Marked.{has_mark, StampedWithout, Lacks, CameIn, IsIntroduced, before, SparesIn, Spares, leaves, Untouched, IsOutput}
 use Rattle.law_hygiene.specs.Parts.{PathTurn, first, rest, inside, at, then_by, part}
 use Rattle.law_hygiene.proofs.Marking.{same_mark-self, has_entered, lacks_first, has_more, has_act, has_acts, lacks_acts, lacks_changed}
 use Rattle.law_hygiene.proofs.Rowing.{label_by-row, row_by_other, row_by_new, row_by_more, row_by-free, row_in-failed, row_by-with_row, label_at-none, label_by-without}
@@ -37,12 +40,8 @@ left_introduced m f c h = ap (λ b. cond b (unmarked c) (framed f (entered m c))
 pub left_came_in : (m : Mark) (f : Option FrameNo) (c : LeafContext) → is_first m c.marks ≡ true → left m f c ≡ unmarked c
 left_came_in m f c h = ap (λ b. cond b (unmarked c) (framed f (entered m c))) h
 
-marks_framed : (f : Option FrameNo) (c : LeafContext) → (framed f c).marks ≡ c.marks
-marks_framed None c = refl
-marks_framed (Some f) c = refl
-
 pub marks_introduced : (m : Mark) (f : Option FrameNo) (c : LeafContext) → is_first m c.marks ≡ false → (left m f c).marks ≡ m ∷ c.marks
-marks_introduced m f c h = ap (λ (d : LeafContext). d.marks) (left_introduced m f c h) ∙ marks_framed f (entered m c)
+marks_introduced m f c h = ap (λ (d : LeafContext). d.marks) (left_introduced m f c h) ∙ marks-framed f (entered m c)
 
 -- a part of what was changed is a part that was changed
 at-changed : (xs : List Change) (x : PathTurn) (t : Tree) → at x (changed xs t) ≡ option_map (changed xs) (at x t)
@@ -262,26 +261,14 @@ label_by-out m f x c k fs = by (is_first m c.marks) refl
     by true e = ap (λ (d : LeafContext). label_by (without m fs) x d.stamps) (left_came_in m f c e) ∙ label_by-without m fs x c.stamps k
     by false e = label_by-left m f x c e fs ∙ label_by-without m fs x c.stamps k
 
-pub each_left : {A : Type 0} (P : A → Type 0) (xs ys : List A) → Each P (xs ++ ys) → Each P xs
-each_left P [] ys h = tt
-each_left P (x ∷ xs) ys h = (h.0, each_left P xs ys h.1)
-
-pub each_right : {A : Type 0} (P : A → Type 0) (xs ys : List A) → Each P (xs ++ ys) → Each P ys
-each_right P [] ys h = h
-each_right P (x ∷ xs) ys h = each_right P xs ys h.1
-
-pub each_both : {A : Type 0} (P : A → Type 0) (xs ys : List A) → Each P xs → Each P ys → Each P (xs ++ ys)
-each_both P [] ys h k = k
-each_both P (x ∷ xs) ys h k = (h.0, each_both P xs ys h.1 k)
-
 pub all_out : (m : Mark) (f : Option FrameNo) (o : Tree) → Each (λ (c : LeafContext). StampedWithout m c.stamps) (contexts o) → (fs : Scope)
     → map (stands (without m fs)) (leaves (leave m f o)) ≡ map (stands fs) (leaves o)
 all_out m f (atom s a) h fs = refl
 all_out m f (leaf s x c) h fs = ap (λ l. l ∷ []) (label_by-out m f x c h.0 fs)
 all_out m f (pair s a d) h fs =
     map-append (stands (without m fs)) (leaves (leave m f a)) (leaves (leave m f d))
-    ∙ (λ i. all_out m f a (each_left (λ (c : LeafContext). StampedWithout m c.stamps) (contexts a) (contexts d) h) fs i
-    ++ all_out m f d (each_right (λ (c : LeafContext). StampedWithout m c.stamps) (contexts a) (contexts d) h) fs i)
+    ∙ (λ i. all_out m f a (each-first (λ (c : LeafContext). StampedWithout m c.stamps) (contexts a) (contexts d) h) fs i
+    ++ all_out m f d (each-last (λ (c : LeafContext). StampedWithout m c.stamps) (contexts a) (contexts d) h) fs i)
     ∙ sym (map-append (stands fs) (leaves a) (leaves d))
 all_out m f (vector s d) h fs = all_out m f d h fs
 
@@ -302,8 +289,8 @@ pub each_hygienic : (m : Mark) (f : Option FrameNo) (o : Tree) → IsOutput m o 
 each_hygienic m f (atom s a) h = tt
 each_hygienic m f (leaf s x c) h = (hygienic m f s x c h.0, tt)
 each_hygienic m f (pair s a d) h =
-    each_both (IsHygienic m f) (leaves a) (leaves d) (each_hygienic m f a (each_left (λ c. Lacks m (before m c)) (contexts a) (contexts d) h))
-    (each_hygienic m f d (each_right (λ c. Lacks m (before m c)) (contexts a) (contexts d) h))
+    each-append (IsHygienic m f) (leaves a) (leaves d) (each_hygienic m f a (each-first (λ c. Lacks m (before m c)) (contexts a) (contexts d) h))
+    (each_hygienic m f d (each-last (λ c. Lacks m (before m c)) (contexts a) (contexts d) h))
 each_hygienic m f (vector s d) h = each_hygienic m f d h
 
 -- no binder of the use captures a leaf round it
@@ -311,16 +298,16 @@ lacks_surround : (m : Mark) (fs : Scope) (r : Row) (t : Tree) → Untouched m t 
 lacks_surround m fs r (atom s a) h = tt
 lacks_surround m fs r (leaf s x c) h = (λ e. row_by_other m fs x c.stamps h.0.stamps r e, tt)
 lacks_surround m fs r (pair s a d) h =
-    each_both (λ l. Captures fs r l → IsOfOther m r) (leaves a) (leaves d) (lacks_surround m fs r a (each_left (Lacks m) (contexts a) (contexts d) h))
-    (lacks_surround m fs r d (each_right (Lacks m) (contexts a) (contexts d) h))
+    each-append (λ l. Captures fs r l → IsOfOther m r) (leaves a) (leaves d) (lacks_surround m fs r a (each-first (Lacks m) (contexts a) (contexts d) h))
+    (lacks_surround m fs r d (each-last (Lacks m) (contexts a) (contexts d) h))
 lacks_surround m fs r (vector s d) h = lacks_surround m fs r d h
 
 pub untouched_changed : (m : Mark) (xs : List Change) (t : Tree) → Untouched m t → Spares m xs → Untouched m (changed xs t)
 untouched_changed m xs (atom s a) h d = tt
 untouched_changed m xs (leaf s x c) h d = (lacks_acts m xs c d h.0, tt)
 untouched_changed m xs (pair s a e) h d =
-    each_both (Lacks m) (contexts (changed xs a)) (contexts (changed xs e)) (untouched_changed m xs a (each_left (Lacks m) (contexts a) (contexts e) h) d)
-    (untouched_changed m xs e (each_right (Lacks m) (contexts a) (contexts e) h) d)
+    each-append (Lacks m) (contexts (changed xs a)) (contexts (changed xs e)) (untouched_changed m xs a (each-first (Lacks m) (contexts a) (contexts e) h) d)
+    (untouched_changed m xs e (each-last (Lacks m) (contexts a) (contexts e) h) d)
 untouched_changed m xs (vector s e) h d = untouched_changed m xs e h d
 
 pub surroundings : (m : Mark) (xs : List Change) (t : Tree) → Untouched m t → Spares m xs → (fs : Scope) (r : Row) → Each (λ l. Captures fs r l → IsOfOther m r) (leaves (changed xs t))
@@ -337,8 +324,8 @@ pub input_is : (m : Mark) (t : Tree) → Untouched m t → IsOutput m (enter m t
 input_is m (atom s a) h = tt
 input_is m (leaf s x c) h = (subst (Lacks m) (sym (before_entered m c)) h.0, tt)
 input_is m (pair s a d) h =
-    each_both (λ c. Lacks m (before m c)) (contexts (enter m a)) (contexts (enter m d)) (input_is m a (each_left (Lacks m) (contexts a) (contexts d) h))
-    (input_is m d (each_right (Lacks m) (contexts a) (contexts d) h))
+    each-append (λ c. Lacks m (before m c)) (contexts (enter m a)) (contexts (enter m d)) (input_is m a (each-first (Lacks m) (contexts a) (contexts d) h))
+    (input_is m d (each-last (Lacks m) (contexts a) (contexts d) h))
 input_is m (vector s d) h = input_is m d h
 
 constants_are : (m : Mark) (cs : List LeafContext) → Each (Lacks m) cs → Each (λ c. Lacks m (before m c)) cs
@@ -349,11 +336,11 @@ pub constant_is : (m : Mark) (t : Tree) → Untouched m t → IsOutput m t
 constant_is m t h = constants_are m (contexts t) h
 
 pub pairs_are : (m : Mark) (s : Option Span) (a d : Tree) → IsOutput m a → IsOutput m d → IsOutput m (pair s a d)
-pairs_are m s a d h k = each_both (λ c. Lacks m (before m c)) (contexts a) (contexts d) h k
+pairs_are m s a d h k = each-append (λ c. Lacks m (before m c)) (contexts a) (contexts d) h k
 
 turn_is : (m : Mark) (x : PathTurn) (o t : Tree) → IsOutput m o → at x o ≡ Some t → IsOutput m t
-turn_is m first (pair s a d) t h e = let same : a ≡ t = cc in subst (IsOutput m) same (each_left (λ c. Lacks m (before m c)) (contexts a) (contexts d) h)
-turn_is m rest (pair s a d) t h e = let same : d ≡ t = cc in subst (IsOutput m) same (each_right (λ c. Lacks m (before m c)) (contexts a) (contexts d) h)
+turn_is m first (pair s a d) t h e = let same : a ≡ t = cc in subst (IsOutput m) same (each-first (λ c. Lacks m (before m c)) (contexts a) (contexts d) h)
+turn_is m rest (pair s a d) t h e = let same : d ≡ t = cc in subst (IsOutput m) same (each-last (λ c. Lacks m (before m c)) (contexts a) (contexts d) h)
 turn_is m inside (vector s d) t h e = let same : d ≡ t = cc in subst (IsOutput m) same h
 turn_is m _ _ t h e = absurd (cc)
 
@@ -368,7 +355,7 @@ parts_are m (x ∷ p) o t h e = by (at x o) refl e (parts_are m p)
 data_of : (m : Mark) (c : LeafContext) (d : PlainDatum) → Lacks m (before m c) → IsOutput m (tree_of c d)
 data_of m c (datum.atom s a) h = tt
 data_of m c (datum.symbol s x) h = (h, tt)
-data_of m c (datum.pair s d e) h = each_both (λ c. Lacks m (before m c)) (contexts (tree_of c d)) (contexts (tree_of c e)) (data_of m c d h) (data_of m c e h)
+data_of m c (datum.pair s d e) h = each-append (λ c. Lacks m (before m c)) (contexts (tree_of c d)) (contexts (tree_of c e)) (data_of m c d h) (data_of m c e h)
 data_of m c (datum.vector s d) h = data_of m c d h
 
 blank_lacks : (m : Mark) → Lacks m (before m blank)

@@ -1,5 +1,6 @@
 -- The binder that a leaf finds, as its row; and frames without the binders that one use introduced.
 use Rattle.std.specs.Prelude.{◌≡◌, ℕ, not, List, [], ◌∷◌, filter, map, Option, None, Some, IsTrue, IsFalse, if◌then◌else◌}
+use Rattle.base_data.specs.Elements.{Each, Among}
 use Rattle.base_data.specs.declared.name.FrameNo.{FrameNo}
 use Rattle.base_data.specs.declared.name.Mark.{Mark}
 use Rattle.stx_tree.specs.Leaves.{stamps_of}
@@ -11,7 +12,7 @@ use Rattle.stx_tree.specs.declared.stamp.Stamp.{Stamp}
 use Rattle.stx_frames.specs.Rows.{Row, is_of}
 use Rattle.stx_frames.specs.Scope.{Scope, rows_at, or_else}
 use Rattle.stx_scope.specs.Stands.{symbol_of}
-use Rattle.law_hygiene.specs.Marked.{has_mark, Each, Among}
+use Rattle.law_hygiene.specs.Marked.{has_mark}
 
 -- the row for a symbol and marks
 abbrev pub row_in : List Row → List ℕ → List Mark → Option Row

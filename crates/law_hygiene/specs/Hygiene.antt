@@ -2,6 +2,7 @@
 -- any list of changes that spare m.
 use Rattle.std.specs.Prelude.{◌≡◌, ◌≢◌, ◌⊎◌, ℕ, Bool, false, List, ◌∷◌, map, option_map, Option, None, Some, IsSomeAnd, IsFalse}
 use Rattle.base_data.specs.Datum.{PlainDatum}
+use Rattle.base_data.specs.Elements.{Each, Among}
 use Rattle.base_data.specs.declared.name.FrameNo.{FrameNo}
 use Rattle.base_data.specs.declared.name.Label.{Label}
 use Rattle.base_data.specs.declared.name.Mark.{Mark}
@@ -19,7 +20,7 @@ use Rattle.stx_scope.specs.Same.{same_binder}
 use Rattle.stx_scope.specs.Stands.{symbol_of, stands, row_for}
 use Rattle.law_hygiene.specs.Binder.{row_in, binder_of, Captures, IsRowAt, IsOfUse, IsOfOther, NoneBeginsWith, IntroducesNoneIn, without, IsNew}
 use Rattle.law_hygiene.specs.Known.{HasKnown, AreKnown, AreKnownInRows, IsWithKnown}
-use Rattle.law_hygiene.specs.Marked.{StampedWithout, Lacks, CameIn, IsIntroduced, before, Spares, leaves, Each, Among, Untouched, IsOutput}
+use Rattle.law_hygiene.specs.Marked.{StampedWithout, Lacks, CameIn, IsIntroduced, before, Spares, leaves, Untouched, IsOutput}
 use Rattle.law_hygiene.specs.Parts.{PathTurn, part}
 
 -- A leaf stands for the label of the binder that captures it, which has the leaf's symbol and just the marks that the leaf had at

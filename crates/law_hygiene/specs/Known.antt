@@ -1,5 +1,6 @@
 -- Trees and frames all of whose marks are known: those that were taken so far, say.
 use Rattle.std.specs.Prelude.{Bool, List, IsTrue}
+use Rattle.base_data.specs.Elements.{Each}
 use Rattle.base_data.specs.declared.name.FrameNo.{FrameNo}
 use Rattle.base_data.specs.declared.name.Mark.{Mark}
 use Rattle.stx_tree.specs.Context.{LeafContext}
@@ -10,7 +11,6 @@ use Rattle.stx_tree.specs.declared.change.Change.TheVariants as change
 use Rattle.stx_tree.specs.declared.stamp.Stamp.{Stamp}
 use Rattle.stx_frames.specs.Rows.{Row}
 use Rattle.stx_frames.specs.Scope.{Scope}
-use Rattle.law_hygiene.specs.Marked.{Each}
 
 -- a mark that passes a test, which says what is known
 abbrev pub IsKnown : (Mark → Bool) → Mark → Type 0

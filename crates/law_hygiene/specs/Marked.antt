@@ -1,5 +1,6 @@
 -- Where the mark of a use of a keyword is: among marks, in stamps, on leaves.
-use Rattle.std.specs.Prelude.{◌≡◌, ◌≢◌, ◌⊎◌, Bool, true, false, List, [], ◌∷◌, ◌++◌, IsTrue, IsFalse, if◌then◌else◌}
+use Rattle.std.specs.Prelude.{◌≢◌, Bool, true, false, List, [], ◌∷◌, ◌++◌, IsTrue, IsFalse, if◌then◌else◌}
+use Rattle.base_data.specs.Elements.{Each}
 use Rattle.base_data.specs.declared.name.Mark.{Mark}
 use Rattle.stx_tree.specs.Context.{LeafContext, unmarked}
 use Rattle.stx_tree.specs.Leaves.{contexts}
@@ -42,14 +43,6 @@ leaves (atom s a) = []
 leaves (leaf s x c) = leaf s x c ∷ []
 leaves (pair s a d) = leaves a ++ leaves d
 leaves (vector s d) = leaves d
-
-abbrev pub Each : {A : Type 0} → (A → Type 0) → List A → Type 0
-Each P [] = Unit {0}
-Each P (x ∷ xs) = P x × Each P xs
-
-abbrev pub Among : {A : Type 0} → List A → A → Type 0
-Among [] x = ⊥
-Among (y ∷ ys) x = (x ≡ y) ⊎ Among ys x
 
 -- no leaf of a tree has to do with the use of m
 abbrev pub Untouched : Mark → Tree → Type 0

@@ -1,12 +1,12 @@
 -- Known identifiers have stamps of frames that were made, so that what they stand for stays.
 use Rattle.std.proofs.Common.{◌≡◌, ◌⊎◌, List, [], ◌∷◌, Option, subst, sym}
+use Rattle.base_data.specs.Elements.{Each}
 use Rattle.base_data.specs.declared.library.LibName.{LibName}
 use Rattle.base_data.specs.declared.name.Label.{Label}
 use Rattle.stx_tree.specs.Tree as tree
 use Rattle.stx_tree.specs.Tree.{Tree}
 use Rattle.stx_tree.specs.declared.stamp.Stamp.{Stamp}
 use Rattle.expand_standing.specs.State.{State}
-use Rattle.eval_value.specs.Cells.{Each}
 use Rattle.law_fresh.specs.Leaves.{TreeHolds}
 use Rattle.law_fresh_expansion.specs.Made.{IsMade, StampedByMade}
 use Rattle.law_fresh_expansion.proofs.Making.{are-made}

@@ -5,10 +5,11 @@ use Rattle.std.specs.Prelude.{Bool, true, false, List, [], ◌∷◌, ◌++◌, 
 use Rattle.std.specs.List.{find}
 use Rattle.base_data.specs.Gives.{◌>>=◌}
 use Rattle.base_data.specs.declared.fault.Fault.{Fault}
+use Rattle.base_data.specs.declared.imported_name.ImportedName.{ImportedName}
 use Rattle.base_data.specs.declared.name.Label.{Label}
 use Rattle.base_data.specs.declared.span.Span.{Span}
-use Rattle.load_import.specs.Names.{Labelled, only, except, prefixed, renamed, new_name, is_among, has_name, missing_at, need, need_by, sources, join_by, join_one, joined, same_label, conflict, step_names}
-use Rattle.load_import.specs.Table.{same_text, value_of, put_all}
+use Rattle.load_import.specs.Names.{Labelled, label_named, put_each, only, except, prefixed, renamed, new_name, is_among, has_name, missing_at, need, need_by, sources, join_by, join_one, joined, same_label, conflict, step_names}
+use Rattle.load_import.specs.Table.{same_text}
 use Rattle.load_import.specs.Turns.{turns}
 use Rattle.load_import.specs.declared.set.NameAt.{NameAt}
 use Rattle.load_import.specs.declared.set.Renaming.{Renaming}
@@ -31,22 +32,22 @@ prefix_of p names m l h = found names h
     Found : Labelled → Type 0
     Found names = (n : List ℕ) × (p ++ n ≡ m)
 
-    search : (names : Labelled) → value_of m (prefixed p names) ≡ Some l → Found names
+    search : (names : Labelled) → label_named m (prefixed p names) ≡ Some l → Found names
     search [] h = cc
-    search (e ∷ es) h = by (same_text m (p ++ e.0)) refl h (search es)
+    search (e ∷ es) h = by (same_text m (p ++ e.name)) refl h (search es)
       where
-        by : (b : Bool) → same_text m (p ++ e.0) ≡ b → cond b (Some e.1) (value_of m (prefixed p es)) ≡ Some l → (value_of m (prefixed p es) ≡ Some l → Found es) → Found (e ∷ es)
-        by true s h rest = (e.0, sym (same_of m (p ++ e.0) s))
+        by : (b : Bool) → same_text m (p ++ e.name) ≡ b → cond b (Some e.label) (label_named m (prefixed p es)) ≡ Some l → (label_named m (prefixed p es) ≡ Some l → Found es) → Found (e ∷ es)
+        by true s h rest = (e.name, sym (same_of m (p ++ e.name) s))
         by false s h rest = rest h
 
-    found : (names : Labelled) → value_of m (prefixed p names) ≡ Some l → (n : List ℕ) × (p ++ n ≡ m) × (value_of n names ≡ Some l)
+    found : (names : Labelled) → label_named m (prefixed p names) ≡ Some l → (n : List ℕ) × (p ++ n ≡ m) × (label_named n names ≡ Some l)
     found names h =
         let f = search names h in
-        (f.0, f.1, sym (value-prefixed p names f.0) ∙ ap (λ x. value_of x (prefixed p names)) f.1 ∙ h)
+        (f.0, f.1, sym (value-prefixed p names f.0) ∙ ap (λ x. label_named x (prefixed p names)) f.1 ∙ h)
 
 pub once-prefixed : PrefixKeepsNamesOnce
 once-prefixed p [] o = tt
-once-prefixed p (e ∷ es) o = (ap is_some (value-prefixed p es e.0) ∙ o.0, once-prefixed p es o.1)
+once-prefixed p (e ∷ es) o = (ap is_some (value-prefixed p es e.name) ∙ o.0, once-prefixed p es o.1)
 
 -- ---- rename
 
@@ -56,47 +57,47 @@ rename_once rs names r h = once-joined h.0 [] (renamed rs names) r tt h.1
 -- an entry with this label whose name becomes this one
 module _ (rs : List Renaming) (m : List ℕ) (l : Label) where
   abbrev Comes : Labelled → Type 0
-  Comes names = (n : List ℕ) × (new_name rs n ≡ m) × (value_of n names ≡ Some l)
+  Comes names = (n : List ℕ) × (new_name rs n ≡ m) × (label_named n names ≡ Some l)
 
-  comes_first : (e : List ℕ × Label) (es : Labelled) → new_name rs e.0 ≡ m → e.1 ≡ l → Comes (e ∷ es)
-  comes_first e es name label = (e.0, name, ap (λ b. cond b (Some e.1) (value_of e.0 es)) (same_self e.0) ∙ ap Some label)
+  comes_first : (e : ImportedName) (es : Labelled) → new_name rs e.name ≡ m → e.label ≡ l → Comes (e ∷ es)
+  comes_first e es name label = (e.name, name, ap (λ b. cond b (Some e.label) (label_named e.name es)) (same_self e.name) ∙ ap Some label)
 
-  comes_later : (e : List ℕ × Label) (es : Labelled) → IsOnce (e ∷ es) → Comes es → Comes (e ∷ es)
-  comes_later e es o c = (c.0, c.1, by (same_text c.0 e.0) refl)
+  comes_later : (e : ImportedName) (es : Labelled) → IsOnce (e ∷ es) → Comes es → Comes (e ∷ es)
+  comes_later e es o c = (c.0, c.1, by (same_text c.0 e.name) refl)
     where
-      by : (b : Bool) → same_text c.0 e.0 ≡ b → cond b (Some e.1) (value_of c.0 es) ≡ Some l
+      by : (b : Bool) → same_text c.0 e.name ≡ b → cond b (Some e.label) (label_named c.0 es) ≡ Some l
       by false s = c.2
       by true s =
-          let there : value_of e.0 es ≡ Some l = ap (λ n. value_of n es) (sym (same_of c.0 e.0 s)) ∙ c.2 in
+          let there : label_named e.name es ≡ Some l = ap (λ n. label_named n es) (sym (same_of c.0 e.name s)) ∙ c.2 in
           absurd (true≢false (sym (ap is_some there) ∙ o.0))
 
-  comes : (names : Labelled) → IsOnce names → value_of m (renamed rs names) ≡ Some l → Comes names
+  comes : (names : Labelled) → IsOnce names → label_named m (renamed rs names) ≡ Some l → Comes names
   comes [] o h = cc
-  comes (e ∷ es) o h = by (same_text m (new_name rs e.0)) refl h (comes es o.1)
+  comes (e ∷ es) o h = by (same_text m (new_name rs e.name)) refl h (comes es o.1)
     where
-      by : (b : Bool) → same_text m (new_name rs e.0) ≡ b → cond b (Some e.1) (value_of m (renamed rs es)) ≡ Some l → (value_of m (renamed rs es) ≡ Some l → Comes es) → Comes (e ∷ es)
-      by true s h rest = let label : e.1 ≡ l = cc in comes_first e es (sym (same_of m (new_name rs e.0) s)) label
+      by : (b : Bool) → same_text m (new_name rs e.name) ≡ b → cond b (Some e.label) (label_named m (renamed rs es)) ≡ Some l → (label_named m (renamed rs es) ≡ Some l → Comes es) → Comes (e ∷ es)
+      by true s h rest = let label : e.label ≡ l = cc in comes_first e es (sym (same_of m (new_name rs e.name) s)) label
       by false s h rest = comes_later e es o (rest h)
 
 -- each name stands for its label under its new name
-goes : (rs : List Renaming) (names r : Labelled) → Has r (renamed rs names) → (n : List ℕ) (l : Label) → value_of n names ≡ Some l → value_of (new_name rs n) r ≡ Some l
+goes : (rs : List Renaming) (names r : Labelled) → Has r (renamed rs names) → (n : List ℕ) (l : Label) → label_named n names ≡ Some l → label_named (new_name rs n) r ≡ Some l
 goes rs [] r has n l h = cc
-goes rs (e ∷ es) r has n l h = by (same_text n e.0) refl h (goes rs es r has.1 n l)
+goes rs (e ∷ es) r has n l h = by (same_text n e.name) refl h (goes rs es r has.1 n l)
   where
-    by : (b : Bool) → same_text n e.0 ≡ b → cond b (Some e.1) (value_of n es) ≡ Some l → (value_of n es ≡ Some l → value_of (new_name rs n) r ≡ Some l) → value_of (new_name rs n) r ≡ Some l
-    by true s h rest = ap (λ x. value_of (new_name rs x) r) (same_of n e.0 s) ∙ has.0 ∙ h
+    by : (b : Bool) → same_text n e.name ≡ b → cond b (Some e.label) (label_named n es) ≡ Some l → (label_named n es ≡ Some l → label_named (new_name rs n) r ≡ Some l) → label_named (new_name rs n) r ≡ Some l
+    by true s h rest = ap (λ x. label_named (new_name rs x) r) (same_of n e.name s) ∙ has.0 ∙ h
     by false s h rest = rest h
 
 pub rename_labels : RenameKeepsLabels
 rename_labels rs names r o h m l = (
   λ k. comes rs m l names o (sym (value-joined h.0 [] (renamed rs names) r h.1 m) ∙ k),
-  λ k. ap (λ x. value_of x r) (sym k.1) ∙ goes rs names r (has-joined h.0 [] (renamed rs names) r h.1) k.0 l k.2,
+  λ k. ap (λ x. label_named x r) (sym k.1) ∙ goes rs names r (has-joined h.0 [] (renamed rs names) r h.1) k.0 l k.2,
 )
 
 pub rename_apart : RenameKeepsLabelsApart
 rename_apart rs names r h n m l k a b same =
     let has = has-joined h.0 [] (renamed rs names) r h.1 in
-    let one : ◌≡◌ {A = Option Label} (Some l) (Some k) = sym (goes rs names r has n l a) ∙ ap (λ x. value_of x r) same ∙ goes rs names r has m k b in
+    let one : ◌≡◌ {A = Option Label} (Some l) (Some k) = sym (goes rs names r has n l a) ∙ ap (λ x. label_named x r) same ∙ goes rs names r has m k b in
     cc
 
 -- joined names stand in their order
@@ -104,42 +105,42 @@ module _ (span : Span) where
   abbrev ahead : Labelled → Labelled → Result Labelled Fault → Result Labelled Fault
   ahead all es o = o >>= (λ t. turns (join_one span) t es)
 
-  put-joined : (all more r : Labelled) → joined span all more ≡ Ok r → r ≡ put_all all more
+  put-joined : (all more r : Labelled) → joined span all more ≡ Ok r → r ≡ put_each all more
   put-joined all [] r h = sym (same_value all r h)
-  put-joined all (e ∷ es) r h = by (λ t k. put-joined t es r k) (value_of e.0 all) refl h
+  put-joined all (e ∷ es) r h = by (λ t k. put-joined t es r k) (label_named e.name all) refl h
     where
       Rest : Type 0
-      Rest = (t : Labelled) → joined span t es ≡ Ok r → r ≡ put_all t es
+      Rest = (t : Labelled) → joined span t es ≡ Ok r → r ≡ put_each t es
 
-      as_put : (b : Bool) → is_some (value_of e.0 all) ≡ b → put_all (if b then all else all ++ e ∷ []) es ≡ put_all all (e ∷ es)
-      as_put b h = ap (λ c. put_all (if c then all else all ++ e ∷ []) es) (sym h)
+      as_put : (b : Bool) → is_some (label_named e.name all) ≡ b → put_each (if b then all else all ++ e ∷ []) es ≡ put_each all (e ∷ es)
+      as_put b h = ap (λ c. put_each (if c then all else all ++ e ∷ []) es) (sym h)
 
-      again : Rest → (l : Label) (b : Bool) → value_of e.0 all ≡ Some l → ahead all es (if b then Ok all else Err (conflict span e.0)) ≡ Ok r → r ≡ put_all all (e ∷ es)
+      again : Rest → (l : Label) (b : Bool) → label_named e.name all ≡ Some l → ahead all es (if b then Ok all else Err (conflict span e.name)) ≡ Ok r → r ≡ put_each all (e ∷ es)
       again rest l true there h = rest all h ∙ as_put true (ap is_some there)
-      again rest l false there h = absurd (no_value (conflict span e.0) r h)
+      again rest l false there h = absurd (no_value (conflict span e.name) r h)
 
-      by : Rest → (o : Option Label) → value_of e.0 all ≡ o → ahead all es (join_by span all e o) ≡ Ok r → r ≡ put_all all (e ∷ es)
+      by : Rest → (o : Option Label) → label_named e.name all ≡ o → ahead all es (join_by span all e o) ≡ Ok r → r ≡ put_each all (e ∷ es)
       by rest None there h = rest (all ++ e ∷ []) h ∙ as_put false (ap is_some there)
-      by rest (Some l) there h = again rest l (same_label l e.1) there h
+      by rest (Some l) there h = again rest l (same_label l e.label) there h
 
   -- names that are all new join as they are
   AreNew : Labelled → Labelled → Type 0
   AreNew all [] = Unit {0}
-  AreNew all (e ∷ es) = (value_of e.0 all ≡ None) × AreNew all es
+  AreNew all (e ∷ es) = (label_named e.name all ≡ None) × AreNew all es
 
-  new_still : (all : Labelled) (e : List ℕ × Label) (es : Labelled) → is_some (value_of e.0 es) ≡ false → AreNew all es → AreNew (all ++ e ∷ []) es
+  new_still : (all : Labelled) (e : ImportedName) (es : Labelled) → is_some (label_named e.name es) ≡ false → AreNew all es → AreNew (all ++ e ∷ []) es
   unfolding AreNew
   new_still all e [] h n = tt
-  new_still all e (f ∷ fs) h n = by (same_text e.0 f.0) refl h (new_still all e fs)
+  new_still all e (f ∷ fs) h n = by (same_text e.name f.name) refl h (new_still all e fs)
     where
-      other : (b : Bool) → same_text f.0 e.0 ≡ b → same_text e.0 f.0 ≡ false → cond b (Some e.1) None ≡ None
+      other : (b : Bool) → same_text f.name e.name ≡ b → same_text e.name f.name ≡ false → cond b (Some e.label) None ≡ None
       other false s k = refl
-      other true s k = absurd (true≢false (sym (same_self e.0) ∙ ap (same_text e.0) (sym (same_of f.0 e.0 s)) ∙ k))
+      other true s k = absurd (true≢false (sym (same_self e.name) ∙ ap (same_text e.name) (sym (same_of f.name e.name s)) ∙ k))
 
-      by : (b : Bool) → same_text e.0 f.0 ≡ b → is_some (cond b (Some f.1) (value_of e.0 fs)) ≡ false → (is_some (value_of e.0 fs) ≡ false → AreNew all fs → AreNew (all ++ e ∷ []) fs)
-          → (value_of f.0 (all ++ e ∷ []) ≡ None) × AreNew (all ++ e ∷ []) fs
+      by : (b : Bool) → same_text e.name f.name ≡ b → is_some (cond b (Some f.label) (label_named e.name fs)) ≡ false → (is_some (label_named e.name fs) ≡ false → AreNew all fs → AreNew (all ++ e ∷ []) fs)
+          → (label_named f.name (all ++ e ∷ []) ≡ None) × AreNew (all ++ e ∷ []) fs
       by true s h rest = cc
-      by false s h rest = (value-append f.0 all (e ∷ []) ∙ ap (λ o. or_else o (value_of f.0 (e ∷ []))) n.0 ∙ other (same_text f.0 e.0) refl s, rest h n.1)
+      by false s h rest = (value-append f.name all (e ∷ []) ∙ ap (λ o. or_else o (label_named f.name (e ∷ []))) n.0 ∙ other (same_text f.name e.name) refl s, rest h n.1)
 
   new_at_first : (es : Labelled) → AreNew [] es
   unfolding AreNew
@@ -160,16 +161,16 @@ rename_one_to_one span rs names o = joined-new span [] (renamed rs names) o (new
 
 -- ---- a whole import set
 
-once-filter : (keep : List ℕ → Bool) (names : Labelled) → IsOnce names → IsOnce (filter (λ e. keep e.0) names)
+once-filter : (keep : List ℕ → Bool) (names : Labelled) → IsOnce names → IsOnce (filter (λ e. keep e.name) names)
 once-filter keep [] o = tt
-once-filter keep (e ∷ es) o = by (keep e.0) (once-filter keep es o.1)
+once-filter keep (e ∷ es) o = by (keep e.name) (once-filter keep es o.1)
   where
-    none : (b : Bool) → is_some (if b then value_of e.0 es else None) ≡ false
+    none : (b : Bool) → is_some (if b then label_named e.name es else None) ≡ false
     none true = o.0
     none false = refl
 
-    by : (k : Bool) → IsOnce (filter (λ e. keep e.0) es) → IsOnce (cond k (e ∷ filter (λ e. keep e.0) es) (filter (λ e. keep e.0) es))
-    by true h = (ap is_some (value-filter keep es e.0) ∙ none (keep e.0), h)
+    by : (k : Bool) → IsOnce (filter (λ e. keep e.name) es) → IsOnce (cond k (e ∷ filter (λ e. keep e.name) es) (filter (λ e. keep e.name) es))
+    by true h = (ap is_some (value-filter keep es e.name) ∙ none (keep e.name), h)
     by false h = h
 
 needed : (names : Labelled) (ids : List NameAt) (x : Result Labelled Fault) (r : Labelled) → need names ids x ≡ Ok r → x ≡ Ok r

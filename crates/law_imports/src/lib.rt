@@ -18,17 +18,16 @@ ghost use Rattle.base_data.specs.declared.span.Span.{Span};
 ghost use Rattle.law_imports.specs.Algebra.{or_else, IsOnce, Has, Conflicts};
 ghost use Rattle.law_imports.specs.Renames.{PrefixMovesEachInPlace, PrefixLeavesNoneWithout, PrefixKeepsNamesOnce, RenameGivesEachOnce, RenameKeepsLabels, RenameKeepsOrder, RenameKeepsLabelsApart, RenameIsOneToOne, ImportsGiveEachOnce};
 ghost use Rattle.law_imports.specs.Versions.{VersionsMakeNoReference, AndFitsWhereAllDo, OrFitsWhereOneDoes, NotFitsWhereItsPartDoesNot, ListFitsByPlaces, NumbersMakeNoPart, NumberFitsItself, SignsCompare, AndFitsNumbers, OrFitsNumbers, NotFitsNumbers};
-ghost use Rattle.load_import.specs.Names.{Labelled, only, except, prefixed, renamed, is_among, joined};
-ghost use Rattle.load_import.specs.Table.{value_of};
+ghost use Rattle.load_import.specs.Names.{Labelled, label_named, only, except, prefixed, renamed, is_among, joined};
 ghost use Rattle.load_import.specs.declared.set.NameAt.{NameAt};
 ghost use Rattle.load_import.specs.declared.set.Renaming.{Renaming};
 
 /// Of the names of an import set `only` selects those that it lists and `except` the others; `prefix`
 /// moves each to its new name, and so does `rename` (R6RS 7.1).
 pub fn words_select_and_move()
-    ensures only { (ids : List NameAt) (names : Labelled) (n : List ℕ) → value_of n (only ids names) ≡ (if is_among ids n then value_of n names else None) }
-    ensures except { (ids : List NameAt) (names : Labelled) (n : List ℕ) → value_of n (except ids names) ≡ (if is_among ids n then None else value_of n names) }
-    ensures prefix { (p : List ℕ) (names : Labelled) (n : List ℕ) → value_of (p ++ n) (prefixed p names) ≡ value_of n names }
+    ensures only { (ids : List NameAt) (names : Labelled) (n : List ℕ) → label_named n (only ids names) ≡ (if is_among ids n then label_named n names else None) }
+    ensures except { (ids : List NameAt) (names : Labelled) (n : List ℕ) → label_named n (except ids names) ≡ (if is_among ids n then None else label_named n names) }
+    ensures prefix { (p : List ℕ) (names : Labelled) (n : List ℕ) → label_named (p ++ n) (prefixed p names) ≡ label_named n names }
     ensures rename { (span : Span) (rs : List Renaming) (names r : Labelled) → joined span [] (renamed rs names) ≡ Ok r → Has r (renamed rs names) }
 {}
 
@@ -36,7 +35,7 @@ pub fn words_select_and_move()
 /// refused exactly if a name has another label in each.
 pub fn joined_names_are_a_union()
     ensures union { (span : Span) (all more r : Labelled) → joined span all more ≡ Ok r → (n : List ℕ)
-        → value_of n r ≡ or_else (value_of n all) (value_of n more) }
+        → label_named n r ≡ or_else (label_named n all) (label_named n more) }
     ensures has { (span : Span) (all more r : Labelled) → joined span all more ≡ Ok r → Has r more }
     ensures once { (span : Span) (all more r : Labelled) → IsOnce all → joined span all more ≡ Ok r → IsOnce r }
     ensures conflict { (span : Span) (all more : Labelled) (f : Fault) → joined span all more ≡ Err f → Conflicts span all more f }

@@ -3,6 +3,7 @@ use Rattle.std.proofs.Common.{◌≡◌, true, List, [], ◌∷◌, ◌++◌, le
 use Rattle.std.proofs.lemmas.Bool.{le-leb}
 use Rattle.std.proofs.lemmas.List.{append-nil}
 use Rattle.std.specs.Prelude.{◌&&◌}
+use Rattle.base_data.specs.Elements.{Each}
 use Rattle.base_data.specs.declared.op.names.TheConstants as names
 use Rattle.base_data.specs.declared.span.Span.{Span}
 use Rattle.base_region.specs.declared.region.Place.{Place}
@@ -10,7 +11,7 @@ use Rattle.stx_frames.specs.Scope.{Scope}
 use Rattle.core_language.specs.Core.{PlainCore, primitive, instance, cores, clause, no_clause}
 use Rattle.core_language.specs.Pattern.{PlainPattern}
 use Rattle.core_language.specs.Template.{PlainTemplate}
-use Rattle.eval_value.specs.Cells.{FitsIn, Each, WholeCells}
+use Rattle.eval_value.specs.Cells.{FitsIn, WholeCells}
 use Rattle.eval_value.specs.FromDatum.{pairs_stored}
 use Rattle.eval_value.specs.declared.value.Value.{Value}
 use Rattle.eval_value.specs.declared.value.Value.TheVariants as value

@@ -1,5 +1,6 @@
 -- What the code of a `quasisyntax` form comes to (R6RS libraries 12.8).
 use Rattle.std.specs.Prelude.{◌≡◌, List, [], ◌∷◌, map, Option, Some}
+use Rattle.base_data.specs.Elements.{Each}
 use Rattle.base_data.specs.declared.atom.Atom.TheVariants as a
 use Rattle.base_data.specs.declared.span.Span.{Span}
 use Rattle.base_region.specs.declared.region.Place.{Place}
@@ -7,7 +8,7 @@ use Rattle.stx_tree.specs.Tree.{atom}
 use Rattle.core_language.specs.Core.{PlainCore, instance}
 use Rattle.core_language.specs.Template.{PlainTemplate}
 use Rattle.eval_value.specs.Bind.{PlainBind, one, many, turns}
-use Rattle.eval_value.specs.Cells.{FitsIn, Each, WholeCells}
+use Rattle.eval_value.specs.Cells.{FitsIn, WholeCells}
 use Rattle.eval_value.specs.FromDatum.{pairs_stored}
 use Rattle.eval_value.specs.declared.value.Value.{Value}
 use Rattle.eval_value.specs.declared.value.Value.TheVariants as value

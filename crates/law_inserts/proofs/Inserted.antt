@@ -1,17 +1,18 @@
 -- What a template of `quasisyntax` comes to is what its cases say.
 use Rattle.std.proofs.Common.{◌≡◌, ℕ, zero, suc, ◌-◌, Bool, true, false, List, [], ◌∷◌, ◌++◌, length, take, drop, map, Option, None, Some, Result, Ok, Err, refl, ap, sym, ◌∙◌, subst, arith, append-nil, append_assoc, if◌then◌else◌}
 use Rattle.std.specs.Prelude.{◌||◌, ◌&&◌, is_some}
+use Rattle.base_data.specs.Elements.{Each}
 use Rattle.base_data.specs.Gives.{◌>>=◌}
 use Rattle.base_data.specs.declared.fault.Bare.{Bare}
 use Rattle.base_data.specs.declared.span.Span.{Span}
 use Rattle.stx_tree.specs.Measures.{fits, within, too_deep}
 use Rattle.stx_tree.specs.Tree.{Tree, atom, leaf, pair, vector, nil, chain, span_of, spanned, unspanned, is_list, rest_of, list_of, vector_of}
-use Rattle.stx_tree.proofs.TreeLaws.{unspanned-spanned}
+use Rattle.stx_tree.proofs.TreeLaws.{unspanned-spanned, chain-append}
 use Rattle.core_shapes.specs.Lists.{is_nil, elements, tail_of, if_some}
 use Rattle.law_shapes.specs.Grammar.{IsList}
 use Rattle.law_shapes.specs.Grammar as g
-use Rattle.law_shapes.proofs.Sound.{proper, some-is}
-use Rattle.eval_value.specs.Cells.{Each}
+use Rattle.law_shapes.proofs.Sound.{some-is, a-list}
+use Rattle.law_shapes.proofs.Complete.{list-elements, list-ends}
 use Rattle.core_quasi.specs.Words.{inner, reach, counts}
 use Rattle.core_quasi.specs.Parts.{rest_at, splits, taken_by, behind_head, first_word, operand_of}
 use Rattle.core_quasi.specs.Quasi.{at_form}
@@ -27,7 +28,7 @@ use Rattle.core_quasi.specs.declared.word.QuasiWord.TheVariants as word
 use Rattle.core_quasi.proofs.InsertLevels.{elements_are, tail_is, forms_are}
 use Rattle.law_quasi.specs.Filled.{level_behind, only}
 use Rattle.law_quasi.specs.Filled as report
-use Rattle.law_quasi.proofs.Puts.{map_joined, chain_joined}
+use Rattle.law_quasi.proofs.Puts.{map_joined}
 use Rattle.law_quasi.proofs.Same.{tail_words}
 use Rattle.law_quasi.proofs.Tails.{has_tail, cut, IsTail, cut_is, tail_no_tail, cut_length, splits_is, elements_at, tail_at}
 use Rattle.law_quasi.proofs.Walked.{is_tail}
@@ -69,17 +70,6 @@ all-without (pair s a d) = ap (pair None (unspanned a)) (all-without d)
 all-without (vector s d) = refl
 
 -- Lists.
-
-list-ends : {xs : List Tree} {t : Tree} → IsList xs t → is_nil (tail_of t) ≡ true
-list-ends g.end = refl
-list-ends (g.next l) = list-ends l
-
-list-elements : {xs : List Tree} {t : Tree} → IsList xs t → elements t ≡ xs
-list-elements g.end = refl
-list-elements (g.next {x = x} l) = ap (λ ys. x ∷ ys) (list-elements l)
-
-a-list : (t : Tree) → is_nil (tail_of t) ≡ true → IsList (elements t) t
-a-list t h = proper t (elements t) (ap (λ b. if b then Some (elements t) else None) h)
 
 operand-list : (t : Tree) (b : Bool) (xs : List Tree) (a e : Tree) → is_nil (tail_of t) ≡ b → elements t ≡ a ∷ xs → operand_of b (a ∷ xs) ≡ Some e → IsList (a ∷ (e ∷ [])) t
 operand-list t true [] a e n k h = absurd (cc)
@@ -290,7 +280,7 @@ module _ (w : Looked) where
   tail-same a d = ap (λ b. b && is_some (only d)) (tail_words (w.words a))
 
   one-more-rest : {n m : ℕ} {is js ks : List Insert} (s : Option Span) (a d u : Tree) {us : List Tree} (vs : List Tree) → is_tail w.words a d ≡ false → IsElement w m is a us js → IsRest w n m js d (chain vs u) ks → IsRest w n m is (pair s a d) (chain (us ++ vs) u) ks
-  one-more-rest {n} {m} {is} {js} {ks} s a d u {us} vs e i rest = subst (λ x. IsRest w n m is (pair s a d) x ks) (sym (chain_joined us vs u)) (r.another (tail-same a d ∙ e) i rest)
+  one-more-rest {n} {m} {is} {js} {ks} s a d u {us} vs e i rest = subst (λ x. IsRest w n m is (pair s a d) x ks) (sym (chain-append us vs u)) (r.another (tail-same a d ∙ e) i rest)
 
   rest-flat : (d : Tree) {n m : ℕ} {is mid js : List Insert} {us : List Tree} {u : Tree} → has_tail w.words d ≡ false → Elements m is (elements d) us mid → IsInserted w n mid (tail_of d) u js → IsRest w n m is d (chain us u) js
   rest-flat (atom s a) h no_more i = r.an_end refl i
@@ -315,7 +305,7 @@ module _ (w : Looked) where
       → Elements (level_behind (w.words a) n) is (a ∷ ts) us mid → ((js : List Insert) (vs : List Tree) → Elements (level_behind (w.words a) n) js ts vs mid → IsRest w n (level_behind (w.words a) n) js d (chain vs u) ks)
       → IsInserted w n is (pair s a d) (chain us u) ks
   whole-list {n} {is} {mid} {ks} s a d u ts _ head esc (one_more {js = js} {us = us} {vs = vs} e es) rest =
-      subst (λ x. IsInserted w n is (pair s a d) x ks) (sym (chain_joined us vs u)) (r.a_list head esc e (rest js vs es))
+      subst (λ x. IsInserted w n is (pair s a d) x ks) (sym (chain-append us vs u)) (r.a_list head esc e (rest js vs es))
 
   module _ (n : ℕ) (t rest : Tree) (a : Tree) (ts : List Tree) (form : unspanned t ≡ chain (map unspanned (a ∷ ts)) (unspanned rest)) where
     abbrev level : ℕ
@@ -442,7 +432,7 @@ module _ (w : Looked) where
 
   items-are : {n : ℕ} {is js : List Insert} {ts us : List Tree} {d : Tree} → IsList ts d → Elements n is ts us js → AreVectorElements w n is d (chain us nil) js
   items-are g.end no_more = r.no_item
-  items-are {n} {is} {js} (g.next {span = s} {x = x} {rest = d} l) (one_more {us = us} {vs = vs} e es) = subst (λ u. AreVectorElements w n is (pair s x d) u js) (sym (chain_joined us vs nil)) (r.an_item e (items-are l es))
+  items-are {n} {is} {js} (g.next {span = s} {x = x} {rest = d} l) (one_more {us = us} {vs = vs} e es) = subst (λ u. AreVectorElements w n is (pair s x d) u js) (sym (chain-append us vs nil)) (r.an_item e (items-are l es))
 
   vector-told : (s : Option Span) (d : Tree) → IsList (elements d) d → Each Told (elements d) → (n : ℕ) (is : List Insert) → Tells (Comes n is (vector s d)) (vector_made w (vector s d) (map (element w) (elements d)) n is)
   vector-told s d l all n is =

@@ -1,5 +1,6 @@
 -- Core forms keep an invariant, whatever keeps it inside.
 use Rattle.std.proofs.Common.{◌+◌, ℕ, Bool, true, false, List, [], ◌∷◌, map, Option, None, Some}
+use Rattle.base_data.specs.Elements.{Each}
 use Rattle.base_data.specs.declared.atom.Atom.TheVariants as a
 use Rattle.base_data.specs.Act.{after, give}
 use Rattle.base_data.specs.declared.name.FrameNo.{FrameNo}
@@ -40,7 +41,6 @@ use Rattle.expand_forms.specs.Inside.{Inside}
 use Rattle.expand_forms.specs.Keywords.{expand_transformer, seen_in, expand_transformer_in, expand_transformers, keywords, with_keywords}
 use Rattle.expand_forms.specs.Site.{site_at}
 use Rattle.expand_forms.specs.Forms.{if_parts, let_syntax_parts, letrec_parts, procedure_parts, syntax_case_parts}
-use Rattle.eval_value.specs.Cells.{Each}
 use Rattle.stx_tree.specs.Leaves.{strip}
 use Rattle.law_invariants.specs.Holds.{CoreHolds, CoresHold, InitsHold, CasesHold, ClausesHold, LineHolds}
 use Rattle.law_invariants.specs.Stages.{RecordsHold}

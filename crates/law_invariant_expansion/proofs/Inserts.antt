@@ -1,6 +1,8 @@
 -- Quasi forms keep an invariant, whatever keeps it inside.
 use Rattle.std.proofs.Common.{◌+◌, ℕ, Bool, true, false, List, [], ◌∷◌, ◌++◌, map, Result, Ok, Err, if◌then◌else◌}
+use Rattle.base_data.proofs.ElementLemmas.{each-and}
 use Rattle.base_data.specs.Act.{after, give}
+use Rattle.base_data.specs.Elements.{Each}
 use Rattle.base_data.specs.declared.fault.Fault.{Fault}
 use Rattle.base_data.specs.declared.name.FrameNo.{FrameNo}
 use Rattle.base_data.specs.declared.span.Span.{Span}
@@ -36,9 +38,8 @@ use Rattle.expand_forms.specs.Inside.{Inside}
 use Rattle.expand_forms.specs.Quasi.{part_core, parts_in_order, quasi_made, quasi_form}
 use Rattle.expand_forms.specs.Site.{site_at}
 use Rattle.expand_forms.specs.Forms.{template_parts}
-use Rattle.eval_value.specs.Cells.{Each}
 use Rattle.law_invariants.specs.Holds.{CoresHold}
-use Rattle.law_invariants.proofs.Eachs.{each_and}
+use Rattle.base_data.proofs.ElementLemmas.{each-and}
 use Rattle.law_invariants.proofs.Trees.{OkHolds}
 use Rattle.law_invariant_expansion.proofs.Forms.{Keeps}
 use Rattle.law_invariant_expansion.proofs.Quasi.{QuasiHolds, QuasisHold, quasi-holds}
@@ -93,13 +94,13 @@ module _ (I : Invariant) (kept : IsKeptByExpansion I) where
   with-made-holds t depth done h k = by (nat_lt most_round depth)
     where
       by : (b : Bool) → Each PartAt (if b then done ++ part t depth ∷ [] else done)
-      by true = each_and PartAt done (part t depth) k h
+      by true = each-and PartAt done (part t depth) k h
       by false = k
 
   mutual
     quasi-parts-hold : (t : Tree) (depth : ℕ) (done : List PartForm) (q : PlainQuasi) → I.trees t → Each PartAt done → QuasiHolds I kept.built.closed q → Each PartAt (quasi_parts t depth done q)
     quasi-parts-hold t depth done (constant c) h k j = with-made-holds t depth done h k
-    quasi-parts-hold t depth done (expression e) h k j = each_and PartAt done (part e depth) k j
+    quasi-parts-hold t depth done (expression e) h k j = each-and PartAt done (part e depth) k j
     quasi-parts-hold t depth done (quasi_plan.call m qs) h k j = all-parts-hold t (deeper depth) (with_made t (deeper depth) done) qs h (with-made-holds t (deeper depth) done h k) j
 
     all-parts-hold : (t : Tree) (depth : ℕ) (done : List PartForm) (qs : PlainQuasis) → I.trees t → Each PartAt done → QuasisHold I kept.built.closed qs → Each PartAt (all_quasi_parts t depth done qs)
@@ -145,7 +146,7 @@ module _ (I : Invariant) (kept : IsKeptByExpansion I) where
     all-filled-hold done none cs j h k = (h, k)
     all-filled-hold done (more q qs) cs j h k =
         let p = filled-holds q cs j.0 k in
-        all-filled-hold (done ++ (filled q cs).0 ∷ []) qs (filled q cs).1 j.1 (each_and (C I kept) done (filled q cs).0 h p.0) p.1
+        all-filled-hold (done ++ (filled q cs).0 ∷ []) qs (filled q cs).1 j.1 (each-and (C I kept) done (filled q cs).0 h p.0) p.1
 
   -- Inserts.
 

@@ -1,7 +1,9 @@
 -- What a form of a body is keeps an invariant of the form.
 use Rattle.std.proofs.Common.{ℕ, Bool, true, false, Result, Ok, Err, if◌then◌else◌}
 use Rattle.std.specs.Prelude.{◌||◌, ◌&&◌, not}
+use Rattle.base_data.proofs.ElementLemmas.{each-and}
 use Rattle.base_data.specs.Act.{after, give}
+use Rattle.base_data.specs.Elements.{Each}
 use Rattle.base_data.specs.declared.fault.Fault.{Fault}
 use Rattle.base_data.specs.declared.fault.FaultKind.TheVariants as kind
 use Rattle.base_data.specs.declared.name.Label.{Label}
@@ -31,8 +33,6 @@ use Rattle.expand_heads.specs.declared.taken.Taken.{Taken}
 use Rattle.expand_heads.specs.declared.taken.Waiting.{Waiting}
 use Rattle.expand_heads.specs.declared.taken.Waits.{Waits}
 use Rattle.expand_heads.specs.declared.taken.Waits.TheVariants as waits
-use Rattle.eval_value.specs.Cells.{Each}
-use Rattle.law_invariants.proofs.Eachs.{each_and}
 use Rattle.law_invariants.proofs.Trees.{OkHolds}
 use Rattle.law_invariant_expansion.specs.Forms.{WaitsHold}
 use Rattle.law_invariant_expansion.proofs.Shapes.{ShapeHolds, shape-holds}
@@ -66,7 +66,7 @@ module _ (I : Invariant) (kept : IsKeptByExpansion I) where
   BothAt p = TakenAt p.0 × HeadItemAt p.1
 
   more-waits : (at : BodyAt) (depth : ℕ) (d : Taken) (w : Waits) → TakenAt d → WaitsAt w → TakenAt (with_waiting at depth d w)
-  more-waits at depth d w h k = each_and WaitingAt d.waiting (waiting_at at depth w) h k
+  more-waits at depth d w h k = each-and WaitingAt d.waiting (waiting_at at depth w) h k
 
   module _ (at : BodyAt) (depth : ℕ) where
     -- the definition of a variable
@@ -131,7 +131,7 @@ module _ (I : Invariant) (kept : IsKeptByExpansion I) where
     -- Forms.
 
     waits-so : (d : Taken) (t : Tree) (s : State) → F I kept s → TakenAt d → I.trees t → Gave I kept BothAt (alone (wait at depth d t) s)
-    waits-so d t s h k g = (h, (each_and WaitingAt d.waiting (waiting_at at depth (waits.Expression t)) k g, tt))
+    waits-so d t s h k g = (h, (each-and WaitingAt d.waiting (waiting_at at depth (waits.Expression t)) k g, tt))
 
     target-holds : (d : Taken) (t : Tree) (st : Standing) (s : State) → F I kept s → TakenAt d → I.trees t → Gave I kept BothAt (target_item at depth d t st s)
     target-holds d t (standing.Keyword l) s h k g = (h, (k, tt))

@@ -1,6 +1,7 @@
 -- The uses in forms and items are expanded, forms and items are done with, and what lies inside forms keeps an invariant.
 use Rattle.std.proofs.Common.{ℕ, zero, suc, Bool, true, false, List, Option, None, Some}
 use Rattle.std.specs.Prelude.{nat_lt}
+use Rattle.base_data.proofs.ElementLemmas.{each-and}
 use Rattle.base_data.specs.Act.{after, give}
 use Rattle.base_data.specs.declared.name.FrameNo.{FrameNo}
 use Rattle.base_data.specs.declared.name.Label.{Label}
@@ -42,7 +43,6 @@ use Rattle.expand_forms.specs.declared.expand_uses.PlanOrUse.TheVariants as step
 use Rattle.expand_forms.specs.Site.{site_at}
 use Rattle.expand_forms.specs.Forms.{definition_parts, let_syntax_parts}
 use Rattle.expand_forms.proofs.Linked.{linked-keeps}
-use Rattle.law_invariants.proofs.Eachs.{each_and}
 use Rattle.law_invariants.specs.Stages.{RecordsHold}
 use Rattle.law_invariant_expansion.proofs.Forms.{Keeps, splice-holds, case-holds, lambda-holds, case-lambda-holds, letrec-holds, application-holds, conditional-holds, set-holds, in-sequence-holds, syntax-case-holds, keyword-holds, with-keywords-holds, keywords-form-holds}
 use Rattle.law_invariant_expansion.proofs.Inserts.{quasi-form-holds}
@@ -119,7 +119,7 @@ module _ (I : Invariant) (kept : IsKeptByExpansion I) where
 
     set-item-holds : (at : BodyAt) (depth : ℕ) (d : Taken) (t : Tree) (l : Label) (b : Bool) (s : State) → F I kept s → TakenAt I kept d → I.trees t → Gave I kept ItemStepAt (set_item_step at depth d t l b s)
     set-item-holds at depth d t l true s h k g = (h, k)
-    set-item-holds at depth d t l false s h k g = (h, (each_and (WaitingAt I kept) d.waiting (waiting_at at depth (waits.Expression t)) k g, tt))
+    set-item-holds at depth d t l false s h k g = (h, (each-and (WaitingAt I kept) d.waiting (waiting_at at depth (waits.Expression t)) k g, tt))
 
     item-step-of-holds : (at : BodyAt) (depth : ℕ) (t : Tree) (d : Taken) (i : HeadItem) (s : State) → F I kept s → TakenAt I kept d → I.trees t → HeadItemAt I kept i → Gave I kept ItemStepAt (item_step_of rs at depth t d i s)
     item-step-of-holds at depth t d (head_items.Use k) s h j g y = (h, j)

@@ -2,6 +2,7 @@
 use Rattle.std.proofs.Common.{ℕ, Bool, true, false, List, [], ◌∷◌, Option, None, Some, Result, Ok, Err, if◌then◌else◌}
 use Rattle.std.specs.Prelude.{nat_eq}
 use Rattle.base_data.specs.Act.{after}
+use Rattle.base_data.specs.Elements.{Each}
 use Rattle.base_data.specs.declared.fault.Fault.{Fault}
 use Rattle.base_data.specs.declared.name.Label.{Label}
 use Rattle.base_data.specs.declared.span.Span.{Span}
@@ -31,7 +32,6 @@ use Rattle.expand_heads.specs.declared.plan.HeadPlan.TheVariants as head_plans
 use Rattle.expand_heads.specs.Plan.{done, variable_at, refer, reference, constant, target_variable, target_by, assign_to, assign_by, assign, keywords_plan, operand_plan, call_of, application, in_sequence, shape_plan, with_shape, by_role, keyword_plan, by_head, list_plan, plan_of}
 use Rattle.expand_heads.specs.declared.plan.Plan.{Plan}
 use Rattle.expand_heads.specs.declared.plan.Plan.TheVariants as plans
-use Rattle.eval_value.specs.Cells.{Each}
 use Rattle.law_invariants.specs.Invariant.{OptionHolds}
 use Rattle.law_invariants.proofs.Trees.{OkHolds}
 use Rattle.law_invariant_expansion.proofs.Shapes.{FormalsHold, LambdaHolds, PatternCaseHolds, ShapeHolds, proper-holds, shape-holds}

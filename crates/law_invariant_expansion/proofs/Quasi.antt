@@ -1,6 +1,8 @@
 -- The parts of a `quasiquote` form are kept where the form is.
 use Rattle.std.proofs.Common.{ℕ, zero, suc, ◌-◌, Bool, true, false, List, [], ◌∷◌, ◌++◌, length, take, drop, Option, None, Some, Result, Ok, Err, if◌then◌else◌}
 use Rattle.std.specs.Prelude.{◌&&◌}
+use Rattle.base_data.proofs.ElementLemmas.{each-append, each-and, each-taken, each-dropped}
+use Rattle.base_data.specs.Elements.{Each}
 use Rattle.base_data.specs.declared.fault.Bare.{Bare}
 use Rattle.base_data.specs.declared.span.Span.{Span}
 use Rattle.stx_tree.specs.Tree.{Tree, atom, leaf, pair, vector, nil}
@@ -19,9 +21,7 @@ use Rattle.core_quasi.specs.declared.word.Reach.{Reach}
 use Rattle.core_quasi.specs.declared.word.Reach.TheVariants as reached
 use Rattle.core_quasi.specs.declared.word.QuasiWord.{QuasiWord}
 use Rattle.core_quasi.specs.declared.word.QuasiWord.TheVariants as word
-use Rattle.eval_value.specs.Cells.{Each}
 use Rattle.law_invariants.specs.Invariant.{OptionHolds}
-use Rattle.law_invariants.proofs.Eachs.{each_and, each_both, each_taken, each_dropped}
 use Rattle.law_invariants.proofs.Trees.{OkHolds}
 use Rattle.law_invariant_expansion.proofs.Shapes.{then-holds, ok-if, some-holds, proper-holds}
 use Rattle.law_invariants.specs.Invariant.{Invariant}
@@ -97,15 +97,15 @@ module _ (I : Invariant) (parts : IsClosed I) where
   PiecesHold p = Qs p.parts × Qs p.run
 
   with-each-holds : (p : Pieces) (es : List Tree) → PiecesHold p → Ts es → PiecesHold (with_each p es)
-  with-each-holds p es h k = (h.0, each_both QuasiHolds p.run (expressions es) h.1 (expressions-hold es k))
+  with-each-holds p es h k = (h.0, each-append QuasiHolds p.run (expressions es) h.1 (expressions-hold es k))
 
   with-splices-holds : (p : Pieces) (es : List Tree) → PiecesHold p → Ts es → PiecesHold (with_splices p es)
   with-splices-holds p [] h k = h
   with-splices-holds p (e ∷ es) h k =
-      (each_both QuasiHolds p.parts (closed p.run ++ expressions (e ∷ es)) h.0 (each_both QuasiHolds (closed p.run) (expressions (e ∷ es)) (closed-hold p.run h.1) (expressions-hold (e ∷ es) k)), tt)
+      (each-append QuasiHolds p.parts (closed p.run ++ expressions (e ∷ es)) h.0 (each-append QuasiHolds (closed p.run) (expressions (e ∷ es)) (closed-hold p.run h.1) (expressions-hold (e ∷ es) k)), tt)
 
   with-item-holds : (p : Pieces) (q : PlainQuasi) → PiecesHold p → QuasiHolds q → PiecesHold (with_item p q)
-  with-item-holds p q h k = (h.0, each_and QuasiHolds p.run q h.1 k)
+  with-item-holds p q h k = (h.0, each-and QuasiHolds p.run q h.1 k)
 
   quasi-if : (b : Bool) (q r : PlainQuasi) → QuasiHolds q → QuasiHolds r → QuasiHolds (if b then q else r)
   quasi-if true q r h k = h
@@ -113,12 +113,12 @@ module _ (I : Invariant) (parts : IsClosed I) where
 
   without-holds : (run : List PlainQuasi) (tail : PlainQuasi) → Qs run → QuasiHolds tail → QuasiHolds (without_splices run tail)
   without-holds run tail h k =
-      quasi-if (is_end tail) (call maker.List (quasis run)) (call maker.ConsStar (quasis (run ++ tail ∷ []))) (quasis-hold run h) (quasis-hold (run ++ tail ∷ []) (each_and QuasiHolds run tail h k))
+      quasi-if (is_end tail) (call maker.List (quasis run)) (call maker.ConsStar (quasis (run ++ tail ∷ []))) (quasis-hold run h) (quasis-hold (run ++ tail ∷ []) (each-and QuasiHolds run tail h k))
 
   made-holds : (parts run : List PlainQuasi) (tail : PlainQuasi) → Qs parts → Qs run → QuasiHolds tail → QuasiHolds (made_of parts run tail)
   made-holds [] run tail g h k = without-holds run tail h k
   made-holds (q ∷ qs) run tail g h k =
-      quasis-hold ((q ∷ qs) ++ (closed run ++ tail ∷ [])) (each_both QuasiHolds (q ∷ qs) (closed run ++ tail ∷ []) g (each_and QuasiHolds (closed run) tail (closed-hold run h) k))
+      quasis-hold ((q ∷ qs) ++ (closed run ++ tail ∷ [])) (each-append QuasiHolds (q ∷ qs) (closed run ++ tail ∷ []) g (each-and QuasiHolds (closed run) tail (closed-hold run h) k))
 
   list-joined-holds : (t : Tree) (p : Pieces) (tail : PlainQuasi) → I.trees t → PiecesHold p → QuasiHolds tail → QuasiHolds (list_joined t p tail)
   list-joined-holds t p tail g h k = quasi-if (p.fixed && is_constant tail) (constant t) (made_of p.parts p.run tail) g (made-holds p.parts p.run tail h.0 h.1 k)
@@ -185,7 +185,7 @@ module _ (I : Invariant) (parts : IsClosed I) where
   list-made-holds : (w : Words) (t : Tree) (xs : List Element) (x : Tail) (n : ℕ) → I.trees t → Each IsElement xs → IsTail x → OkHolds QuasiHolds (list_made w t xs x n)
   list-made-holds w t xs x n g all tail =
       ok-if QuasiHolds (splits w x.ends (forms xs)) (flat w t (take (length xs - 2) xs) (split_tail w t xs x) n) (flat w t xs x n)
-      (flat-holds w t (take (length xs - 2) xs) (split_tail w t xs x) n g (each_taken IsElement (length xs - 2) xs all) (λ m. flat-holds w (rest_at (length xs - 2) t) (drop (length xs - 2) xs) x m (rest-holds (length xs - 2) t g) (each_dropped IsElement (length xs - 2) xs all) tail))
+      (flat-holds w t (take (length xs - 2) xs) (split_tail w t xs x) n g (each-taken IsElement (length xs - 2) xs all) (λ m. flat-holds w (rest_at (length xs - 2) t) (drop (length xs - 2) xs) x m (rest-holds (length xs - 2) t g) (each-dropped IsElement (length xs - 2) xs all) tail))
       (flat-holds w t xs x n g all tail)
 
   vector-made-holds : (w : Words) (t : Tree) (xs : List Element) (n : ℕ) → I.trees t → Each IsElement xs → OkHolds QuasiHolds (vector_made w t xs n)

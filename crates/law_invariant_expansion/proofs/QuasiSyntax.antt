@@ -1,6 +1,8 @@
 -- The template and the inserts of a `quasisyntax` form are kept where the form is.
 use Rattle.std.proofs.Common.{ℕ, zero, suc, ◌-◌, Bool, true, false, List, [], ◌∷◌, ◌++◌, length, take, drop, Option, None, Some, Result, Ok, Err, arith, if◌then◌else◌}
 use Rattle.std.specs.Prelude.{◌||◌, ◌≤◌}
+use Rattle.base_data.proofs.ElementLemmas.{each-and, each-taken, each-dropped}
+use Rattle.base_data.specs.Elements.{Each}
 use Rattle.base_data.specs.Gives.{◌>>=◌}
 use Rattle.base_data.specs.declared.fault.Bare.{Bare}
 use Rattle.base_data.specs.declared.span.Span.{Span}
@@ -21,9 +23,7 @@ use Rattle.core_quasi.specs.declared.quasi_syntax.QuasiSyntax.{QuasiSyntax}
 use Rattle.core_quasi.specs.declared.quasi_syntax.QuasiRow.{QuasiRow}
 use Rattle.core_quasi.specs.declared.word.Reach.{Reach}
 use Rattle.core_quasi.specs.declared.word.Reach.TheVariants as reached
-use Rattle.eval_value.specs.Cells.{Each}
 use Rattle.law_invariants.specs.Invariant.{OptionHolds}
-use Rattle.law_invariants.proofs.Eachs.{each_and, each_taken, each_dropped}
 use Rattle.law_invariants.proofs.Trees.{OkHolds, within_all}
 use Rattle.law_invariant_expansion.proofs.Quasi.{TakenHolds, taken-holds, operand-holds}
 use Rattle.law_invariant_expansion.proofs.Shapes.{ok-if}
@@ -63,13 +63,13 @@ module _ (I : Invariant) (built : IsBuilt I) (of_insert : (k : ℕ) → I.trees 
   leaves-hold : (ts es : List Tree) (is : List Insert) → Each I.trees ts → Each I.trees es → Is is → TreesBoth (leaves ts es is)
   leaves-hold ts [] is h k j = (h, j)
   leaves-hold ts (e ∷ es) is h k j =
-      leaves-hold (ts ++ insert_leaf (length is) ∷ []) es (is ++ insert 0 e is ∷ []) (each_and I.trees ts (insert_leaf (length is)) h (of_insert _)) k.1 (each_and InsertHolds is (insert 0 e is) j (insert-holds 0 e is (omega arith) k.0))
+      leaves-hold (ts ++ insert_leaf (length is) ∷ []) es (is ++ insert 0 e is ∷ []) (each-and I.trees ts (insert_leaf (length is)) h (of_insert _)) k.1 (each-and InsertHolds is (insert 0 e is) j (insert-holds 0 e is (omega arith) k.0))
 
   spliced-hold : (dots : Tree) → I.trees dots → (ts es : List Tree) (is : List Insert) → Each I.trees ts → Each I.trees es → Is is → TreesBoth (spliced dots ts es is)
   spliced-hold dots d ts [] is h k j = (h, j)
   spliced-hold dots d ts (e ∷ es) is h k j =
       spliced-hold dots d ((ts ++ insert_leaf (length is) ∷ []) ++ dots ∷ []) es (is ++ insert 1 e is ∷ [])
-      (each_and I.trees (ts ++ insert_leaf (length is) ∷ []) dots (each_and I.trees ts (insert_leaf (length is)) h (of_insert _)) d) k.1 (each_and InsertHolds is (insert 1 e is) j (insert-holds 1 e is (omega arith) k.0))
+      (each-and I.trees (ts ++ insert_leaf (length is) ∷ []) dots (each-and I.trees ts (insert_leaf (length is)) h (of_insert _)) d) k.1 (each-and InsertHolds is (insert 1 e is) j (insert-holds 1 e is (omega arith) k.0))
 
   abbrev RowHolds : QuasiRow → Type 0
   RowHolds r = Each I.trees r.trees
@@ -112,7 +112,7 @@ module _ (I : Invariant) (built : IsBuilt I) (of_insert : (k : ℕ) → I.trees 
     step-by-holds n x r (taken.Each es) is one h k j = leaves-hold r.trees es is h k j
     step-by-holds n x r (taken.Spliced es) is one h k j = spliced-hold w.dots dots_hold r.trees es is h k j
     step-by-holds n x r taken.Kept is one h k j =
-        both-then PartHolds RowHolds (x.1 n is) (λ p inserts. Ok (with_part r p, inserts)) (one.made n is j) (λ p more g i. (each_and I.trees r.trees p.tree h g, i))
+        both-then PartHolds RowHolds (x.1 n is) (λ p inserts. Ok (with_part r p, inserts)) (one.made n is j) (λ p more g i. (each-and I.trees r.trees p.tree h g, i))
 
     walked-holds : (n : ℕ) (r : QuasiRow) (xs : List Element) (is : List Insert) → RowHolds r → Each IsElement xs → Is is → Both RowHolds (walked w n r xs is)
     walked-holds n r [] is h all j = (h, j)
@@ -125,7 +125,7 @@ module _ (I : Invariant) (built : IsBuilt I) (of_insert : (k : ℕ) → I.trees 
 
     or-bad-holds : (o : Option Tree) (is : List Insert) → OptionHolds I.trees o → Is is → Both BegunHolds (operand_or_bad o is)
     or-bad-holds None is h j = tt
-    or-bad-holds (Some e) is h j = (of_insert _, each_and InsertHolds is (insert 0 e is) j (insert-holds 0 e is (omega arith) h))
+    or-bad-holds (Some e) is h j = (of_insert _, each-and InsertHolds is (insert 0 e is) j (insert-holds 0 e is (omega arith) h))
 
     begun-holds : (o : Option Tree) (row : Inserts QuasiRow) (x : Reach) (is : List Insert) → OptionHolds I.trees o → Both RowHolds (row is) → Is is → Both BegunHolds (begun_by o row x is)
     begun-holds o row reached.Operand is h k j = or-bad-holds o is h j
@@ -152,8 +152,8 @@ module _ (I : Invariant) (built : IsBuilt I) (of_insert : (k : ℕ) → I.trees 
     list-made-holds t xs x n is g all tail j =
         both-if PartHolds (escapes (first_word w.words (forms xs)) x.ends (forms xs)) (Ok (unchanged t, is)) _ (g, j)
         (both-if PartHolds (splits w.words x.ends (forms xs)) (flat w t (take (length xs - 2) xs) (split_tail w t xs x) n is) (flat w t xs x n is)
-        (flat-holds t (take (length xs - 2) xs) (split_tail w t xs x) n is g (each_taken IsElement (length xs - 2) xs all)
-        (λ m more i. flat-holds (rest_at (length xs - 2) t) (drop (length xs - 2) xs) x m more (rest-holds (length xs - 2) t g) (each_dropped IsElement (length xs - 2) xs all) tail i) j)
+        (flat-holds t (take (length xs - 2) xs) (split_tail w t xs x) n is g (each-taken IsElement (length xs - 2) xs all)
+        (λ m more i. flat-holds (rest_at (length xs - 2) t) (drop (length xs - 2) xs) x m more (rest-holds (length xs - 2) t g) (each-dropped IsElement (length xs - 2) xs all) tail i) j)
         (flat-holds t xs x n is g all tail j))
 
     vector-made-holds : (t : Tree) (xs : List Element) (n : ℕ) (is : List Insert) → I.trees t → Each IsElement xs → Is is → Both PartHolds (vector_made w t xs n is)

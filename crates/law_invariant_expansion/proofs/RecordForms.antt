@@ -27,14 +27,14 @@ use Rattle.core_records.specs.declared.clause.RecordClause.TheVariants as clause
 use Rattle.core_records.specs.declared.clause.Uid.{Uid}
 use Rattle.core_records.specs.declared.clause.Uid.TheVariants as uid
 use Rattle.core_records.specs.declared.names.RecordNames.{RecordNames}
-use Rattle.eval_value.specs.Cells.{Each}
+use Rattle.base_data.specs.Elements.{Each}
 use Rattle.std.proofs.Common.{pos}
 use Rattle.std.proofs.lemmas.Bool.{lt-ltb}
 use Rattle.base_data.specs.declared.atom.Atom.TheVariants as atoms
 use Rattle.stx_tree.specs.Context.{LeafContext}
 use Rattle.core_records.specs.Names.{like, made_accessor, made_mutator}
 use Rattle.law_invariants.specs.Invariant.{Invariant, OptionHolds}
-use Rattle.law_invariants.proofs.Eachs.{each_and}
+use Rattle.base_data.proofs.ElementLemmas.{each-and}
 use Rattle.law_invariants.proofs.Trees.{OkHolds, within_all}
 use Rattle.law_invariant_expansion.specs.Kept.{IsBuilt}
 use Rattle.law_invariant_expansion.proofs.Shapes.{then-holds, some-holds, if-holds, all-of-holds, proper-holds}
@@ -290,7 +290,7 @@ module _ (I : Invariant) (built : IsBuilt I) (introduces : Introduces I) where
 
   entries-good : (done : List Tree) (fs : List Field) → Ts done → Each FieldHolds fs → RowGood (field_entries done fs)
   entries-good done [] h k = h
-  entries-good done (f ∷ fs) h k = then-holds T Ts (field_entry f) (λ t. field_entries (done ++ t ∷ []) fs) (entry-good f k.0) (λ t j. entries-good (done ++ t ∷ []) fs (each_and T done t h j) k.1)
+  entries-good done (f ∷ fs) h k = then-holds T Ts (field_entry f) (λ t. field_entries (done ++ t ∷ []) fs) (entry-good f k.0) (λ t j. entries-good (done ++ t ∷ []) fs (each-and T done t h j) k.1)
 
   no-fields : (o : Option (List Field)) → OptionHolds (Each FieldHolds) o → Each FieldHolds (or_no_fields o)
   no-fields None h = tt
@@ -410,12 +410,12 @@ module _ (I : Invariant) (built : IsBuilt I) (introduces : Introduces I) where
 
   with-mutator-good : (k : ℕ) (done : List Tree) (o : Option Tree) → k < 2 ^ 127 → Ts done → OptionHolds T o → RowGood (with_mutator k done o)
   with-mutator-good k done None few h j = h
-  with-mutator-good k done (Some put) few h j = then-holds T Ts (mutator_definition k put) (λ t. Ok (done ++ t ∷ [])) (mutator-good k put few j) (λ t g. each_and T done t h g)
+  with-mutator-good k done (Some put) few h j = then-holds T Ts (mutator_definition k put) (λ t. Ok (done ++ t ∷ [])) (mutator-good k put few j) (λ t g. each-and T done t h g)
 
   with-field-good : (k : ℕ) (done : List Tree) (f : Field) → k < 2 ^ 127 → Ts done → FieldHolds f → RowGood (with_field k done f)
   with-field-good k done f few h j =
       then-holds T Ts (accessor_definition k f.accessor) (λ t. with_mutator k (done ++ t ∷ []) f.mutator) (accessor-good k f.accessor few j.1.0)
-      (λ t g. with-mutator-good k (done ++ t ∷ []) f.mutator few (each_and T done t h g) j.1.1)
+      (λ t g. with-mutator-good k (done ++ t ∷ []) f.mutator few (each-and T done t h g) j.1.1)
 
   with-fields-good : (k : ℕ) (done : List Tree) (fs : List Field) → k + length fs ≤ 2 ^ 127 → Ts done → Each FieldHolds fs → RowGood (with_fields k done fs)
   with-fields-good k done [] few h j = h

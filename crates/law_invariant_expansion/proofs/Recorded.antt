@@ -1,7 +1,10 @@
 -- The record of a library keeps an invariant.
 use Rattle.std.proofs.Common.{◌≡◌, ℕ, zero, suc, Bool, List, [], ◌∷◌, map, Option, None, Some, Result, Ok, Err, subst}
+use Rattle.base_data.proofs.ElementLemmas.{each-append}
 use Rattle.base_data.specs.Act.{after, give}
+use Rattle.base_data.specs.Elements.{Each}
 use Rattle.base_data.specs.declared.fault.Fault.{Fault}
+use Rattle.base_data.specs.declared.imported_name.ImportedName.{ImportedName}
 use Rattle.base_data.specs.declared.library.LibName.{LibName}
 use Rattle.base_data.specs.declared.name.Label.{Label}
 use Rattle.base_data.specs.declared.span.Span.{Span}
@@ -22,7 +25,6 @@ use Rattle.expand_standing.specs.Start.{bindings_of, started}
 use Rattle.expand_standing.specs.State.{State, stage_of}
 use Rattle.expand_heads.specs.Items.{begun}
 use Rattle.expand_heads.specs.declared.taken.Taken.{Taken}
-use Rattle.eval_value.specs.Cells.{Each}
 use Rattle.expand_forms.specs.Body.{finish_all}
 use Rattle.expand_forms.specs.Expanding.{ready, body_of}
 use Rattle.expand_forms.specs.Expression.{inside, full_room}
@@ -30,7 +32,6 @@ use Rattle.expand_forms.specs.Inside.{Inside}
 use Rattle.expand_forms.specs.Top.{stands_for, export, all_exports, exports, give_record, record_in, body_at, second_pass, first_pass, top}
 use Rattle.expand_forms.specs.declared.top.TopAt.{TopAt}
 use Rattle.law_invariants.specs.Invariant.{OptionHolds}
-use Rattle.law_invariants.proofs.Eachs.{each_both}
 use Rattle.law_invariants.specs.Holds.{CodesHold, LineHolds}
 use Rattle.law_invariants.specs.Stages.{ExpressionHolds, KeywordHolds, RecordsHold}
 use Rattle.law_invariants.proofs.Variables.{looked_up}
@@ -72,7 +73,7 @@ module _ (I : Invariant) (kept : IsKeptByExpansion I) where
   below-holds s zero h = tt
   below-holds s (suc n) h =
       let l = own_label s n in
-      each_both (λ (b : Label × Binding). BindingHolds I b.1) (own_below s n) (own_row s n) (below-holds s n h) (row-at-holds s l (bound_to s.bindings l) h (looked_up (BindingHolds I) (same_label l) s.bindings h.bindings))
+      each-append (λ (b : Label × Binding). BindingHolds I b.1) (own_below s n) (own_row s n) (below-holds s n h) (row-at-holds s l (bound_to s.bindings l) h (looked_up (BindingHolds I) (same_label l) s.bindings h.bindings))
 
   own-holds : (s : State) → F I kept s → BindingsHold I (own_bindings s)
   unfolding own_bindings
@@ -95,8 +96,8 @@ module _ (I : Invariant) (kept : IsKeptByExpansion I) where
   exports-hold : (at : TopAt) (es : List (List ℕ × Tree)) (s : State) → F I kept s → Gave I kept Any (exports at es s)
   unfolding exports
   exports-hold at es s h =
-      gave-after I kept (λ ls. Each (Any {A = List ℕ × Label}) ls) Any (all_exports at es s) (λ ls s'. after (export_labels ls s') (λ _. give ls))
-      (gave-each I kept (Any {A = List ℕ × Tree}) (Any {A = List ℕ × Label}) (export at) (λ e t i j. export-holds at e t i) [] es s h tt (all-any es))
+      gave-after I kept (λ ls. Each (Any {A = ImportedName}) ls) Any (all_exports at es s) (λ ls s'. after (export_labels ls s') (λ _. give ls))
+      (gave-each I kept (Any {A = List ℕ × Tree}) (Any {A = ImportedName}) (export at) (λ e t i j. export-holds at e t i) [] es s h tt (all-any es))
       (λ ls u i y. (record { stage = i.stage; bindings = i.bindings }, tt))
 
   -- The body of a library.
@@ -119,7 +120,7 @@ module _ (I : Invariant) (kept : IsKeptByExpansion I) where
 
   all-bindings : (rs : List CompiledLibrary) → Each (RecordHolds I) rs → BindingsHold I (bindings_of rs)
   all-bindings [] h = tt
-  all-bindings (r ∷ rs) h = each_both (λ (b : Label × Binding). BindingHolds I b.1) r.bindings (bindings_of rs) h.0.bindings (all-bindings rs h.1)
+  all-bindings (r ∷ rs) h = each-append (λ (b : Label × Binding). BindingHolds I b.1) r.bindings (bindings_of rs) h.0.bindings (all-bindings rs h.1)
 
   all-lines : (rs : List CompiledLibrary) → Each (RecordHolds I) rs → RecordsHold I rs
   all-lines [] h = tt
@@ -131,7 +132,7 @@ module _ (I : Invariant) (kept : IsKeptByExpansion I) where
       let is : p.0 ≡ r = cc in
       subst (RecordHolds I) is h.1
 
-  pub started-holds : (own : LibName) (records : List CompiledLibrary) (imports : List (List ℕ × Label)) (codes : Codes) → Each (RecordHolds I) records → CodesHold I codes → StateHoldsIn I (started own records imports codes)
+  pub started-holds : (own : LibName) (records : List CompiledLibrary) (imports : List ImportedName) (codes : Codes) → Each (RecordHolds I) records → CodesHold I codes → StateHoldsIn I (started own records imports codes)
   unfolding started
   started-holds own records imports codes before texts = record { stage = record { cells = tt; codes = texts; globals = tt; keywords = tt }; bindings = all-bindings records before }
 

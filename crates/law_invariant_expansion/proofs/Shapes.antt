@@ -1,5 +1,7 @@
 -- The parts of a form that a shape gives are kept where the form is.
 use Rattle.std.proofs.Common.{Bool, true, false, List, [], ◌∷◌, ◌++◌, Option, None, Some, Result, Ok, Err, if◌then◌else◌}
+use Rattle.base_data.proofs.ElementLemmas.{each-and}
+use Rattle.base_data.specs.Elements.{Each}
 use Rattle.base_data.specs.Gives.{◌>>=◌}
 use Rattle.base_data.specs.declared.span.Span.{Span}
 use Rattle.stx_tree.specs.Tree.{Tree, atom, leaf, pair, vector}
@@ -14,9 +16,7 @@ use Rattle.core_shapes.specs.declared.shape.PatternCase.{PatternCase}
 use Rattle.core_shapes.specs.declared.shape.Shape.{Shape}
 use Rattle.core_shapes.specs.declared.shape.Shape.TheVariants as shapes
 use Rattle.core_shapes.specs.declared.lists.Split.{Split}
-use Rattle.eval_value.specs.Cells.{Each}
 use Rattle.law_invariants.specs.Invariant.{OptionHolds}
-use Rattle.law_invariants.proofs.Eachs.{each_and}
 use Rattle.law_invariants.proofs.Matches.{elements_of_tree}
 use Rattle.law_invariants.proofs.Trees.{OkHolds}
 use Rattle.law_invariants.specs.Invariant.{Invariant}
@@ -45,7 +45,7 @@ pub all-of-holds : {X Y : Type 0} (A : X → Type 0) (B : Y → Type 0) (f : X �
 unfolding all_of
 all-of-holds A B f k done [] h g = h
 all-of-holds {X} {Y} A B f k done (x ∷ xs) h g =
-    some-holds B (Each B) (f x) (λ y. all_of f (done ++ y ∷ []) xs) (k x g.0) (λ y j. all-of-holds A B f k (done ++ y ∷ []) xs (each_and B done y h j) g.1)
+    some-holds B (Each B) (f x) (λ y. all_of f (done ++ y ∷ []) xs) (k x g.0) (λ y j. all-of-holds A B f k (done ++ y ∷ []) xs (each-and B done y h j) g.1)
 
 module _ (I : Invariant) (parts : IsClosed I) where
   abbrev pub T : Tree → Type 0

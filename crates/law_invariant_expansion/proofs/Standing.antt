@@ -1,6 +1,8 @@
 -- Binders, keywords, uses, templates and patterns keep an invariant.
 use Rattle.std.proofs.Common.{◌+◌, ℕ, Bool, true, false, List, [], ◌∷◌, ◌++◌, length, Option, None, Some, Result, Ok, Err, refl, ◌≡◌, if◌then◌else◌}
+use Rattle.base_data.proofs.ElementLemmas.{each-and}
 use Rattle.base_data.specs.Act.{after, give, each, gather}
+use Rattle.base_data.specs.Elements.{Each}
 use Rattle.base_data.specs.Named.{Named}
 use Rattle.base_data.specs.declared.fault.Bare.{Bare}
 use Rattle.base_data.specs.declared.fault.Fault.{Fault}
@@ -44,10 +46,8 @@ use Rattle.expand_standing.specs.Uses.{macro_expression, use_keyword, asks_varia
 use Rattle.expand_standing.specs.declared.binders.BoundSpec.{BoundSpec}
 use Rattle.expand_standing.proofs.Noted.{noted-keeps}
 use Rattle.eval_template.specs.Compile as templates
-use Rattle.eval_value.specs.Cells.{Each}
 use Rattle.law_invariants.specs.Holds.{CoreHolds, TemplateHolds}
 use Rattle.law_invariants.specs.Invariant.{OptionHolds}
-use Rattle.law_invariants.proofs.Eachs.{each_and}
 use Rattle.law_invariants.proofs.Trees.{OkHolds}
 use Rattle.law_invariants.proofs.Variables.{looked_up}
 use Rattle.law_invariant_expansion.specs.States.{BindingHolds, StateHoldsIn}
@@ -88,7 +88,7 @@ module _ (I : Invariant) (kept : IsKeptByExpansion I) where
   unfolding each
   gave-each Q W step one done [] s h d k = (h, d)
   gave-each Q W step one done (x ∷ xs) s h d k =
-      gave-after W (λ ys. Each W ys) (step x s) (λ a. each step (done ++ a ∷ []) xs) (one x s h k.0) (λ a t i y. gave-each Q W step one (done ++ a ∷ []) xs t i (each_and W done a d y) k.1)
+      gave-after W (λ ys. Each W ys) (step x s) (λ a. each step (done ++ a ∷ []) xs) (one x s h k.0) (λ a t i y. gave-each Q W step one (done ++ a ∷ []) xs t i (each-and W done a d y) k.1)
 
   pub gave-gather : {X D : Type 0} (Q : X → Type 0) (W : D → Type 0) (step : D → X → Does D) → ((d : D) (x : X) (s : State) → F s → W d → Q x → Gave W (step d x s)) → (d : D) (xs : List X) (s : State) → F s → W d → Each Q xs
       → Gave W (gather step d xs s)
@@ -136,7 +136,7 @@ module _ (I : Invariant) (kept : IsKeptByExpansion I) where
   put-variable-holds l v s h named = (
     record {
       stage = record { cells = h.stage.cells; codes = h.stage.codes; globals = h.stage.globals; keywords = h.stage.keywords };
-      bindings = each_and (λ (b : Label × Binding). BindingHolds I b.1) s.bindings (l, binding.Variable v) h.bindings named;
+      bindings = each-and (λ (b : Label × Binding). BindingHolds I b.1) s.bindings (l, binding.Variable v) h.bindings named;
     },
     tt,
   )
@@ -202,7 +202,7 @@ module _ (I : Invariant) (kept : IsKeptByExpansion I) where
   put-keyword-holds l level s h = (
     record {
       stage = record { cells = h.stage.cells; codes = h.stage.codes; globals = h.stage.globals; keywords = h.stage.keywords };
-      bindings = each_and (λ (b : Label × Binding). BindingHolds I b.1) s.bindings (l, binding.Macro level None) h.bindings tt;
+      bindings = each-and (λ (b : Label × Binding). BindingHolds I b.1) s.bindings (l, binding.Macro level None) h.bindings tt;
     },
     tt,
   )
@@ -345,7 +345,7 @@ module _ (I : Invariant) (kept : IsKeptByExpansion I) where
   put-pattern-variable-holds l level depth s h = (
     record {
       stage = record { cells = h.stage.cells; codes = h.stage.codes; globals = h.stage.globals; keywords = h.stage.keywords };
-      bindings = each_and (λ (b : Label × Binding). BindingHolds I b.1) s.bindings (l, binding.PatternVariable level depth) h.bindings tt;
+      bindings = each-and (λ (b : Label × Binding). BindingHolds I b.1) s.bindings (l, binding.PatternVariable level depth) h.bindings tt;
     },
     tt,
   )

@@ -1,6 +1,8 @@
 -- The template that a form compiles to is kept where the form is.
 use Rattle.std.proofs.Common.{◌≡◌, ℕ, zero, suc, ◌+◌, Bool, true, false, List, [], ◌∷◌, ◌++◌, length, Option, None, Some, Result, Ok, Err, refl, sym, subst, arith, slice_get, nat_lt, if◌then◌else◌}
 use Rattle.std.specs.Prelude.{◌||◌, nat_eq}
+use Rattle.base_data.proofs.ElementLemmas.{each-append, each-and}
+use Rattle.base_data.specs.Elements.{Each}
 use Rattle.base_data.specs.declared.atom.Atom.TheVariants as a
 use Rattle.base_data.specs.Gives.{◌>>=◌}
 use Rattle.base_data.specs.declared.fault.Bare.{Bare}
@@ -18,9 +20,7 @@ use Rattle.core_language.specs.declared.binding.Binding.TheVariants as binding
 use Rattle.core_shapes.specs.Lists.{is_nil, tail_of}
 use Rattle.eval_template.specs.Compile.{TemplateScope, variable_made, bound_made, label_made, is_special, leaf_made, TemplateElement, dots_behind, reach, with_ellipses, fitted, item_made, Walked, step, walked, constant_of, template_of, items_of, is_fixed, is_changed, any_changed, tree_before, trees, rebuilt, placed, fixed_list, list_joined, fixed_vector, vector_joined, escape_of, unescaped, list_parts, list_made, vector_made, template, elements_made, tail_made, compiled}
 use Rattle.eval_pattern.specs.Keywords.{is_ellipsis}
-use Rattle.eval_value.specs.Cells.{Each}
 use Rattle.law_invariants.specs.Holds.{TemplateHolds, ItemsHold}
-use Rattle.law_invariants.proofs.Eachs.{each_and, each_both}
 use Rattle.law_invariants.proofs.Trees.{OkHolds, within_all}
 use Rattle.law_invariants.specs.Invariant.{Invariant}
 use Rattle.law_invariant_expansion.specs.Kept.{IsBuilt}
@@ -125,7 +125,7 @@ module _ (I : Invariant) (built : IsBuilt I) where
 
   trees-hold : (is : List MadeItem) → Each ItemHolds is → Each I.trees (trees is)
   trees-hold [] h = tt
-  trees-hold (i ∷ is) h = subst (λ (ts : List Tree). Each I.trees ts) (sym (before-trees i.made (trees is))) (each_both I.trees (trees_in i.made) (trees is) h.0.1 (trees-hold is h.1))
+  trees-hold (i ∷ is) h = subst (λ (ts : List Tree). Each I.trees ts) (sym (before-trees i.made (trees is))) (each-append I.trees (trees_in i.made) (trees is) h.0.1 (trees-hold is h.1))
 
   list-joins : (place : Span) (t : Tree) (is : List MadeItem) (m : Made) → I.trees t → Each ItemHolds is → MadeHolds m → OkHolds MadeHolds (list_joined place t is m)
   list-joins place t is m g h k = good-of MadeHolds (list_joined place t is m) (λ y e.
@@ -184,7 +184,7 @@ module _ (I : Invariant) (built : IsBuilt I) where
 
     step-holds : (escaped : Bool) (under skips : ℕ) (x : TemplateElement) (es : List Tree) (is : List MadeItem) → IsElement x → AllHold is → OkHolds (λ (w : Walked). AllHold w.1) (step c escaped under skips x es is)
     step-holds escaped under (suc skips) x es is one h = h
-    step-holds escaped under zero x es is one h = good-then ItemHolds (λ (w : Walked). AllHold w.1) (item_made c escaped under x es) (λ i. Ok (length es, is ++ i ∷ [])) (item-holds escaped under x es one) (λ i k. each_and ItemHolds is i h k)
+    step-holds escaped under zero x es is one h = good-then ItemHolds (λ (w : Walked). AllHold w.1) (item_made c escaped under x es) (λ i. Ok (length es, is ++ i ∷ [])) (item-holds escaped under x es one) (λ i k. each-and ItemHolds is i h k)
 
     walked-holds : (escaped : Bool) (under skips : ℕ) (is : List MadeItem) (xs : List TemplateElement) → Each IsElement xs → AllHold is → OkHolds AllHold (walked c escaped under skips is xs)
     walked-holds escaped under skips is [] all h = h

@@ -1,12 +1,12 @@
 -- Forms, and what was taken of a body so far, of which an invariant holds.
 use Rattle.std.specs.Prelude.{List}
+use Rattle.base_data.specs.Elements.{Each}
 use Rattle.stx_tree.specs.Tree.{Tree}
 use Rattle.core_shapes.specs.declared.shape.FormalIds.{FormalIds}
 use Rattle.expand_heads.specs.declared.taken.Taken.{Taken}
 use Rattle.expand_heads.specs.declared.taken.Waiting.{Waiting}
 use Rattle.expand_heads.specs.declared.taken.Waits.{Waits}
 use Rattle.expand_heads.specs.declared.taken.Waits.TheVariants as waits
-use Rattle.eval_value.specs.Cells.{Each}
 use Rattle.law_invariants.specs.Invariant.{Invariant, OptionHolds}
 
 module _ (I : Invariant) where

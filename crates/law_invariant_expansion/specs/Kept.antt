@@ -17,7 +17,7 @@ use Rattle.eval_pattern.specs.Compile.{PatternScope, compiled as compiled_patter
 use Rattle.eval_pattern.specs.declared.compile.Compiled.{Compiled}
 use Rattle.eval_pattern.specs.declared.compile.PatternVariable.{PatternVariable}
 use Rattle.eval_template.specs.Compile.{TemplateScope, compiled as compiled_template}
-use Rattle.eval_value.specs.Cells.{Each}
+use Rattle.base_data.specs.Elements.{Each}
 use Rattle.expand_quasi.specs.Inserted.{dots, inserts_pattern}
 use Rattle.law_invariants.specs.Closed.{IsClosed}
 use Rattle.law_invariants.specs.Invariant.{Invariant}

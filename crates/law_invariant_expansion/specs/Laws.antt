@@ -1,13 +1,13 @@
 -- Expansion keeps what passes tests that evaluation, quasi forms and record forms keep.
 use Rattle.std.specs.Prelude.{◌≡◌, ℕ, List, Ok, IsTrue}
+use Rattle.base_data.specs.Elements.{Each}
+use Rattle.base_data.specs.declared.imported_name.ImportedName.{ImportedName}
 use Rattle.base_data.specs.declared.library.LibName.{LibName}
-use Rattle.base_data.specs.declared.name.Label.{Label}
 use Rattle.base_data.specs.declared.span.Span.{Span}
 use Rattle.stx_tree.specs.Tree.{Tree}
 use Rattle.stx_frames.specs.Scope.{Scope}
 use Rattle.core_language.specs.declared.core_form.CoreForm.{CoreForm}
 use Rattle.core_language.specs.declared.record.CompiledLibrary.{CompiledLibrary}
-use Rattle.eval_value.specs.Cells.{Each}
 use Rattle.eval_code.specs.Codes.{Codes}
 use Rattle.core_quasi.specs.QuasiSyntax.{insert_leaf}
 use Rattle.expand_quasi.specs.Inserted.{dots}
@@ -32,7 +32,7 @@ pub record AreKeptByForms (t : Tests) : Type 0 where
 -- If the forms of a library pass, the records before it and the codes of texts, so does its record: the constants of its lines and of its keywords'
 -- expressions, and the symbols of its variables.
 abbrev pub ExpansionKeeps : Type 0
-ExpansionKeeps = (t : Tests) (own : LibName) (path : List ℕ) (records : List CompiledLibrary) (imports : List (List ℕ × Label))
+ExpansionKeeps = (t : Tests) (own : LibName) (path : List ℕ) (records : List CompiledLibrary) (imports : List ImportedName)
     (version : List ℕ) (place : Span) (exports : List (List ℕ × Tree)) (forms : List Tree) (codes : Codes) (r : CompiledLibrary)
     → AreKeptByForms t → Each (RecordHolds (passing t)) records → CodesHold (passing t) codes → Each (λ (u : Tree). IsTrue (t.trees u)) forms
     → library_record (ready own path records imports codes) records version place exports forms ≡ Ok r → RecordHolds (passing t) r

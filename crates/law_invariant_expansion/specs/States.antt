@@ -1,10 +1,10 @@
 -- States of an expansion in which an invariant holds.
 use Rattle.std.specs.Prelude.{List}
+use Rattle.base_data.specs.Elements.{Each}
 use Rattle.base_data.specs.declared.name.Label.{Label}
 use Rattle.core_language.specs.declared.binding.Binding.{Binding}
 use Rattle.core_language.specs.declared.binding.Binding.TheVariants as binding
 use Rattle.expand_standing.specs.State.{State, stage_of}
-use Rattle.eval_value.specs.Cells.{Each}
 use Rattle.law_invariants.specs.Stages.{ExpressionHolds}
 use Rattle.law_invariants.specs.Steady.{SteadyStage}
 use Rattle.law_invariants.specs.Invariant.{Invariant}

@@ -1,6 +1,8 @@
 -- What a primitive makes keeps an invariant of its arguments and of the cells, row by row of `delta`.
 use Rattle.std.specs.Ordering.{int_eq}
 use Rattle.std.proofs.Common.{◌≡◌, refl, ◌+◌, ◌-◌, ◌/◌, ◌%◌, ◌==◌, ◌||◌, ◌&&◌, ℕ, zero, suc, ℤ, pos, negsuc, List, [], ◌∷◌, ◌++◌, Option, Some, None, Bool, true, false, Result, Ok, Err, length, take, drop, map, chars, nat_le, unsigned_abs, slice_get, if◌then◌else◌}
+use Rattle.base_data.proofs.ElementLemmas.{each-append, each-and, each-taken, each-dropped}
+use Rattle.base_data.specs.Elements.{Each}
 use Rattle.base_data.specs.Gives.{◌>>=◌}
 use Rattle.base_data.specs.declared.atom.Atom.TheVariants as a
 use Rattle.base_data.specs.declared.fault.Bare.{Bare}
@@ -10,7 +12,7 @@ use Rattle.stx_tree.specs.Leaves.{context_of}
 use Rattle.stx_tree.specs.Tree as tree
 use Rattle.stx_tree.specs.Tree.{Tree, list_of, vector_of}
 use Rattle.stx_frames.specs.Scope.{Scope}
-use Rattle.eval_value.specs.Cells.{Each, vector_at, string_at}
+use Rattle.eval_value.specs.Cells.{vector_at, string_at}
 use Rattle.eval_value.specs.declared.value.Value.{Value}
 use Rattle.eval_value.specs.declared.value.Value.TheVariants as value
 use Rattle.eval_value.specs.declared.cell.Cell.{Cell}
@@ -45,7 +47,7 @@ use Rattle.eval_prims.specs.Syntax as identifiers
 use Rattle.eval_prims.specs.Syntax.{identifier_made, temporaries_made}
 use Rattle.law_invariants.specs.Holds.{ValueHolds, ValuesHold, CellsHold}
 use Rattle.law_invariants.specs.Invariant.{OptionHolds}
-use Rattle.law_invariants.proofs.Eachs.{each_both, each_and, each_at, each_taken, each_dropped, each_reversed}
+use Rattle.law_invariants.proofs.Eachs.{each_at, each_reversed}
 use Rattle.law_invariants.proofs.Reading.{PairOr, ValueOr, ValuesOr, TextOr, value_at, vector_at_holds, string_at_holds, pair_holds, all_elements, the_end, elements_hold, tail_holds}
 use Rattle.law_invariants.proofs.Trees.{OkHolds, within_all}
 use Rattle.law_invariants.specs.Invariant.{Invariant}
@@ -112,7 +114,7 @@ module _ (I : Invariant) where
         where
           by : (o : Option A) → OptionHolds Q o → ((ys : List A) → Each Q ys → OptionHolds (Each Q) (all_of f ys xs)) → OptionHolds (Each Q) (if_some o (λ y. all_of f (done ++ y ∷ []) xs))
           by None j again = tt
-          by (Some y) j again = again (done ++ y ∷ []) (each_and Q done y h j)
+          by (Some y) j again = again (done ++ y ∷ []) (each-and Q done y h j)
 
       some_each : {A : Type 0} (Q : A → Type 0) (o : Option (List A)) (f : List A → Option PrimResult) → OptionHolds (Each Q) o → ((xs : List A) → Each Q xs → MadeOr (f xs)) → MadeOr (if_some o f)
       some_each Q None f r k = tt
@@ -303,7 +305,7 @@ module _ (I : Invariant) where
         where
           by_start : (e : ℕ) (o : Option ℕ) → TextOr I (if_some o (λ b. Some (strings.between cs b e)))
           by_start e None = tt
-          by_start e (Some b) = closed.packed (take (e - b) (drop b cs)) (each_taken IsCharacter (e - b) (drop b cs) (each_dropped IsCharacter b cs h))
+          by_start e (Some b) = closed.packed (take (e - b) (drop b cs)) (each-taken IsCharacter (e - b) (drop b cs) (each-dropped IsCharacter b cs h))
 
           by_end : (o : Option ℕ) → TextOr I (if_some o (λ e. if_some (strings.index_below (e + 1) start) (λ b. Some (strings.between cs b e))))
           by_end None = tt
@@ -403,7 +405,7 @@ module _ (I : Invariant) where
         where
           by_tree : (r : Result Tree Bare) → OkHolds I.trees r → ((ts : List Tree) → Each I.trees ts → OkHolds (Each I.trees) (data_of.all_grown grow ts xs))
               → OkHolds (Each I.trees) (r >>= λ t. data_of.all_grown grow (done ++ t ∷ []) xs)
-          by_tree (Ok t) k again = again (done ++ t ∷ []) (each_and I.trees done t h k)
+          by_tree (Ok t) k again = again (done ++ t ∷ []) (each-and I.trees done t h k)
           by_tree (Err f) k again = tt
 
       vector_grown_holds : (grow : Value → Result Tree Bare) → Grows grow → (o : Option (List Value)) → ValuesOr I o → OkHolds I.trees (data_of.vector_grown grow o)
@@ -574,7 +576,7 @@ module _ (I : Invariant) where
           made_if (op == names.LIST) _ _ (r, nil_holds)
           (made_if (op == names.VECTOR) _ _ r
           (made_if (op == names.STRING) _ _ (spelt_ok args r)
-          (ended_ok (before_last args) (last_of args) (each_taken (ValueHolds I) (length args - 1) args r) (value_at I args (length args - 1) r))))
+          (ended_ok (before_last args) (last_of args) (each-taken (ValueHolds I) (length args - 1) args r) (value_at I args (length args - 1) r))))
 
       elements_ok : (op : ℕ) (xs : List Value) → ValuesHold I xs → MadeOr (lists.of_elements op xs)
       elements_ok op xs r =
@@ -608,7 +610,7 @@ module _ (I : Invariant) where
         where
           by_test : (t : Bool) → ((ys : List Value) → ValuesHold I ys → ValuesHold I (without is ys xs)) → ValuesHold I (if t then without is done xs else without is (done ++ x ∷ []) xs)
           by_test true again = again done h
-          by_test false again = again (done ++ x ∷ []) (each_and (ValueHolds I) done x h r.0)
+          by_test false again = again (done ++ x ∷ []) (each-and (ValueHolds I) done x h r.0)
 
       without_ok : (is : Value → Bool) (xs : List Value) → ValuesHold I xs → MadeOr (lists.list_without is xs)
       without_ok is xs r = (without_holds is [] xs tt r, nil_holds)
@@ -642,7 +644,7 @@ module _ (I : Invariant) where
           by_elements : (o : Option (List Value)) → ValuesOr I o → ((ys : List Value) → ValuesHold I ys → ValuesOr I (elements_joined cells ys xs))
               → ValuesOr I (if_some o (λ ys. elements_joined cells (done ++ ys) xs))
           by_elements None k again = tt
-          by_elements (Some ys) k again = again (done ++ ys) (each_both (ValueHolds I) done ys h k)
+          by_elements (Some ys) k again = again (done ++ ys) (each-append (ValueHolds I) done ys h k)
 
       last_holds : (o : Option Value) → ValueOr I o → ValueHolds I (lists.last_or_nil o)
       last_holds None r = nil_holds

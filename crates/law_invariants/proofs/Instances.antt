@@ -1,5 +1,6 @@
 -- An instance of a template is made of its constants and of the binds of its variables.
 use Rattle.std.proofs.Common.{◌+◌, ℕ, zero, suc, List, [], ◌∷◌, ◌++◌, Option, Some, None, Bool, true, false, Result, Ok, Err, length, slice_get, option_and_then, if◌then◌else◌}
+use Rattle.base_data.proofs.ElementLemmas.{each-and}
 use Rattle.base_data.specs.Gives.{◌>>=◌}
 use Rattle.base_data.specs.Same.{same_name}
 use Rattle.base_data.specs.declared.atom.Atom.TheVariants as a
@@ -20,7 +21,6 @@ use Rattle.eval_code.specs.Instances.{Binds, with_bind, gathered, gathered_items
 use Rattle.eval_code.specs.Variables.{bind_found}
 use Rattle.law_invariants.specs.Holds.{ValueHolds, ValuesHold, BindHolds, BindsHold, CellsHold, TemplateHolds, ItemsHold}
 use Rattle.law_invariants.specs.Invariant.{OptionHolds}
-use Rattle.law_invariants.proofs.Eachs.{each_and}
 use Rattle.law_invariants.proofs.Matches.{AllBound}
 use Rattle.law_invariants.proofs.Storing.{pairs_hold, vector_holds}
 use Rattle.law_invariants.proofs.Variables as variables
@@ -39,7 +39,7 @@ module _ (I : Invariant) where
 
   with_bind_holds : (l : Label) (bs : Binds) (o : Option PlainBind) → AllBound I bs → OptionHolds (BindHolds I) o → GatheredOr (with_bind l bs o)
   with_bind_holds l bs None h k = tt
-  with_bind_holds l bs (Some b) h k = each_and (λ (b : Label × PlainBind). BindHolds I b.1) bs (l, b) h k
+  with_bind_holds l bs (Some b) h k = each-and (λ (b : Label × PlainBind). BindHolds I b.1) bs (l, b) h k
 
   module _ (cells : List Cell) (holds : CellsHold I cells) (scope : Place) where
     mutual
@@ -108,7 +108,7 @@ module _ (I : Invariant) where
 
       item_given : (go : List ℕ → List Cell → Result (Value × List Cell) Bare) (counts : ℕ → List ℕ → List ℕ) → GivesValue go → (ellipses : ℕ) → GivesValues (instances.item go counts ellipses)
       item_given go counts gives zero turns xs cells h r =
-          given_then (ValueHolds I) (ValuesHold I) (go turns cells) (λ v after. Ok (xs ++ v ∷ [], after)) (gives turns cells h) (λ v after k j. (each_and (ValueHolds I) xs v r k, j))
+          given_then (ValueHolds I) (ValuesHold I) (go turns cells) (λ v after. Ok (xs ++ v ∷ [], after)) (gives turns cells h) (λ v after k j. (each-and (ValueHolds I) xs v r k, j))
       item_given go counts gives (suc ellipses) turns xs cells h r = by_count (item_given go counts gives ellipses) (agree None (counts ellipses turns))
         where
           by_count : GivesValues (instances.item go counts ellipses) → (c : Result (Option ℕ) Bare) → Given (ValuesHold I) (c >>= λ n. instances.turned (instances.item go counts ellipses) (or_none n) 0 turns xs cells)

@@ -1,5 +1,7 @@
 -- What a pattern binds are parts of the value that it matches and of the cells.
 use Rattle.std.proofs.Common.{◌+◌, ◌-◌, ℕ, zero, suc, List, [], ◌∷◌, ◌++◌, Option, Some, None, Bool, true, false, length, take, drop, map, nat_le, if◌then◌else◌}
+use Rattle.base_data.proofs.ElementLemmas.{each-append, each-and, each-taken, each-dropped}
+use Rattle.base_data.specs.Elements.{Each}
 use Rattle.base_data.specs.declared.name.Label.{Label}
 use Rattle.stx_tree.specs.Tree as tree
 use Rattle.stx_tree.specs.Tree.{Tree}
@@ -7,7 +9,6 @@ use Rattle.stx_frames.specs.Scope.{Scope}
 use Rattle.core_language.specs.Pattern.{PlainPattern, any, variable, literal, atom, list, vector, PlainPatterns, none, more, dots}
 use Rattle.core_shapes.specs.Lists.{elements}
 use Rattle.eval_value.specs.Bind.{PlainBind, one, turns}
-use Rattle.eval_value.specs.Cells.{Each}
 use Rattle.eval_value.specs.declared.value.Value.{Value}
 use Rattle.eval_value.specs.declared.value.Value.TheVariants as value
 use Rattle.eval_value.specs.declared.cell.Cell.{Cell}
@@ -20,7 +21,6 @@ use Rattle.eval_pattern.specs.declared.columns.PatternBinds.{PatternBinds}
 use Rattle.eval_pattern.specs.declared.columns.Rows.{Rows}
 use Rattle.eval_pattern.specs.declared.front.Front.{Front}
 use Rattle.law_invariants.specs.Holds.{ValueHolds, ValuesHold, BindHolds, BindsHold, CellsHold}
-use Rattle.law_invariants.proofs.Eachs.{each_both, each_and, each_taken, each_dropped}
 use Rattle.law_invariants.proofs.Reading.{PairOr, ValuesOr, pair_at_holds, vector_at_holds}
 use Rattle.law_invariants.specs.Invariant.{Invariant}
 use Rattle.law_invariants.specs.Closed.{IsClosed}
@@ -48,7 +48,7 @@ module _ (I : Invariant) where
   Columns cols = Each (λ (c : Column). Each (BindHolds I) c.binds) cols
 
   columns_and : (cols : List Column) (c : Column) → Columns cols → Each (BindHolds I) c.binds → Columns (cols ++ c ∷ [])
-  columns_and cols c h k = each_and (λ (c : Column). Each (BindHolds I) c.binds) cols c h k
+  columns_and cols c h k = each-and (λ (c : Column). Each (BindHolds I) c.binds) cols c h k
 
   mutual
     empty_hold : (p : PlainPattern) (cols : List Column) → Columns cols → Columns (empty_columns p cols)
@@ -68,7 +68,7 @@ module _ (I : Invariant) where
   grown_hold done [] row g h r = g
   grown_hold done (c ∷ cols) [] g h r = g
   grown_hold done (c ∷ cols) (b ∷ row) g h r =
-      grown_hold (done ++ with_bind c b.1 ∷ []) cols row (columns_and done (with_bind c b.1) g (each_and (BindHolds I) c.binds b.1 h.0 r.0)) h.1 r.1
+      grown_hold (done ++ with_bind c b.1 ∷ []) cols row (columns_and done (with_bind c b.1) g (each-and (BindHolds I) c.binds b.1 h.0 r.0)) h.1 r.1
 
   turns_hold : (bs : List PlainBind) → Each (BindHolds I) bs → BindsHold I (turns bs)
   turns_hold [] h = tt
@@ -143,7 +143,7 @@ module _ (I : Invariant) where
           by_pair : ((xs : List Value) (x : Value) → ValuesHold I xs → ValueHolds I x → FrontHolds (store_front cells left room xs x)) → (o : Option (Value × Value)) → PairOr I o
               → FrontHolds (on_pair o (fronted done v) (λ x rest. store_front cells left room (done ++ x ∷ []) rest))
           by_pair again None p = (r, k)
-          by_pair again (Some q) p = again (done ++ q.0 ∷ []) q.1 (each_and (ValueHolds I) done q.0 r p.0) p.1
+          by_pair again (Some q) p = again (done ++ q.0 ∷ []) q.1 (each-and (ValueHolds I) done q.0 r p.0) p.1
 
           by_room : (t : Bool) → ((xs : List Value) (x : Value) → ValuesHold I xs → ValueHolds I x → FrontHolds (store_front cells left room xs x))
               → FrontHolds (if t then on_pair (stored_pair cells v) (fronted done v) (λ x rest. store_front cells left room (done ++ x ∷ []) rest) else fronted done v)
@@ -153,7 +153,7 @@ module _ (I : Invariant) where
     tree_front_holds : (room : Option ℕ) (t : Tree) (done : List Value) → ValuesHold I done → I.trees t → FrontHolds (tree_front room done t)
     tree_front_holds room (tree.atom s x) done r k = (r, k)
     tree_front_holds room (tree.leaf s x c) done r k = (r, k)
-    tree_front_holds room (tree.pair s x d) done r k = by_room (has_room room (length done)) (tree_front_holds room d (done ++ value.Syn x ∷ []) (each_and (ValueHolds I) done (value.Syn x) r (parts.first s x d k)) (parts.rest s x d k))
+    tree_front_holds room (tree.pair s x d) done r k = by_room (has_room room (length done)) (tree_front_holds room d (done ++ value.Syn x ∷ []) (each-and (ValueHolds I) done (value.Syn x) r (parts.first s x d k)) (parts.rest s x d k))
       where
         by_room : (t : Bool) → FrontHolds (tree_front room (done ++ value.Syn x ∷ []) d)
             → FrontHolds (if t then tree_front room (done ++ value.Syn x ∷ []) d else fronted done (value.Syn (tree.pair s x d)))
@@ -185,7 +185,7 @@ module _ (I : Invariant) where
       mutual
         pub matched_holds : (p : PlainPattern) (v : Value) (s : PatternBinds) → ValueHolds I v → AllBound s.binds → FoundOr (matched fs cells p v s)
         matched_holds any v s r b = b
-        matched_holds (variable l) v s r b = each_and (λ (b : Label × PlainBind). BindHolds I b.1) s.binds (l, one v) b r
+        matched_holds (variable l) v s r b = each-and (λ (b : Label × PlainBind). BindHolds I b.1) s.binds (l, one v) b r
         matched_holds (literal t) v s r b = found_kept (is_alike fs t v) s b
         matched_holds (atom a) v s r b = found_kept (is_atom a (atom_of cells v)) s b
         matched_holds (list ps t) v s r b =
@@ -205,13 +205,13 @@ module _ (I : Invariant) where
         all_hold (more p ps) (x ∷ xs) s r b = found_then (matched fs cells p x s) (all_matched fs cells ps xs) (matched_holds p x s r.0 b) (λ g k. all_hold ps xs g r.1 k)
         all_hold (dots p ps) xs s r b =
             let n = length xs - count ps in
-            let rows = repeated_hold (matched fs cells p) (λ v g k j. matched_holds p v g k j) (take n xs) (no_rows p s.taken) (empty_hold p [] tt) (each_taken (ValueHolds I) n xs r) in
-            by_room (nat_le (count ps) (length xs)) (by_rows (repeated (matched fs cells p) (no_rows p s.taken) (take n xs)) rows (λ g k. all_hold ps (drop n xs) g (each_dropped (ValueHolds I) n xs r) k))
+            let rows = repeated_hold (matched fs cells p) (λ v g k j. matched_holds p v g k j) (take n xs) (no_rows p s.taken) (empty_hold p [] tt) (each-taken (ValueHolds I) n xs r) in
+            by_room (nat_le (count ps) (length xs)) (by_rows (repeated (matched fs cells p) (no_rows p s.taken) (take n xs)) rows (λ g k. all_hold ps (drop n xs) g (each-dropped (ValueHolds I) n xs r) k))
           where
             by_rows : (o : Option Rows) → RowsOr o → ((g : PatternBinds) → AllBound g.binds → FoundOr (all_matched fs cells ps (drop (length xs - count ps) xs) g))
                 → FoundOr (and_then o (λ rows. all_matched fs cells ps (drop (length xs - count ps) xs) (with_rows s rows)))
             by_rows None h k = tt
-            by_rows (Some rows) h k = k (with_rows s rows) (each_both (λ (b : Label × PlainBind). BindHolds I b.1) s.binds (closed rows.columns) b (closed_hold rows.columns h))
+            by_rows (Some rows) h k = k (with_rows s rows) (each-append (λ (b : Label × PlainBind). BindHolds I b.1) s.binds (closed rows.columns) b (closed_hold rows.columns h))
 
             by_room : (t : Bool)
                 → FoundOr (and_then (repeated (matched fs cells p) (no_rows p s.taken) (take (length xs - count ps) xs)) (λ rows. all_matched fs cells ps (drop (length xs - count ps) xs) (with_rows s rows)))

@@ -1,5 +1,6 @@
 -- What an evaluation comes to keeps an invariant of its code, of its cells and of what it reads.
 use Rattle.std.proofs.Common.{◌≤◌, ◌+◌, ◌-◌, ℕ, zero, suc, Bool, true, false, List, [], ◌∷◌, ◌++◌, length, drop, Option, None, Some, Result, Ok, Err, nat_lt, arith, if◌then◌else◌}
+use Rattle.base_data.proofs.ElementLemmas.{each-append, each-and, each-dropped}
 use Rattle.base_data.specs.Datum.{PlainDatum}
 use Rattle.base_data.specs.declared.atom.Atom.TheVariants as a
 use Rattle.base_data.specs.declared.fault.Bare.{Bare}
@@ -40,7 +41,6 @@ use Rattle.law_invariants.specs.Holds.{ValueHolds, ValuesHold, VariableHolds, Ce
 use Rattle.law_invariants.specs.Outcome.{SettingHolds, StateHolds, OutcomeHolds}
 use Rattle.law_invariants.proofs.Calls.{AnswerOr, delta_ok}
 use Rattle.law_invariants.specs.Invariant.{Invariant, OptionHolds}
-use Rattle.law_invariants.proofs.Eachs.{each_both, each_and, each_dropped}
 use Rattle.law_invariants.proofs.Instances.{GatheredOr, gathered_hold, instance_holds}
 use Rattle.law_invariants.proofs.Matches.{AllBound, FoundOr, matched_holds}
 use Rattle.law_invariants.proofs.Reading.{ValuesOr, elements_hold}
@@ -89,7 +89,7 @@ module _ (own : LibName) (m : ℕ) (I : ℕ → Invariant) (rises : Rises own m 
   stored-state r s cells h k = record { up = h.up; library = h.library; cells = k }
 
   one-cell : (r : ℕ) (s : WorldState) (c : Cell) → S r s → CellHolds (I s.names.number) c → S r (with_cell c s)
-  one-cell r s c h k = stored-state r s (s.cells ++ c ∷ []) h (each_and (CellHolds (I s.names.number)) s.cells c h.cells k)
+  one-cell r s c h k = stored-state r s (s.cells ++ c ∷ []) h (each-and (CellHolds (I s.names.number)) s.cells c h.cells k)
 
   pub holds-then : (r : ℕ) (o : Outcome) (g : Go) → O r o → ((v : Value) (t : WorldState) (n : ℕ) → S r t → V t v → O t.names.number (g v t n)) → O r (then_do o g)
   holds-then r (done v t n) g h k = outcome-less r t.names.number (g v t n) h.0.up (k v t n h.0 h.1)
@@ -170,7 +170,7 @@ module _ (own : LibName) (m : ℕ) (I : ℕ → Invariant) (rises : Rises own m 
   module _ (s : WorldState) (h : S s.names.number s) (g : Call) (holds : (vs : List Value) (n : ℕ) → Vs s vs → O s.names.number (g vs n)) where
     holds-elements : (front : List Value) (n : ℕ) (o : Option (List Value)) → Vs s front → ValuesOr (I s.names.number) o → O s.names.number (with_elements front s g n o)
     holds-elements front n None k j = h
-    holds-elements front n (Some xs) k j = holds-charged s.names.number s (length xs) n (g (front ++ xs)) h (λ left. holds (front ++ xs) left (each_both (ValueHolds (I s.names.number)) front xs k j))
+    holds-elements front n (Some xs) k j = holds-charged s.names.number s (length xs) n (g (front ++ xs)) h (λ left. holds (front ++ xs) left (each-append (ValueHolds (I s.names.number)) front xs k j))
 
     holds-front : (front : List Value) (last : Value) (n : ℕ) → Vs s front → O s.names.number (with_front front last s g n)
     holds-front [] last n k = h
@@ -208,8 +208,8 @@ module _ (own : LibName) (m : ℕ) (I : ℕ → Invariant) (rises : Rises own m 
       → EntriesHold (I n) (bindings o ls vs cells).0 × CellsHold (I n) (bindings o ls vs cells).1
   bindings-hold n None ls vs cells h k = (bound-holds n ls vs h, k)
   bindings-hold n (Some l) ls vs cells h k =
-      let p = pairs_hold (I n) (drop (length ls) vs) (value.Atom a.Nil, cells) (each_dropped (ValueHolds (I n)) (length ls) vs h) ((rises.closed n).nil, k) in
-      (each_and (λ (e : Label × Option Value). VariableHolds (I n) e.1) (bound ls vs) (l, Some (pairs_stored (drop (length ls) vs) (value.Atom a.Nil, cells)).0) (bound-holds n ls vs h) p.0, p.1)
+      let p = pairs_hold (I n) (drop (length ls) vs) (value.Atom a.Nil, cells) (each-dropped (ValueHolds (I n)) (length ls) vs h) ((rises.closed n).nil, k) in
+      (each-and (λ (e : Label × Option Value). VariableHolds (I n) e.1) (bound ls vs) (l, Some (pairs_stored (drop (length ls) vs) (value.Atom a.Nil, cells)).0) (bound-holds n ls vs h) p.0, p.1)
 
   case-holds : (Q : Invariant) (cs : PlainCases) (n : ℕ) → CasesHold Q cs → OptionHolds (λ (c : Formals × PlainCore). CoreHolds Q c.1) (first_case cs n)
   case-holds Q no_case n h = tt
@@ -258,7 +258,7 @@ module _ (own : LibName) (m : ℕ) (I : ℕ → Invariant) (rises : Rises own m 
           let p = bindings x.0.rest x.0.required args s.cells in
           let b = bindings-hold s.names.number x.0.rest x.0.required args s.cells k h.cells in
           always x.1 (record { 0 = length p.1 }) (store (p.1 ++ cell.Scope p.0 (Some parent) ∷ []) s.names) n j
-          (stored-state m s (p.1 ++ cell.Scope p.0 (Some parent) ∷ []) h (each_and (CellHolds (I s.names.number)) p.1 (cell.Scope p.0 (Some parent)) b.1 b.0))
+          (stored-state m s (p.1 ++ cell.Scope p.0 (Some parent) ∷ []) h (each-and (CellHolds (I s.names.number)) p.1 (cell.Scope p.0 (Some parent)) b.1 b.0))
 
       holds-code : (parent : Place) (args : List Value) (s : WorldState) (n : ℕ) (x : Option PlainCode) → S m s → Vs s args → OptionHolds (CodeHolds (I m)) x → O s.names.number (by_code w E parent args s n x)
       holds-code parent args s n None h k j = tt
@@ -322,7 +322,7 @@ module _ (own : LibName) (m : ℕ) (I : ℕ → Invariant) (rises : Rises own m 
       holds-operands none scope vs s n c h k = holds-applied vs s n h k
       holds-operands (more x cs) scope vs s n c h k =
           holds-then s.names.number (E x scope s n) (λ v. operands w E cs scope (vs ++ v ∷ [])) (always x scope s n c.0 h)
-          (λ v t left i j. holds-operands cs scope (vs ++ v ∷ []) t left c.1 (from s t h i) (each_and (ValueHolds (I t.names.number)) vs v (values_rise s.names.number t.names.number vs i.up k) j))
+          (λ v t left i j. holds-operands cs scope (vs ++ v ∷ []) t left c.1 (from s t h i) (each-and (ValueHolds (I t.names.number)) vs v (values_rise s.names.number t.names.number vs i.up k) j))
 
       holds-sequence : (cs : PlainCores) (scope : Place) (s : WorldState) (n : ℕ) → CoresHold (I m) cs → S m s → O s.names.number (in_sequence w E cs scope s n)
       holds-sequence none scope s n c h = tt
@@ -349,7 +349,7 @@ module _ (own : LibName) (m : ℕ) (I : ℕ → Invariant) (rises : Rises own m 
           always body scope (store (all_assigned s.cells scope all vs) s.names) n b (stored-state m s (all_assigned s.cells scope all vs) h (all_assigned_hold (I s.names.number) s.cells scope all vs h.cells k))
       holds-at_once (init l x is) all body scope vs s n c b h k =
           holds-then s.names.number (E x scope s n) (λ v. at_once w E is all body scope (vs ++ v ∷ [])) (always x scope s n c.0 h)
-          (λ v t left i j. holds-at_once is all body scope (vs ++ v ∷ []) t left c.1 b (from s t h i) (each_and (ValueHolds (I t.names.number)) vs v (values_rise s.names.number t.names.number vs i.up k) j))
+          (λ v t left i j. holds-at_once is all body scope (vs ++ v ∷ []) t left c.1 b (from s t h i) (each-and (ValueHolds (I t.names.number)) vs v (values_rise s.names.number t.names.number vs i.up k) j))
 
       holds-letrec : (star : Bool) (is : PlainInits) (body : PlainCore) (scope : Place) (s : WorldState) (n : ℕ) → InitsHold (I m) is → CoreHolds (I m) body → S m s
           → O s.names.number (by_letrec w E star is body (next_place s) (with_cell (cell.Scope (unset is) (Some scope)) s) n)

@@ -1,17 +1,18 @@
 -- A tree that is read of a value is made of the trees, atoms and symbols of the value and of the cells.
 use Rattle.std.proofs.Common.{◌≡◌, ◌-◌, ℕ, zero, suc, List, [], ◌∷◌, ◌++◌, Option, None, Some, Bool, true, false, Result, Ok, Err, length, chars, nat_le, subst, if◌then◌else◌}
+use Rattle.base_data.proofs.ElementLemmas.{each-and}
+use Rattle.base_data.specs.Elements.{Each}
 use Rattle.base_data.specs.Gives.{◌>>=◌}
 use Rattle.base_data.specs.declared.fault.Bare.{Bare}
 use Rattle.stx_tree.specs.Measures.{within}
 use Rattle.stx_tree.specs.Tree as tree
 use Rattle.stx_tree.specs.Tree.{Tree, rest_of, vector_of}
-use Rattle.eval_value.specs.Cells.{Each, pair_at, vector_at, string_at}
+use Rattle.eval_value.specs.Cells.{pair_at, vector_at, string_at}
 use Rattle.eval_value.specs.ToSyntax.{Shown, tree, text, both, elements, refused, pair_shown, vector_shown, string_shown, shown, fuel_spent, Reading, spend, leaving, pair_before, vector_read, elements_read, level, read_to, to_syntax}
 use Rattle.eval_value.specs.declared.value.Value.{Value}
 use Rattle.eval_value.specs.declared.value.Value.TheVariants as value
 use Rattle.eval_value.specs.declared.cell.Cell.{Cell}
 use Rattle.law_invariants.specs.Holds.{ValueHolds, ValuesHold, CellsHold}
-use Rattle.law_invariants.proofs.Eachs.{each_and}
 use Rattle.law_invariants.proofs.Trees.{OkHolds, within_all}
 use Rattle.law_invariants.proofs.Reading.{PairOr, ValuesOr, TextOr, pair_at_holds, vector_at_holds, string_at_holds}
 use Rattle.law_invariants.specs.Invariant.{Invariant}
@@ -73,7 +74,7 @@ module _ (I : Invariant) where
         spend-all 1 (λ left. read x left >>= λ p. elements_read read (done ++ p.0 ∷ []) xs p.1) fuel (λ left. by_tree (read x left) (reads x left k.0) (λ ts n j. elements-read read reads ts xs n j k.1))
       where
         by_tree : (r : Reading Tree) → ReadHolds r → ((ts : List Tree) (n : ℕ) → Each I.trees ts → ReadAll (elements_read read ts xs n)) → ReadAll (r >>= λ p. elements_read read (done ++ p.0 ∷ []) xs p.1)
-        by_tree (Ok p) j again = again (done ++ p.0 ∷ []) p.1 (each_and I.trees done p.0 h j)
+        by_tree (Ok p) j again = again (done ++ p.0 ∷ []) p.1 (each-and I.trees done p.0 h j)
         by_tree (Err f) j again = tt
 
     level-holds : (read : Value → ℕ → Reading Tree) → Reads read → (x : Shown) (fuel : ℕ) → ShownHolds x → ReadHolds (level read x fuel)

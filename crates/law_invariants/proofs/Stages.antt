@@ -1,6 +1,8 @@
 -- What is evaluated on a stage, uses among it, keeps an invariant of all on it.
 use Rattle.std.proofs.Common.{◌≡◌, ◌≤◌, ◌<◌, ◌+◌, ℕ, Bool, true, false, List, [], ◌∷◌, length, Option, None, Some, Result, Ok, Err, arith, slice_get, sym, subst, if◌then◌else◌}
+use Rattle.base_data.proofs.ElementLemmas.{each-and, each-implied, each-taken}
 use Rattle.base_data.specs.Act.{after, give}
+use Rattle.base_data.specs.Elements.{Each}
 use Rattle.base_data.specs.Gives.{◌>>=◌}
 use Rattle.base_data.specs.Named.{Named}
 use Rattle.base_data.specs.declared.fault.Fault.{Fault}
@@ -16,7 +18,7 @@ use Rattle.stx_tree.specs.Tree.{Tree}
 use Rattle.core_language.specs.Core.{PlainCore}
 use Rattle.core_language.specs.Labels.{same_label}
 use Rattle.core_language.specs.declared.record.CompiledLibrary.{CompiledLibrary}
-use Rattle.eval_value.specs.Cells.{Each, transformer_in}
+use Rattle.eval_value.specs.Cells.{transformer_in}
 use Rattle.eval_value.specs.ToSyntax.{Reading, to_syntax}
 use Rattle.eval_value.specs.declared.value.Value.{Value}
 use Rattle.eval_value.specs.declared.value.Value.TheVariants as value
@@ -40,7 +42,7 @@ use Rattle.law_invariants.specs.Holds.{ValueHolds, CellHolds, CellsHold, CoreHol
 use Rattle.law_invariants.specs.Outcome.{SettingHolds, StateHolds, OutcomeHolds}
 use Rattle.law_invariants.specs.Closed.{Wider, Rises}
 use Rattle.law_invariants.specs.Invariant.{Invariant, OptionHolds}
-use Rattle.law_invariants.proofs.Eachs.{each_at, each_and, each_taken, each_mapped}
+use Rattle.law_invariants.proofs.Eachs.{each_at}
 use Rattle.law_invariants.proofs.Meaning.{holds-eval, holds-call, holds-lines}
 use Rattle.law_invariants.proofs.Read.{ReadHolds, read-holds}
 use Rattle.law_invariants.proofs.Variables.{looked_up, EntriesHold}
@@ -49,10 +51,10 @@ use Rattle.law_invariants.specs.Stages.{RowsHold, mark_of, ExpressionHolds, Keyw
 use Rattle.law_invariants.proofs.Codes.{inserted-holds, codes-hold, line-codes, values-in, unset-defined}
 
 row-wider : (K L : Mark → Type 0) → ((m : Mark) → K m → L m) → (rs : List Row) → Each (λ (r : Row). Each K r.marks) rs → Each (λ (r : Row). Each L r.marks) rs
-row-wider K L k rs h = each_mapped (λ (r : Row). Each K r.marks) (λ (r : Row). Each L r.marks) (λ r j. each_mapped K L k r.marks j) rs h
+row-wider K L k rs h = each-implied (λ (r : Row). Each K r.marks) (λ (r : Row). Each L r.marks) (λ r j. each-implied K L k r.marks j) rs h
 
 pub rows-wider : (K L : Mark → Type 0) → ((m : Mark) → K m → L m) → (fs : Scope) → RowsHold K fs → RowsHold L fs
-rows-wider K L k fs h = each_mapped (λ (e : FrameNo × List Row). Each (λ (r : Row). Each K r.marks) e.1) (λ (e : FrameNo × List Row). Each (λ (r : Row). Each L r.marks) e.1) (λ e j. row-wider K L k e.1 j) fs h
+rows-wider K L k fs h = each-implied (λ (e : FrameNo × List Row). Each (λ (r : Row). Each K r.marks) e.1) (λ (e : FrameNo × List Row). Each (λ (r : Row). Each L r.marks) e.1) (λ e j. row-wider K L k e.1 j) fs h
 
 pub expression-wider : (I Q : Invariant) → Wider I Q → (e : Option PlainCore) → ExpressionHolds I e → ExpressionHolds Q e
 expression-wider I Q k None h = tt
@@ -63,10 +65,10 @@ keyword-wider I Q k (keyword.Waiting place) h = tt
 keyword-wider I Q k (keyword.Kept e v) h = (expression-wider I Q k e h.0, value_wider I Q k v h.1)
 
 pub keywords-wider : (I Q : Invariant) → Wider I Q → (ks : List (Label × Keyword)) → KeywordsHold I ks → KeywordsHold Q ks
-keywords-wider I Q k ks h = each_mapped (λ (x : Label × Keyword). KeywordHolds I x.1) (λ (x : Label × Keyword). KeywordHolds Q x.1) (λ x j. keyword-wider I Q k x.1 j) ks h
+keywords-wider I Q k ks h = each-implied (λ (x : Label × Keyword). KeywordHolds I x.1) (λ (x : Label × Keyword). KeywordHolds Q x.1) (λ x j. keyword-wider I Q k x.1 j) ks h
 
 pub records-wider : (I Q : Invariant) → Wider I Q → (rs : List CompiledLibrary) → RecordsHold I rs → RecordsHold Q rs
-records-wider I Q k rs h = each_mapped (λ (r : CompiledLibrary). LinesHold I r.run) (λ (r : CompiledLibrary). LinesHold Q r.run) (λ r j. lines_wider I Q k r.run j) rs h
+records-wider I Q k rs h = each-implied (λ (r : CompiledLibrary). LinesHold I r.run) (λ (r : CompiledLibrary). LinesHold Q r.run) (λ r j. lines_wider I Q k r.run j) rs h
 
 -- what is asked of an invariant on a stage: that it rises with the names, and of marks of rows that they stay known
 pub record Runs (own : LibName) (K : ℕ → Mark → Type 0) (I : ℕ → Invariant) : Type 1 where
@@ -146,7 +148,7 @@ module _ (own : LibName) (K : ℕ → Mark → Type 0) (I : ℕ → Invariant) (
 
   -- with one more cell of variables
   scope-holds : (m : ℕ) (g : PlainStage) (es : Entries) → G m g → EntriesHold (I g.names.number) es → StateHolds own I g.names.number (with_cell (cell.Scope es None) (state_on g))
-  scope-holds m g es h k = record { up = omega arith; library = h.library; cells = each_and (CellHolds (I g.names.number)) g.cells (cell.Scope es None) h.cells k }
+  scope-holds m g es h k = record { up = omega arith; library = h.library; cells = each-and (CellHolds (I g.names.number)) g.cells (cell.Scope es None) h.cells k }
 
   codes-of-holds : (c : PlainCore) (m : ℕ) (g : PlainStage) → G m g → CoreHolds (I g.names.number) c → G m (with_codes_of c g)
   codes-of-holds c m g h k = record { up = h.up; library = h.library; frames = h.frames; cells = h.cells; codes = codes-hold (I g.names.number) (alive.rises.code g.names.number) c g.codes h.codes k; globals = h.globals; keywords = h.keywords }
@@ -336,7 +338,7 @@ module _ (own : LibName) (K : ℕ → Mark → Type 0) (I : ℕ → Invariant) (
       (λ x u i y. read-answer-holds place x u.names.number u (stage-self g.names.number u i) y))
 
   cut-holds : (count m : ℕ) (g : PlainStage) → G m g → G m (cut count g)
-  cut-holds count m g h = record { up = h.up; library = h.library; frames = h.frames; cells = each_taken (CellHolds (I g.names.number)) count g.cells h.cells; codes = h.codes; globals = h.globals; keywords = h.keywords }
+  cut-holds count m g h = record { up = h.up; library = h.library; frames = h.frames; cells = each-taken (CellHolds (I g.names.number)) count g.cells h.cells; codes = h.codes; globals = h.globals; keywords = h.keywords }
 
   pub transformed-holds : (place : Span) (v : Value) (t : Tree) (m : ℕ) (g : PlainStage) → G m g → IsValue g.names.number v → IsTree g.names.number t → GaveStage IsTree m (transform_and_cut place v t g)
   unfolding transform_and_cut

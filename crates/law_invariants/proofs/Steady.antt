@@ -1,5 +1,6 @@
 -- An invariant that is the same whatever names were taken is kept by evaluations, on stages and by uses.
 use Rattle.std.proofs.Common.{ℕ, Bool, List, [], ◌∷◌, Option, None, Some, Result, Ok, Err, refl, arith}
+use Rattle.base_data.specs.Elements.{Each}
 use Rattle.base_data.specs.declared.fault.Fault.{Fault}
 use Rattle.base_data.specs.declared.library.LibName.{LibName}
 use Rattle.base_data.specs.declared.name.FrameNo.{FrameNo}
@@ -14,7 +15,6 @@ use Rattle.stx_frames.specs.Scope.{Scope}
 use Rattle.core_language.specs.Core.{PlainCore}
 use Rattle.core_language.specs.declared.record.CompiledLibrary.{CompiledLibrary}
 use Rattle.core_language.specs.declared.record.Line.{Line}
-use Rattle.eval_value.specs.Cells.{Each}
 use Rattle.eval_value.specs.declared.value.Value.{Value}
 use Rattle.eval_code.specs.Lines.{lines_from}
 use Rattle.eval_code.specs.Meaning.{eval_of, applied}

@@ -1,5 +1,6 @@
 -- What is stored keeps an invariant of its parts, and so do data that are read of values.
 use Rattle.std.proofs.Common.{◌≡◌, ◌+◌, ◌≤◌, ◌<◌, ℕ, zero, suc, List, [], ◌∷◌, ◌++◌, Option, Some, None, length, map, arith, sym, subst}
+use Rattle.base_data.proofs.ElementLemmas.{each-and}
 use Rattle.base_data.specs.Datum as datum
 use Rattle.base_data.specs.Datum.{PlainDatum, atom, symbol, pair, vector}
 use Rattle.base_data.specs.Named.{Named}
@@ -19,7 +20,6 @@ use Rattle.eval_prims.specs.Strings.{vector_of}
 use Rattle.eval_prims.specs.declared.made.PrimResult.{PrimResult}
 use Rattle.eval_prims.specs.declared.made.PrimResult.TheVariants as made
 use Rattle.law_invariants.specs.Holds.{ValueHolds, ValuesHold, CellHolds, CellsHold}
-use Rattle.law_invariants.proofs.Eachs.{each_and}
 use Rattle.law_invariants.proofs.Calls.{MadeHolds}
 use Rattle.law_invariants.proofs.Reading.{PairOr, ValuesOr, TextOr, vector_at_holds, string_at_holds, pair_holds}
 use Rattle.law_invariants.specs.Invariant.{Invariant, DatumHolds}
@@ -35,7 +35,7 @@ module _ (I : Invariant) where
   ValuesStored p = ValuesHold I p.0 × CellsHold I p.1
 
   pub one_more : (cells : List Cell) (c : Cell) → CellsHold I cells → CellHolds I c → CellsHold I (cells ++ c ∷ [])
-  one_more cells c h k = each_and (CellHolds I) cells c h k
+  one_more cells c h k = each-and (CellHolds I) cells c h k
 
   pub pairs_hold : (xs : List Value) (p : Value × List Cell) → ValuesHold I xs → StoredHolds p → StoredHolds (pairs_stored xs p)
   pairs_hold [] p h k = k

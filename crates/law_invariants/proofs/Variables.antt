@@ -1,6 +1,7 @@
 -- What an invariant says of variables, which stand in cells, and of codes.
 use Rattle.std.proofs.Common.{ℕ, zero, suc, List, [], ◌∷◌, Option, Some, None, Bool, true, false, slice_get, slice_set, option_map, if◌then◌else◌}
 use Rattle.std.specs.Map.{lookup}
+use Rattle.base_data.specs.Elements.{Each}
 use Rattle.base_data.specs.declared.name.CodeNo.{CodeNo}
 use Rattle.base_data.specs.declared.name.Label.{Label}
 use Rattle.base_region.specs.declared.region.Place.{Place}
@@ -8,7 +9,6 @@ use Rattle.stx_frames.specs.Scope.{or_else}
 use Rattle.core_language.specs.Core.{PlainInits, no_init, init, PlainCode}
 use Rattle.core_language.specs.Labels.{same_label}
 use Rattle.eval_value.specs.Bind.{PlainBind}
-use Rattle.eval_value.specs.Cells.{Each}
 use Rattle.eval_value.specs.declared.value.Value.{Value}
 use Rattle.eval_value.specs.declared.cell.Cell.{Cell}
 use Rattle.eval_value.specs.declared.cell.Cell.TheVariants as cell

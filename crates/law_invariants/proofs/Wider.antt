@@ -1,5 +1,6 @@
 -- What an invariant holds of a wider one holds of.
 use Rattle.std.proofs.Common.{List, Option, None, Some}
+use Rattle.base_data.proofs.ElementLemmas.{each-implied}
 use Rattle.base_data.specs.declared.name.CodeNo.{CodeNo}
 use Rattle.base_data.specs.declared.name.Label.{Label}
 use Rattle.core_language.specs.Core.{PlainCore, quoted, variable, primitive, one_armed, two_armed, assignment, sequence, procedure, letrec, call, instance, matching}
@@ -15,7 +16,6 @@ use Rattle.eval_value.specs.declared.value.Value.TheVariants as value
 use Rattle.eval_value.specs.declared.cell.Cell.{Cell}
 use Rattle.eval_value.specs.declared.cell.Cell.TheVariants as cell
 use Rattle.law_invariants.specs.Holds.{ValueHolds, ValuesHold, BindHolds, BindsHold, VariableHolds, CellHolds, CellsHold, TemplateHolds, ItemsHold, CoreHolds, CoresHold, InitsHold, CasesHold, ClausesHold, CodesHold, GlobalsHold, LineHolds, LinesHold}
-use Rattle.law_invariants.proofs.Eachs.{each_mapped}
 use Rattle.law_invariants.specs.Invariant.{Invariant}
 use Rattle.law_invariants.specs.Closed.{Wider}
 
@@ -33,7 +33,7 @@ module _ (I J : Invariant) (wider : Wider I J) where
   value_wider (value.Transformer p) h = tt
 
   pub values_wider : (vs : List Value) → ValuesHold I vs → ValuesHold J vs
-  values_wider vs h = each_mapped (ValueHolds I) (ValueHolds J) value_wider vs h
+  values_wider vs h = each-implied (ValueHolds I) (ValueHolds J) value_wider vs h
 
   mutual
     pub bind_wider : (b : PlainBind) → BindHolds I b → BindHolds J b
@@ -52,12 +52,12 @@ module _ (I J : Invariant) (wider : Wider I J) where
   cell_wider (cell.Pair x y) h = (value_wider x h.0, value_wider y h.1)
   cell_wider (cell.Vector xs) h = values_wider xs h
   cell_wider (cell.Str text) h = wider.texts text h
-  cell_wider (cell.Scope es parent) h = each_mapped (λ (e : Label × Option Value). VariableHolds I e.1) (λ (e : Label × Option Value). VariableHolds J e.1) (λ e k. variable_wider e.1 k) es h
-  cell_wider (cell.Binds bs parent) h = each_mapped (λ (b : Label × PlainBind). BindHolds I b.1) (λ (b : Label × PlainBind). BindHolds J b.1) (λ b k. bind_wider b.1 k) bs h
+  cell_wider (cell.Scope es parent) h = each-implied (λ (e : Label × Option Value). VariableHolds I e.1) (λ (e : Label × Option Value). VariableHolds J e.1) (λ e k. variable_wider e.1 k) es h
+  cell_wider (cell.Binds bs parent) h = each-implied (λ (b : Label × PlainBind). BindHolds I b.1) (λ (b : Label × PlainBind). BindHolds J b.1) (λ b k. bind_wider b.1 k) bs h
   cell_wider (cell.Transformer x) h = value_wider x h
 
   pub cells_wider : (cs : List Cell) → CellsHold I cs → CellsHold J cs
-  cells_wider cs h = each_mapped (CellHolds I) (CellHolds J) cell_wider cs h
+  cells_wider cs h = each-implied (CellHolds I) (CellHolds J) cell_wider cs h
 
   mutual
     pub template_wider : (t : PlainTemplate) → TemplateHolds I t → TemplateHolds J t
@@ -104,14 +104,14 @@ module _ (I J : Invariant) (wider : Wider I J) where
         wider.clauses p (CoreHolds I f × (CoreHolds I c × ClausesHold I cs)) (CoreHolds J f × (CoreHolds J c × ClausesHold J cs)) (λ k. (core_wider f k.0, (core_wider c k.1.0, clauses_wider cs k.1.1))) h
 
   pub codes_wider : (cs : List (CodeNo × PlainCode)) → CodesHold I cs → CodesHold J cs
-  codes_wider cs h = each_mapped (λ (c : CodeNo × PlainCode). CasesHold I c.1.cases) (λ (c : CodeNo × PlainCode). CasesHold J c.1.cases) (λ c k. cases_wider c.1.cases k) cs h
+  codes_wider cs h = each-implied (λ (c : CodeNo × PlainCode). CasesHold I c.1.cases) (λ (c : CodeNo × PlainCode). CasesHold J c.1.cases) (λ c k. cases_wider c.1.cases k) cs h
 
   pub globals_wider : (gs : List (Label × Value)) → GlobalsHold I gs → GlobalsHold J gs
-  globals_wider gs h = each_mapped (λ (g : Label × Value). ValueHolds I g.1) (λ (g : Label × Value). ValueHolds J g.1) (λ g k. value_wider g.1 k) gs h
+  globals_wider gs h = each-implied (λ (g : Label × Value). ValueHolds I g.1) (λ (g : Label × Value). ValueHolds J g.1) (λ g k. value_wider g.1 k) gs h
 
   line_wider : (x : Line) → LineHolds I x → LineHolds J x
   line_wider (line.Define l c) h = core_wider c h
   line_wider (line.Expr c) h = core_wider c h
 
   pub lines_wider : (ls : List Line) → LinesHold I ls → LinesHold J ls
-  lines_wider ls h = each_mapped (LineHolds I) (LineHolds J) line_wider ls h
+  lines_wider ls h = each-implied (LineHolds I) (LineHolds J) line_wider ls h

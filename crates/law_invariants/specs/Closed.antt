@@ -3,6 +3,7 @@ use Rattle.std.specs.Fmt.{signed_decimal}
 use Rattle.std.specs.Prelude.{◌≡◌, ◌≤◌, ◌<◌, ℕ, ℤ, pos, Bool, true, List, [], ◌∷◌, Option, None, Some, Ok, encode_utf8_all}
 use Rattle.std.specs.Str.{chars}
 use Rattle.base_data.specs.Datum.{PlainDatum}
+use Rattle.base_data.specs.Elements.{Each}
 use Rattle.base_data.specs.declared.atom.Atom.{Atom}
 use Rattle.base_data.specs.declared.atom.Atom.TheVariants as a
 use Rattle.base_data.specs.declared.library.LibName.{LibName}
@@ -14,7 +15,6 @@ use Rattle.stx_tree.specs.Tree as tree
 use Rattle.stx_tree.specs.Tree.{Tree, rest_of, list_of, vector_of}
 use Rattle.core_language.specs.Pattern.{PlainPattern}
 use Rattle.core_language.specs.Template.{PlainTemplate}
-use Rattle.eval_value.specs.Cells.{Each}
 use Rattle.eval_prims.specs.Characters.{is_scalar}
 use Rattle.eval_prims.specs.Numbers.{is_small}
 use Rattle.eval_prims.specs.Perform.{temporary}

@@ -1,5 +1,6 @@
 -- What an invariant says of values, of cells and of core code.
 use Rattle.std.specs.Prelude.{List, Option, None, Some}
+use Rattle.base_data.specs.Elements.{Each}
 use Rattle.base_data.specs.declared.name.CodeNo.{CodeNo}
 use Rattle.base_data.specs.declared.name.Label.{Label}
 use Rattle.core_language.specs.Core.{PlainCore, quoted, variable, primitive, one_armed, two_armed, assignment, sequence, procedure, letrec, call, instance, matching}
@@ -10,7 +11,6 @@ use Rattle.core_language.specs.declared.record.Line.TheVariants as line
 use Rattle.core_language.specs.declared.record.Line.{Line}
 use Rattle.eval_value.specs.Bind as bind
 use Rattle.eval_value.specs.Bind.{PlainBind, PlainBinds}
-use Rattle.eval_value.specs.Cells.{Each}
 use Rattle.eval_value.specs.declared.cell.Cell.TheVariants as cell
 use Rattle.eval_value.specs.declared.cell.Cell.{Cell}
 use Rattle.eval_value.specs.declared.value.Value.TheVariants as value

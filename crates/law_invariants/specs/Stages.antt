@@ -1,5 +1,6 @@
 -- Stages on which an invariant holds.
 use Rattle.std.specs.Prelude.{◌≡◌, ◌≤◌, ℕ, List, Option, None, Some}
+use Rattle.base_data.specs.Elements.{Each}
 use Rattle.base_data.specs.declared.library.LibName.{LibName}
 use Rattle.base_data.specs.declared.name.FrameNo.{FrameNo}
 use Rattle.base_data.specs.declared.name.Label.{Label}
@@ -8,7 +9,6 @@ use Rattle.stx_frames.specs.Rows.{Row}
 use Rattle.stx_frames.specs.Scope.{Scope}
 use Rattle.core_language.specs.Core.{PlainCore}
 use Rattle.core_language.specs.declared.record.CompiledLibrary.{CompiledLibrary}
-use Rattle.eval_value.specs.Cells.{Each}
 use Rattle.eval_stage.specs.Stage.{PlainStage}
 use Rattle.eval_stage.specs.declared.keyword.Keyword.{Keyword}
 use Rattle.eval_stage.specs.declared.keyword.Keyword.TheVariants as keyword

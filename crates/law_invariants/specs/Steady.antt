@@ -1,5 +1,6 @@
 -- An invariant that is the same whatever names were taken.
 use Rattle.std.specs.Prelude.{List}
+use Rattle.base_data.specs.Elements.{Each}
 use Rattle.base_data.specs.Named.{Named}
 use Rattle.base_data.specs.declared.name.Label.{Label}
 use Rattle.stx_tree.specs.Changes.{changed}
@@ -7,7 +8,6 @@ use Rattle.stx_tree.specs.Tree.{Tree}
 use Rattle.stx_tree.specs.declared.change.Change.{Change}
 use Rattle.core_language.specs.Pattern.{PlainPattern}
 use Rattle.core_language.specs.Template.{PlainTemplate}
-use Rattle.eval_value.specs.Cells.{Each}
 use Rattle.eval_prims.specs.Perform.{temporary}
 use Rattle.eval_code.specs.State.{WorldState, Outcome, done, faulted, unfit}
 use Rattle.eval_stage.specs.Stage.{PlainStage}

@@ -1,12 +1,12 @@
 -- Import sets are refused for their names.
-use Rattle.std.proofs.Common.{ℕ, List, [], Option, Some, None, Result, Ok}
+use Rattle.std.proofs.Common.{List, [], Option, Some, None, Result, Ok}
 use Rattle.std.specs.Prelude.{not}
 use Rattle.std.specs.List.{find}
 use Rattle.base_data.specs.declared.fault.Fault.{Fault}
+use Rattle.base_data.specs.declared.imported_name.ImportedName.{ImportedName}
 use Rattle.base_data.specs.declared.name.Label.{Label}
 use Rattle.base_data.specs.declared.span.Span.{Span}
-use Rattle.load_import.specs.Names.{Labelled, same_label, join_by, join_one, joined, has_name, need_by, need, only, except, renamed, sources, step_names}
-use Rattle.load_import.specs.Table.{value_of}
+use Rattle.load_import.specs.Names.{Labelled, label_named, same_label, join_by, join_one, joined, has_name, need_by, need, only, except, renamed, sources, step_names}
 use Rattle.load_import.specs.Turns.{turns}
 use Rattle.load_import.specs.declared.set.NameAt.{NameAt}
 use Rattle.load_import.specs.declared.set.ImportStep.{ImportStep}
@@ -15,12 +15,12 @@ use Rattle.law_kinds.specs.Kinds.{IsOfImports, Tells}
 use Rattle.law_kinds.specs.Laws.{ImportsTell, JoinsTell}
 use Rattle.law_kinds.proofs.Tells.{tells-if, tells-then, tells-turns}
 
-join : (span : Span) (names : Labelled) (e : List ℕ × Label) → Tells IsOfImports (join_one span names e)
-join span names e = by (value_of e.0 names)
+join : (span : Span) (names : Labelled) (e : ImportedName) → Tells IsOfImports (join_one span names e)
+join span names e = by (label_named e.name names)
   where
     by : (o : Option Label) → Tells IsOfImports (join_by span names e o)
     by None = tt
-    by (Some label) = tells-if IsOfImports (same_label label e.1) _ _ tt tt
+    by (Some label) = tells-if IsOfImports (same_label label e.label) _ _ tt tt
 
 pub joins-tell : JoinsTell
 joins-tell span names more = tells-turns IsOfImports (join_one span) (join span) names more

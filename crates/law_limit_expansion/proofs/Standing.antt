@@ -1,11 +1,11 @@
 -- What is done with states keeps such a law of all trees in them.
 use Rattle.std.proofs.Common.{List, Result}
 use Rattle.base_data.specs.Act.{after, each}
+use Rattle.base_data.specs.Elements.{Each}
 use Rattle.base_data.specs.declared.fault.Fault.{Fault}
 use Rattle.stx_tree.specs.Tree.{Tree}
 use Rattle.core_language.specs.Core.{PlainCore}
 use Rattle.expand_standing.specs.State.{State, Does}
-use Rattle.eval_value.specs.Cells.{Each}
 use Rattle.law_invariant_expansion.proofs.Standing as standing
 use Rattle.law_limits.specs.Holds.{CoreHolds, trees}
 use Rattle.law_limits.specs.Lawful.{IsLawful}

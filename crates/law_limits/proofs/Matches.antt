@@ -1,7 +1,7 @@
 -- Of the elements of a list or a vector the law holds.
+use Rattle.base_data.specs.Elements.{Each}
 use Rattle.stx_tree.specs.Tree.{Tree}
 use Rattle.core_shapes.specs.Lists.{elements}
-use Rattle.eval_value.specs.Cells.{Each}
 use Rattle.law_invariants.proofs.Matches as matches
 use Rattle.law_limits.specs.Holds.{trees}
 use Rattle.law_limits.specs.Lawful.{IsLawful}

@@ -1,6 +1,8 @@
 -- What links an action adds.
 use Rattle.std.proofs.Common.{◌≡◌, Bool, true, false, List, [], ◌∷◌, ◌++◌, Option, None, Some, Result, Ok, Err, refl, sym, ap, subst, ◌∙◌, append-nil, append_assoc, if◌then◌else◌, inl, inr}
+use Rattle.base_data.proofs.ElementLemmas.{among-first, each-append, each-implied}
 use Rattle.base_data.specs.Act.{after, each, gather}
+use Rattle.base_data.specs.Elements.{Among, Each}
 use Rattle.base_data.specs.declared.fault.Fault.{Fault}
 use Rattle.base_data.specs.declared.name.Label.{Label}
 use Rattle.base_data.specs.declared.span.Span.{Span}
@@ -11,9 +13,6 @@ use Rattle.core_language.specs.declared.link.LinkKind.{LinkKind}
 use Rattle.core_language.specs.declared.link.LinkKind.TheVariants as kinds
 use Rattle.eval_stage.specs.Stage.{PlainStage}
 use Rattle.expand_standing.specs.State.{State, Does, staged, noted}
-use Rattle.law_hygiene.specs.Marked.{Among}
-use Rattle.eval_value.specs.Cells.{Each}
-use Rattle.law_fresh.proofs.Eachs.{each_both, each_mapped}
 use Rattle.law_references.specs.Noted.{Reference, KeywordExpression, Noted, both}
 use Rattle.law_links.specs.Links.{link_to, primitive_label, IsLink, CodeLinked, IsLinked, AreLinked, ExpressionsLinked, NotedLinked}
 
@@ -30,7 +29,7 @@ pub grows-then : (s t u : State) → Grows s t → Grows t u → Grows s u
 grows-then s t u h k = record {
   new = h.new ++ k.new;
   are = k.are ∙ ap (λ ls. ls ++ k.new) h.are ∙ append_assoc s.links h.new k.new;
-  all = each_both IsLink h.new k.new h.all k.all;
+  all = each-append IsLink h.new k.new h.all k.all;
 }
 
 -- a state with the links of another
@@ -83,11 +82,6 @@ grew-given {A} s {x = x} {u = u} e h = let k : Grew s (Ok (x, u)) = subst (λ (q
 
 -- Links that were there are there later.
 
-among-first : {A : Type 0} (xs ys : List A) (x : A) → Among xs x → Among (xs ++ ys) x
-among-first [] ys x h = absurd h
-among-first (y ∷ xs) ys x (inl e) = inl e
-among-first (y ∷ xs) ys x (inr h) = inr (among-first xs ys x h)
-
 pub among-last : {A : Type 0} (xs : List A) (x : A) → Among (xs ++ x ∷ []) x
 among-last [] x = inl refl
 among-last (y ∷ xs) x = inr (among-last xs x)
@@ -101,11 +95,11 @@ code-later s u g p (core.primitive o) h = among-later s u g (link_to p (primitiv
 code-later s u g p _ h = tt
 
 pub references-later : (s u : State) → Grows s u → (refs : List Reference) → AreLinked s.links refs → AreLinked u.links refs
-references-later s u g refs h = each_mapped (IsLinked s.links) (IsLinked u.links) (λ r k. λ p e. code-later s u g p r.code (k p e)) refs h
+references-later s u g refs h = each-implied (IsLinked s.links) (IsLinked u.links) (λ r k. λ p e. code-later s u g p r.code (k p e)) refs h
 
 pub expressions-later : (s u : State) → Grows s u → (es : List KeywordExpression) → ExpressionsLinked s.links es → ExpressionsLinked u.links es
 expressions-later s u g es h =
-    each_mapped (λ (e : KeywordExpression). AreLinked s.links e.references) (λ (e : KeywordExpression). AreLinked u.links e.references) (λ e k. references-later s u g e.references k) es h
+    each-implied (λ (e : KeywordExpression). AreLinked s.links e.references) (λ (e : KeywordExpression). AreLinked u.links e.references) (λ e k. references-later s u g e.references k) es h
 
 -- What came of forms between two states: links were added, and what is noted is linked.
 pub record Went (s u : State) (x : Noted) : Type 0 where
@@ -118,7 +112,7 @@ pub record Kept (s u : State) (es : List KeywordExpression) : Type 0 where
 
 pub both-linked : (ls : List Link) (x y : Noted) → NotedLinked ls x → NotedLinked ls y → NotedLinked ls (both x y)
 both-linked ls x y h k =
-    (each_both (IsLinked ls) x.references y.references h.0 k.0, each_both (λ (e : KeywordExpression). AreLinked ls e.references) x.expressions y.expressions h.1 k.1)
+    (each-append (IsLinked ls) x.references y.references h.0 k.0, each-append (λ (e : KeywordExpression). AreLinked ls e.references) x.expressions y.expressions h.1 k.1)
 
 pub linked-later : (s u : State) → Grows s u → (x : Noted) → NotedLinked s.links x → NotedLinked u.links x
 linked-later s u g x h = (references-later s u g x.references h.0, expressions-later s u g x.expressions h.1)
@@ -134,7 +128,7 @@ went-to s t u x e h = record { grows = grows-to s t u e h.grows; linked = subst 
 
 pub kept-both : (s v u : State) (es fs : List KeywordExpression) → Kept s v es → Kept v u fs → Kept s u (es ++ fs)
 kept-both s v u es fs h k =
-    record { grows = grows-then s v u h.grows k.grows; linked = each_both (λ (e : KeywordExpression). AreLinked u.links e.references) es fs (expressions-later v u k.grows es h.linked) k.linked }
+    record { grows = grows-then s v u h.grows k.grows; linked = each-append (λ (e : KeywordExpression). AreLinked u.links e.references) es fs (expressions-later v u k.grows es h.linked) k.linked }
 
 pub kept-from : (r s u : State) (es : List KeywordExpression) → Grows r s → Kept s u es → Kept r u es
 kept-from r s u es g h = record { grows = grows-then r s u g h.grows; linked = h.linked }

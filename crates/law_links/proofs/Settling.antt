@@ -1,6 +1,7 @@
 -- Expanding the uses in a form adds the link of the form that is no use.
 use Rattle.std.proofs.Common.{◌≡◌, ℕ, zero, suc, Bool, true, false, List, [], ◌∷◌, ◌++◌, Option, None, Some, Result, Ok, Err, refl, sym, ap, subst, ◌∙◌, inl, inr}
 use Rattle.base_data.specs.Act.{after}
+use Rattle.base_data.specs.Elements.{Among}
 use Rattle.base_data.specs.declared.fault.Fault.{Fault}
 use Rattle.base_data.specs.declared.name.FrameNo.{FrameNo}
 use Rattle.base_data.specs.declared.name.Label.{Label}
@@ -28,7 +29,6 @@ use Rattle.expand_forms.specs.ExpandUses.{used_form, next_form, too_many, set_st
 use Rattle.expand_forms.specs.declared.expand_uses.PlannedForm.{PlannedForm}
 use Rattle.expand_forms.specs.declared.expand_uses.PlanOrUse.{PlanOrUse}
 use Rattle.expand_forms.specs.declared.expand_uses.PlanOrUse.TheVariants as steps
-use Rattle.law_hygiene.specs.Marked.{Among}
 use Rattle.law_expand.specs.Named.{RefersTo}
 use Rattle.law_expand.proofs.Acts.{Gave, gave-after, told}
 use Rattle.law_references.proofs.Performing.{leaf-stands}

@@ -1,5 +1,7 @@
 -- What is noted of forms is linked, and their links are those of identifiers.
 use Rattle.std.proofs.Common.{ℕ, Bool, List, [], ◌∷◌, ◌++◌, length, Option, Result, Ok, Err, refl, sym, subst, ◌∙◌, append-nil}
+use Rattle.base_data.proofs.ElementLemmas.{each-append, each-implied}
+use Rattle.base_data.specs.Elements.{Each}
 use Rattle.base_data.specs.declared.fault.Fault.{Fault}
 use Rattle.base_data.specs.declared.name.FrameNo.{FrameNo}
 use Rattle.base_data.specs.declared.span.Span.{Span}
@@ -39,8 +41,6 @@ use Rattle.expand_heads.specs.declared.taken.BodyAt.{BodyAt}
 use Rattle.expand_heads.specs.declared.taken.Taken.{Taken}
 use Rattle.expand_heads.specs.declared.taken.Waiting.{Waiting}
 use Rattle.expand_heads.specs.declared.taken.Waits.{Waits}
-use Rattle.eval_value.specs.Cells.{Each}
-use Rattle.law_fresh.proofs.Eachs.{each_both, each_mapped}
 use Rattle.law_references.specs.Expands.{counted, QuasiCodes, quotes, has_no_insert, has_inserts, Expands, settles, Performs, refers, is_done, is_template, calls, tests, chooses, assigns, follows, makes, makes_cases, binds_all, matches_one, has_keywords, fills, Expand, CaseBinds, binds_formals, ExpandedBind, Starts, starts_with, ExpansionStart, ExpandsClause, matches_pattern, Match, Asks, KeywordMeans, means, Mean, BindsKeywords, binds_keywords, TakesForm, takes, Acts, is_taken, takes_forms, defines_keyword, takes_among, Take, IsBody, is_body, Finish, Ends, declares, defines, defines_procedure, is_expression}
 use Rattle.law_references.specs.Expands as derivation
 use Rattle.law_references.specs.Noted.{Reference, KeywordExpression, Noted, nothing, only, of_references, of_keywords, both, NotedLine, if_definition, if_expression, of_definitions, of_expressions, of_lines}
@@ -55,7 +55,7 @@ use Rattle.law_links.proofs.Standing.{put-row-grew, bind-specs-grew, bind-formal
 -- Templates of pattern variables have no links.
 
 template-linked : (ls : List Link) (s : State) (place : Span) (level : ℕ) (refs : List Reference) → Each (IsPatternVariable s place level) refs → AreLinked ls refs
-template-linked ls s place level refs h = each_mapped (IsPatternVariable s place level) (IsLinked ls) (λ r k. λ p e. subst (λ (c : PlainCore). CodeLinked ls p c) (sym k.code) tt) refs h
+template-linked ls s place level refs h = each-implied (IsPatternVariable s place level) (IsLinked ls) (λ r k. λ p e. subst (λ (c : PlainCore). CodeLinked ls p c) (sym k.code) tt) refs h
 
 went-none : (s : State) → Went s s nothing
 went-none s = record { grows = grows-same s s refl; linked = (tt, tt) }
@@ -126,14 +126,14 @@ module _ (ls : List Link) where
 
   definitions-linked : (xs : List NotedLine) → Each LineLinked xs → AreLinked ls (of_definitions xs)
   definitions-linked [] h = tt
-  definitions-linked (x ∷ xs) h = each_both (IsLinked ls) (if_definition x.line x.noted.references) (of_definitions xs) (definition-linked x.line x.noted.references h.0) (definitions-linked xs h.1)
+  definitions-linked (x ∷ xs) h = each-append (IsLinked ls) (if_definition x.line x.noted.references) (of_definitions xs) (definition-linked x.line x.noted.references h.0) (definitions-linked xs h.1)
 
   last-linked : (xs : List NotedLine) → Each LineLinked xs → AreLinked ls (of_expressions xs)
   last-linked [] h = tt
-  last-linked (x ∷ xs) h = each_both (IsLinked ls) (if_expression x.line x.noted.references) (of_expressions xs) (expression-linked x.line x.noted.references h.0) (last-linked xs h.1)
+  last-linked (x ∷ xs) h = each-append (IsLinked ls) (if_expression x.line x.noted.references) (of_expressions xs) (expression-linked x.line x.noted.references h.0) (last-linked xs h.1)
 
   told-linked : (xs : List NotedLine) → Each LineLinked xs → AreLinked ls (of_definitions xs ++ of_expressions xs)
-  told-linked xs h = each_both (IsLinked ls) (of_definitions xs) (of_expressions xs) (definitions-linked xs h) (last-linked xs h)
+  told-linked xs h = each-append (IsLinked ls) (of_definitions xs) (of_expressions xs) (definitions-linked xs h) (last-linked xs h)
 
 module _ (rs : List CompiledLibrary) where
   codes-went : {place : Span} {level : ℕ} {t : Tree} {q : QuasiForm} {cs : List PlainCore} {s u : State} {c : PlainCore} {x : Noted} → QuasiCodes place level t q cs s c u x → Went s u x
@@ -220,7 +220,7 @@ module _ (rs : List CompiledLibrary) where
         let k : Grows back u = grew-given back e (finish-keyword-grew rs (place_of b.init place) b.label c back) in
         let last : Grows v u = grows-from v back u refl k in
         let kept = linked-later v u last refs a.linked in
-        record { grows = grows-then s v u first last; linked = each_both (λ (y : KeywordExpression). AreLinked u.links y.references) refs.expressions (record { keyword = b.label; code = c; references = refs.references; state = v } ∷ []) kept.1 (kept.0, tt) }
+        record { grows = grows-then s v u first last; linked = each-append (λ (y : KeywordExpression). AreLinked u.links y.references) refs.expressions (record { keyword = b.label; code = c; references = refs.references; state = v } ∷ []) kept.1 (kept.0, tt) }
 
     mean-kept : {place : Span} {level : ℕ} {recursive : Bool} {f : FrameNo} {bs : List BoundSpec} {s u : State} {es : List KeywordExpression} → Mean rs place level recursive f bs s u es → Kept s u es
     mean-kept (derivation.no_keyword {s = s}) = record { grows = grows-same s s refl; linked = tt }
@@ -254,7 +254,7 @@ module _ (rs : List CompiledLibrary) where
         let b = finish-went g in
         record {
           grows = grows-to s u (cut (length s.scope) u) refl (from-counted s u (grows-then (counted s) v u a.grows b.grows));
-          linked = (told-linked u.links xs b.lines, each_both (λ (e : KeywordExpression). AreLinked u.links e.references) es (of_lines xs) (expressions-later v u b.grows es a.linked) b.expressions);
+          linked = (told-linked u.links xs b.lines, each-append (λ (e : KeywordExpression). AreLinked u.links e.references) es (of_lines xs) (expressions-later v u b.grows es a.linked) b.expressions);
         }
 
     pub finish-went : {level : ℕ} {ws : List Waiting} {s u : State} {xs : List NotedLine} → Finish rs level ws s xs u → Finished s u xs
@@ -266,7 +266,7 @@ module _ (rs : List CompiledLibrary) where
         record {
           grows = grows-then s v u a.grows b.grows;
           lines = (k.0, b.lines);
-          expressions = each_both (λ (e : KeywordExpression). AreLinked u.links e.references) x.noted.expressions (of_lines xs) k.1 b.expressions;
+          expressions = each-append (λ (e : KeywordExpression). AreLinked u.links e.references) x.noted.expressions (of_lines xs) k.1 b.expressions;
         }
 
     ends-went : {level : ℕ} {place : Span} {w : Waits} {s u : State} {x : NotedLine} → Ends rs level place w s x u → Went s u x.noted

@@ -1,9 +1,12 @@
 -- The links of a library.
-use Rattle.std.proofs.Common.{◌≡◌, ℕ, ◌+◌, Bool, true, false, if◌then◌else◌, List, [], ◌∷◌, ◌++◌, map, Option, None, Some, Result, Ok, Err, refl, sym, ap, ◌∙◌, subst, arith, inl, inr, append-nil}
+use Rattle.std.proofs.Common.{◌≡◌, ℕ, ◌+◌, Bool, true, false, if◌then◌else◌, List, [], ◌∷◌, ◌++◌, map, Option, None, Some, Result, Ok, Err, refl, sym, ap, ◌∙◌, subst, inl, append-nil}
+use Rattle.base_data.proofs.ElementLemmas.{each-append, each-implied}
 use Rattle.base_data.specs.Act.{after, give}
+use Rattle.base_data.specs.Elements.{Among, Each}
 use Rattle.base_data.specs.declared.fault.Bare.{Bare}
 use Rattle.base_data.specs.declared.fault.Fault.{Fault}
 use Rattle.base_data.specs.declared.fault.FaultKind.TheVariants as kind
+use Rattle.base_data.specs.declared.imported_name.ImportedName.{ImportedName}
 use Rattle.base_data.specs.declared.library.LibName.{LibName}
 use Rattle.base_data.specs.declared.library.LibName.TheVariants as library
 use Rattle.base_data.specs.declared.name.FrameNo.{FrameNo}
@@ -24,12 +27,11 @@ use Rattle.core_shapes.specs.Lists.{is_leaf}
 use Rattle.expand_standing.specs.InScope.{with_local}
 use Rattle.expand_standing.specs.Binders.{next_index, row_put, put_variable, variable_for, bind_as, bind_variable}
 use Rattle.expand_standing.specs.Own.{export_labels}
-use Rattle.expand_standing.specs.Start.{started, first_frame}
+use Rattle.expand_standing.specs.Start.{started}
 use Rattle.expand_standing.specs.State.{State, noted, note, fresh, fault_form}
 use Rattle.expand_heads.specs.Items.{begun}
 use Rattle.expand_heads.specs.declared.taken.BodyAt.{BodyAt}
 use Rattle.expand_heads.specs.declared.taken.Taken.{Taken}
-use Rattle.eval_value.specs.Cells.{Each}
 use Rattle.expand_forms.specs.Body.{splice, finish_all}
 use Rattle.expand_forms.specs.Expanding.{ready, body_of}
 use Rattle.expand_forms.specs.Expression.{inside, full_room}
@@ -39,7 +41,6 @@ use Rattle.expand_forms.specs.declared.top.Linked.{Linked}
 use Rattle.expand_forms.specs.declared.top.TopAt.{TopAt}
 use Rattle.law_expand.proofs.Acts.{Gave, gave-both, gave-after, told}
 use Rattle.law_fresh.specs.Leaves.{TreeHolds}
-use Rattle.law_fresh.proofs.Eachs.{each_both, each_mapped}
 use Rattle.law_fresh.proofs.Wider.{tree_wider}
 use Rattle.law_fresh_expansion.specs.Events.{HasKnownEvents}
 use Rattle.law_fresh_expansion.specs.Forms.{TakenHolds}
@@ -52,11 +53,11 @@ use Rattle.law_fresh_expansion.proofs.Forms as forms
 use Rattle.law_fresh_expansion.proofs.Items as items
 use Rattle.law_fresh_expansion.proofs.Recorded.{exports-hold, events-stay}
 use Rattle.law_fresh_expansion.proofs.Standing as standing
-use Rattle.law_hygiene.specs.Marked.{Among}
 use Rattle.law_references.specs.Noted.{KeywordExpression, of_lines}
 use Rattle.law_references.proofs.Performing.{all-traced}
 use Rattle.law_references.proofs.Staying as staying
 use Rattle.law_references.proofs.Walking as walking
+use Rattle.law_references.proofs.Recording.{read-at, first-made}
 use Rattle.law_links.specs.Links.{link_to, IsLink, AreLinked}
 use Rattle.law_links.specs.Whole.{BindersAreLinked, RunIsLinked, LinksAreOfIdentifiers}
 use Rattle.law_links.proofs.Grown.{grows-same, grows-then, Grew, grew-after, grew-each, grew-given, expressions-later}
@@ -116,12 +117,6 @@ exports-grew at es s = grew-after s (all_exports at es s) (λ ls t. after (expor
 
 -- The record of a library, and the state that is left.
 
--- a leaf as it is read
-read-at : (libs : List LibName) (own : LibName) (core : Among libs library.Core) (new : IsNewAmong libs own) (n : ℕ) (c : LeafContext) → c ≡ blank → HasKnownEvents libs own n c
-read-at libs own core new n c e =
-    let alive = staying.lives libs own core new in
-    subst (HasKnownEvents libs own n) (sym e) (alive.rises.later 0 n blank (omega arith) alive.read)
-
 module _ (libs : List LibName) (own : LibName) (core : Among libs library.Core) (new : IsNewAmong libs own) where
   abbrev K : ℕ → Mark → Type 0
   K n m = IsKnown libs own n m
@@ -177,7 +172,7 @@ module _ (libs : List LibName) (own : LibName) (core : Among libs library.Core) 
           run = z.1.lines;
           are = subst (λ (ls : List Link). Each IsLink ls) (sym (all.are ∙ ap (λ (ls : List Link). ls ++ all.new) empty)) all.all;
           lines_linked = c.lines;
-          expressions_linked = each_both (λ (e : KeywordExpression). AreLinked u.links e.references) took.expressions (of_lines z.1.told) (expressions-later v u from took.expressions a.linked) c.expressions;
+          expressions_linked = each-append (λ (e : KeywordExpression). AreLinked u.links e.references) took.expressions (of_lines z.1.told) (expressions-later v u from took.expressions a.linked) c.expressions;
         }))
 
     pub top-so : FreshStateHolds own K P first s → Each (TreeHolds (P s.names.number)) fs → J s.names.number at.frame → Gave Right (top go at es fs s)
@@ -197,11 +192,7 @@ given : (P : Linked → Type 0) (q : Result (CompiledLibrary × State) Fault) (l
 given P (Ok p) l h e = let same : ◌≡◌ {A = Linked} (record { library = p.0; links = p.1.links }) l = cc in subst P same h
 given P (Err f) l h e = absurd (cc)
 
-first-made : (own : LibName) (records : List CompiledLibrary) (imports : List (List ℕ × Label)) (codes : Codes) → IsKnownFrame (libraries_of records) own (started own records imports codes).names.number (first_frame own)
-unfolding started
-first-made own records imports codes = inr (refl, omega arith)
-
-first-links : (own : LibName) (records : List CompiledLibrary) (imports : List (List ℕ × Label)) (codes : Codes) → (started own records imports codes).links ≡ []
+first-links : (own : LibName) (records : List CompiledLibrary) (imports : List ImportedName) (codes : Codes) → (started own records imports codes).links ≡ []
 unfolding started
 first-links own records imports codes = refl
 
@@ -214,4 +205,4 @@ links-of-identifiers own path records imports version place es fs codes l new on
     let n = s.names.number in
     given (RunIsLinked records s at es fs) (top (inside records full_room) at es fs s) l
     (top-so libs own (inl refl) new records n starts.1 at es fs s (first-links own records imports codes) starts.0
-    (each_mapped WasRead (TreeHolds (HasKnownEvents libs own n)) (λ t k. tree_wider (λ c. c ≡ blank) (HasKnownEvents libs own n) (read-at libs own (inl refl) new n) t k) fs was) (first-made own records imports codes)) e
+    (each-implied WasRead (TreeHolds (HasKnownEvents libs own n)) (λ t k. tree_wider (λ c. c ≡ blank) (HasKnownEvents libs own n) (read-at libs own (inl refl) new n) t k) fs was) (first-made own records imports codes)) e

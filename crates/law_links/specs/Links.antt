@@ -1,5 +1,6 @@
 -- Where links come from: an identifier that was expanded as a reference, assigned or bound, at the place where it was written.
 use Rattle.std.specs.Prelude.{◌≡◌, true, List, Some, Ok}
+use Rattle.base_data.specs.Elements.{Among, Each}
 use Rattle.base_data.specs.declared.library.LibName.TheVariants as library
 use Rattle.base_data.specs.declared.name.FrameNo.{FrameNo}
 use Rattle.base_data.specs.declared.name.Label.{Label}
@@ -17,8 +18,6 @@ use Rattle.expand_standing.specs.Binders.{put_row}
 use Rattle.expand_standing.specs.Standing.{label_standing}
 use Rattle.expand_standing.specs.State.{State}
 use Rattle.expand_standing.specs.declared.standing.Standing.TheVariants as standing
-use Rattle.law_hygiene.specs.Marked.{Among}
-use Rattle.eval_value.specs.Cells.{Each}
 use Rattle.law_references.specs.Noted.{Reference, KeywordExpression, Noted}
 
 abbrev pub link_to : Span → Label → LinkKind → Link

@@ -1,5 +1,7 @@
 -- The links of a library.
 use Rattle.std.specs.Prelude.{◌≡◌, ℕ, Bool, List, ◌∷◌, [], ◌++◌, map, Some, Ok}
+use Rattle.base_data.specs.Elements.{Each}
+use Rattle.base_data.specs.declared.imported_name.ImportedName.{ImportedName}
 use Rattle.base_data.specs.declared.library.LibName.{LibName}
 use Rattle.base_data.specs.declared.name.FrameNo.{FrameNo}
 use Rattle.base_data.specs.declared.name.Label.{Label}
@@ -14,7 +16,6 @@ use Rattle.expand_standing.specs.Start.{started}
 use Rattle.expand_standing.specs.State.{State}
 use Rattle.expand_heads.specs.Items.{begun}
 use Rattle.expand_heads.specs.declared.taken.Taken.{Taken}
-use Rattle.eval_value.specs.Cells.{Each}
 use Rattle.expand_forms.specs.Expanding.{ready, body_of, library_linked}
 use Rattle.expand_forms.specs.Top as top
 use Rattle.expand_forms.specs.declared.top.Linked.{Linked}
@@ -39,7 +40,7 @@ pub record RunIsLinked (records : List CompiledLibrary) (start : State) (at : To
   pub taken : Taken
   pub first : State
   pub bound : List KeywordExpression
-  pub exported : List (List ℕ × Label)
+  pub exported : List ImportedName
   pub between : State
   pub told : List NotedLine
   pub last : State
@@ -53,7 +54,7 @@ pub record RunIsLinked (records : List CompiledLibrary) (start : State) (at : To
 
 -- So it is of each library with a new name, behind records and codes of texts whose leaves have histories.
 abbrev pub LinksAreOfIdentifiers : Type 0
-LinksAreOfIdentifiers = (own : LibName) (path : List ℕ) (records : List CompiledLibrary) (imports : List (List ℕ × Label))
+LinksAreOfIdentifiers = (own : LibName) (path : List ℕ) (records : List CompiledLibrary) (imports : List ImportedName)
     (version : List ℕ) (place : Span) (exports : List (List ℕ × Tree)) (forms : List Tree) (codes : Codes) (l : Linked)
     → IsNewAmong (libraries_of records) own → Each (RecordHasOnly HasEvents (libraries_of records)) records
     → CodesHold (HasOnly HasEvents (libraries_of records)) codes → Each WasRead forms → Each (λ (e : List ℕ × Tree). WasRead e.1) exports

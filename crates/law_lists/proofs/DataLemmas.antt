@@ -47,7 +47,7 @@ use Rattle.law_lists.proofs.SameLemmas.{atom_itself}
 stays : (old new : List Cell) → Keeps old new → Stay old new
 stays old new k n c h = sym (slice_get-released new (length old) n (slice_get_within old n c h)) ∙ ap (λ (cs : List Cell). slice_get cs n) k ∙ h
 
-read_still : {A : Type 0} (read : Option Cell → Option A) → read None ≡ None → (old new : List Cell) → Stay old new → (n : ℕ) (x : A) → read (slice_get old n) ≡ Some x → read (slice_get new n) ≡ Some x
+pub read_still : {A : Type 0} (read : Option Cell → Option A) → read None ≡ None → (old new : List Cell) → Stay old new → (n : ℕ) (x : A) → read (slice_get old n) ≡ Some x → read (slice_get new n) ≡ Some x
 read_still {A} read e old new s n x h = by (slice_get old n) refl h
   where
     by : (o : Option Cell) → slice_get old n ≡ o → read o ≡ Some x → read (slice_get new n) ≡ Some x

@@ -3,16 +3,18 @@ use Rattle.std.proofs.Common.{◌≡◌, ℕ, zero, suc, ◌<◌, ◌==◌, ◌&
 use Rattle.std.specs.Prelude.{◌⊎◌, nat_eq, IsTrue}
 use Rattle.std.specs.Cmp.Lexicographic.{pointwise}
 use Rattle.std.proofs.Math.Dec.{eqb-zero-suc, eqb-suc-zero, eqb-suc-suc}
+use Rattle.base_data.specs.Elements.{Each}
 use Rattle.base_region.specs.declared.region.Place.{Place}
-use Rattle.eval_value.specs.Cells.{pair_at, vector_at, string_at, is_found, FitsIn, IsBelow, Lies, Each, WholeCells}
+use Rattle.eval_value.specs.Cells.{pair_at, vector_at, string_at, is_found, FitsIn, IsBelow, Lies, WholeCells}
 use Rattle.eval_value.specs.declared.cell.Cell.{Cell}
 use Rattle.eval_value.specs.declared.value.Value.{Value}
 use Rattle.eval_value.specs.declared.value.Value.TheVariants as value
+use Rattle.eval_value.proofs.Wholes.{fits_below}
 use Rattle.eval_prims.specs.Parts.{parts_in, parts_of}
 use Rattle.eval_prims.specs.Identity.{same}
 use Rattle.eval_prims.specs.Equality.{same_lengths, same_texts, same_shape, all_equal, equal_to, equal}
 use Rattle.law_lists.specs.Equals.{have_parts, IsEquality}
-use Rattle.law_lists.proofs.Parts.{below_more, fits_below, pair_within, vector_within, no_parts, each_so, pair_lies, elements_lie, parts_below}
+use Rattle.law_lists.proofs.Parts.{below_more, pair_within, vector_within, no_parts, each_so, pair_lies, elements_lie, parts_below}
 
 and_true : (b : Bool) → (b && true) ≡ b
 and_true true = refl

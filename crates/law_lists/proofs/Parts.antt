@@ -1,12 +1,12 @@
 -- In whole cells the parts of a value lie below it.
-use Rattle.std.proofs.Common.{◌≡◌, ℕ, suc, ◌<◌, ◌≤◌, Bool, false, List, [], ◌∷◌, length, Option, None, Some, refl, subst, ap, arith, slice_get}
-use Rattle.std.specs.Prelude.{IsTrue}
-use Rattle.std.proofs.lemmas.Option.{slice_get_within}
-use Rattle.eval_value.specs.Cells.{pair_in, pair_at, vector_in, vector_at, string_in, transformer_in, has_variables, is_found, FitsIn, IsBelow, Lies, Each, WholeCells}
+use Rattle.std.proofs.Common.{◌≡◌, ℕ, suc, ◌<◌, ◌≤◌, List, [], ◌∷◌, length, Option, None, Some, refl, subst, ap, arith, slice_get}
+use Rattle.base_data.specs.Elements.{Each}
+use Rattle.eval_value.specs.Cells.{pair_in, pair_at, vector_in, vector_at, is_found, IsBelow, Lies, WholeCells}
 use Rattle.eval_value.specs.declared.cell.Cell.{Cell}
 use Rattle.eval_value.specs.declared.cell.Cell.TheVariants as cell
 use Rattle.eval_value.specs.declared.value.Value.{Value}
 use Rattle.eval_value.specs.declared.value.Value.TheVariants as value
+use Rattle.eval_value.proofs.Wholes.{found_below}
 use Rattle.eval_prims.specs.Parts.{parts_in, parts_of}
 
 pub below_more : (m n : ℕ) (x : Value) → m ≤ n → IsBelow m x → IsBelow n x
@@ -21,31 +21,11 @@ below_more m n (value.Prim o) h b = tt
 below_more m n (value.Syn t) h b = tt
 below_more m n (value.Transformer p) h b = omega (arith, h, b)
 
--- where a test of the cell at a place holds, the place is one of the cells
-found_within : (test : Option Cell → Bool) → test None ≡ false → (cells : List Cell) (n : ℕ) → IsTrue (test (slice_get cells n)) → n < length cells
-found_within test e cells n h = by (slice_get cells n) refl h
-  where
-    by : (o : Option Cell) → slice_get cells n ≡ o → IsTrue (test o) → n < length cells
-    by (Some c) e k = slice_get_within cells n c e
-    by None f k = absurd (cc)
-
-pub fits_below : (cells : List Cell) (x : Value) → FitsIn cells x → IsBelow (length cells) x
-fits_below cells value.Unspecified h = tt
-fits_below cells (value.Atom b) h = tt
-fits_below cells (value.Symbol s) h = tt
-fits_below cells (value.Pair p) h = found_within (λ o. is_found (pair_in o)) refl cells p.0 h
-fits_below cells (value.Vector p) h = found_within (λ o. is_found (vector_in o)) refl cells p.0 h
-fits_below cells (value.Str p) h = found_within (λ o. is_found (string_in o)) refl cells p.0 h
-fits_below cells (value.Closure code p) h = found_within has_variables refl cells p.0 h
-fits_below cells (value.Prim op) h = tt
-fits_below cells (value.Syn t) h = tt
-fits_below cells (value.Transformer p) h = found_within (λ o. is_found (transformer_in o)) refl cells p.0 h
-
 pub pair_within : (cells : List Cell) (n : ℕ) (x d : Value) → pair_at cells n ≡ Some (x, d) → n < length cells
-pair_within cells n x d e = found_within (λ o. is_found (pair_in o)) refl cells n (ap is_found e)
+pair_within cells n x d e = found_below (λ o. is_found (pair_in o)) refl cells n (ap is_found e)
 
 pub vector_within : (cells : List Cell) (n : ℕ) (xs : List Value) → vector_at cells n ≡ Some xs → n < length cells
-vector_within cells n xs e = found_within (λ o. is_found (vector_in o)) refl cells n (ap is_found e)
+vector_within cells n xs e = found_below (λ o. is_found (vector_in o)) refl cells n (ap is_found e)
 
 no_parts_at : (cells : List Cell) (n : ℕ) → n < 0 → ⊥
 no_parts_at cells n h = omega (arith, h)

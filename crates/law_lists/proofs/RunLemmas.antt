@@ -71,7 +71,7 @@ module _ (cells : List Cell) where
           subst (λ (ys : List Value). Runs cells ys nil x) same ends
       by false e k = absurd (cc)
 
-  chain_is : (n : ℕ) {xs : List Value} {rest x : Value} → Runs cells xs rest x → pair_of cells rest ≡ None → length xs ≤ n → chain_to n cells x ≡ record { elements = xs; end = rest }
+  pub chain_is : (n : ℕ) {xs : List Value} {rest x : Value} → Runs cells xs rest x → pair_of cells rest ≡ None → length xs ≤ n → chain_to n cells x ≡ record { elements = xs; end = rest }
   unfolding chain_to
   chain_is zero here e l = refl
   chain_is (suc n) {x = x} here e l = ap (chain_on (chain_to n cells) x) e

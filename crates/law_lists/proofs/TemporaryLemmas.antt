@@ -2,6 +2,7 @@
 use Rattle.std.proofs.Common.{◌≡◌, ℕ, zero, suc, ◌+◌, ◌<◌, ◌&&◌, Bool, true, false, List, [], ◌∷◌, length, Option, Some, refl, sym, ap, subst, ◌∙◌, slice_get, arith}
 use Rattle.std.specs.Prelude.{◌≢◌, nat_eq}
 use Rattle.std.specs.Cmp.Lexicographic.{pointwise}
+use Rattle.base_data.specs.Elements.{Each}
 use Rattle.base_data.specs.Named.{Named}
 use Rattle.base_data.specs.declared.name.Mark.{Mark}
 use Rattle.base_data.specs.declared.span.Span.{Span}
@@ -11,7 +12,7 @@ use Rattle.stx_tree.specs.Leaves.{marks_of}
 use Rattle.stx_tree.specs.SameMarks.{same_marks, same_marks_decides}
 use Rattle.stx_scope.specs.Stands.{symbol_of}
 use Rattle.stx_scope.specs.Same.{same_binder}
-use Rattle.eval_value.specs.Cells.{Each, WholeCells}
+use Rattle.eval_value.specs.Cells.{WholeCells}
 use Rattle.eval_value.specs.declared.cell.Cell.{Cell}
 use Rattle.eval_value.specs.declared.value.Value.{Value}
 use Rattle.eval_value.specs.declared.value.Value.TheVariants as value

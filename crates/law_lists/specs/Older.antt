@@ -1,10 +1,10 @@
 -- Marks that were taken before a name. Names are taken from a counter, each library's from its own.
 use Rattle.std.specs.Prelude.{◌≡◌, ◌<◌}
+use Rattle.base_data.specs.Elements.{Each}
 use Rattle.base_data.specs.Named.{Named}
 use Rattle.base_data.specs.declared.name.Mark.{Mark}
 use Rattle.stx_tree.specs.Tree.{Tree}
 use Rattle.stx_tree.specs.Leaves.{marks_of}
-use Rattle.eval_value.specs.Cells.{Each}
 
 -- a mark of another library is none that this counter gives
 abbrev pub IsBefore : Named → Mark → Type 0

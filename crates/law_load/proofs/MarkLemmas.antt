@@ -86,7 +86,7 @@ length-none : (n : ℕ) → length (replicate n false) ≡ n
 length-none zero = refl
 length-none (suc n) = ap suc (length-none n)
 
-none_set : (n p : ℕ) → slice_get (replicate n false) p ≡ Some true → ⊥
+pub none_set : (n p : ℕ) → slice_get (replicate n false) p ≡ Some true → ⊥
 none_set zero p h = cc
 none_set (suc n) zero h = cc
 none_set (suc n) (suc p) h = none_set n p h

@@ -9,7 +9,7 @@ use Rattle.load_import.specs.declared.set.ImportSet.{ImportSet}
 use Rattle.load_files.specs.Found.{is_needed_by}
 use Rattle.load_files.specs.declared.found.Found.{Found}
 use Rattle.law_load.specs.Laws.{Libraries, Needs}
-use Rattle.law_load.proofs.MarkLemmas.{length-with_needs, mark_stays, mark_comes, needs_itself, needs_marked, mark_cases}
+use Rattle.law_load.proofs.MarkLemmas.{length-with_needs, mark_stays, mark_comes, needs_itself, needs_marked, mark_cases, none_set}
 use Rattle.law_local.specs.Recorded.{marks_of, with_import, with_imports, unmarked}
 
 -- an import of a library among these brings a place
@@ -113,11 +113,6 @@ length-unmarked n = go n
     go : (k : ℕ) → length (replicate k false) ≡ k
     go zero = refl
     go (suc k) = ap suc (go k)
-
-none_set : (n p : ℕ) → slice_get (replicate n false) p ≡ Some true → ⊥
-none_set zero p h = cc
-none_set (suc n) zero h = cc
-none_set (suc n) (suc p) h = none_set n p h
 
 pub none_marked : (n p : ℕ) → slice_get (unmarked n) p ≡ Some true → ⊥
 unfolding unmarked

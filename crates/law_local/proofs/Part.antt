@@ -17,7 +17,7 @@ use Rattle.law_local.proofs.Marked.{IsMarkedFor, IsMarkedBy, imports_mark, impor
 use Rattle.law_local.proofs.Rising.{Among, Rising, rising_same, rising_from, mark_from, mark_among, places_at, place_from, place_among, rising_at, rising_once, among_get, get_among, rising_end}
 
 -- what stands at a place of one of two lists that are as long
-same_place : {A B : Type 0} (xs : List A) (ys : List B) (i : ℕ) (x : A) → length xs ≡ length ys → slice_get xs i ≡ Some x → (y : B) × (slice_get ys i ≡ Some y)
+pub same_place : {A B : Type 0} (xs : List A) (ys : List B) (i : ℕ) (x : A) → length xs ≡ length ys → slice_get xs i ≡ Some x → (y : B) × (slice_get ys i ≡ Some y)
 same_place [] ys i x e h = absurd (cc)
 same_place (a ∷ xs) [] i x e h = absurd (omega (arith, e))
 same_place (a ∷ xs) (b ∷ ys) zero x e h = (b, refl)

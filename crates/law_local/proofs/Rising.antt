@@ -222,7 +222,7 @@ records_end records (q ∷ qs) p r h = by (slice_get records q) (records_end rec
     by (Some x) e = ap (λ (rs : List CompiledLibrary). x ∷ rs) e
 
 -- where all places are those of the first records, the others don't count
-first_get : (before after : List CompiledLibrary) (i : ℕ) → i < length before → slice_get (before ++ after) i ≡ slice_get before i
+pub first_get : (before after : List CompiledLibrary) (i : ℕ) → i < length before → slice_get (before ++ after) i ≡ slice_get before i
 first_get [] after i less = absurd (omega arith)
 first_get (r ∷ rs) after zero less = refl
 first_get (r ∷ rs) after (suc i) less = first_get rs after i (omega (arith, less))

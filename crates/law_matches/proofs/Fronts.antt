@@ -3,9 +3,10 @@ use Rattle.std.proofs.Common.{◌≡◌, ℕ, zero, suc, ◌+◌, ◌<◌, ◌�
 use Rattle.std.specs.Prelude.{if◌then◌else◌, IsTrue}
 use Rattle.std.proofs.lemmas.Option.{slice_get_within}
 use Rattle.std.proofs.lemmas.Bool.{ltb-true, ltb-false}
+use Rattle.base_data.specs.Elements.{Each}
 use Rattle.base_region.specs.declared.region.Place.{Place}
 use Rattle.stx_tree.specs.Tree.{Tree, atom, leaf, pair, vector}
-use Rattle.eval_value.specs.Cells.{pair_in, pair_at, vector_in, is_found, FitsIn, IsBelow, Lies, Each, WholeCells}
+use Rattle.eval_value.specs.Cells.{pair_in, pair_at, vector_in, is_found, FitsIn, IsBelow, Lies, WholeCells}
 use Rattle.eval_value.specs.declared.cell.Cell.{Cell}
 use Rattle.eval_value.specs.declared.cell.Cell.TheVariants as cell
 use Rattle.eval_value.specs.declared.value.Value.{Value}

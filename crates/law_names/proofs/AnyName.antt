@@ -10,11 +10,11 @@ use Rattle.std.proofs.lemmas.Bool.Decides.{nat_tests}
 use Rattle.base_data.specs.Hex.{hex}
 use Rattle.base_data.specs.declared.library.LibName.{LibName}
 use Rattle.base_data.specs.declared.library.LibName.TheVariants as library
+use Rattle.base_data.proofs.Chars.{branch}
 use Rattle.core_naming.specs.Decimal.{number_text}
 use Rattle.core_naming.specs.Generated.{is_plain, name_char, name_part, further_parts, parts_text, library_text, generated_name}
 use Rattle.core_naming.proofs.Decimal.{number_injective, number_reads}
 use Rattle.read_printer.specs.Symbols.{is_subsequent}
-use Rattle.law_round.proofs.Chars.{branch}
 use Rattle.law_names.specs.Variable.{IsNamed}
 use Rattle.law_names.proofs.Reading.{word_subsequent, digits_subsequent}
 use Rattle.law_names.proofs.Telling.{is_word, is_path, plain_word, library_path, library_same, name_is}

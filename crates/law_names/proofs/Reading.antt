@@ -39,15 +39,15 @@ digits_subsequent (d ∷ ds) h = and_from (is_subsequent d) (list_all is_subsequ
 subsequent_ascii : (b : ℕ) → is_subsequent b ≡ true → b < 0x80
 subsequent_ascii b h = grind (arith, nat_tests)
 
-ascii : (bs : List ℕ) → list_all is_subsequent bs ≡ true → IsAscii bs
+pub ascii : (bs : List ℕ) → list_all is_subsequent bs ≡ true → IsAscii bs
 ascii [] h i = omega arith
 ascii (b ∷ bs) h zero = subsequent_ascii b ((and_parts (is_subsequent b) (list_all is_subsequent bs) h).0)
 ascii (b ∷ bs) h (suc i) = ascii bs ((and_parts (is_subsequent b) (list_all is_subsequent bs) h).1) i
 
-itself : (b : ℕ) → is_subsequent b ≡ true → subsequent_text b ≡ b ∷ []
+pub itself : (b : ℕ) → is_subsequent b ≡ true → subsequent_text b ≡ b ∷ []
 itself b h = rw h (encode_ascii b (subsequent_ascii b h))
 
-all_themselves : (bs : List ℕ) → list_all is_subsequent bs ≡ true → subsequents_text bs ≡ bs
+pub all_themselves : (bs : List ℕ) → list_all is_subsequent bs ≡ true → subsequents_text bs ≡ bs
 all_themselves [] h = refl
 all_themselves (b ∷ bs) h =
     let both = and_parts (is_subsequent b) (list_all is_subsequent bs) h in

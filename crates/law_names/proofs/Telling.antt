@@ -13,11 +13,12 @@ use Rattle.std.proofs.lemmas.Str.{encodes-chars, scalars-chars}
 use Rattle.base_data.specs.Hex.{hex}
 use Rattle.base_data.specs.declared.library.LibName.{LibName}
 use Rattle.base_data.specs.declared.library.LibName.TheVariants as library
+use Rattle.base_data.proofs.Chars.{branch}
 use Rattle.read_spelling.specs.Numbers.{value_from}
 use Rattle.core_naming.specs.Generated.{is_plain, name_char, name_part, further_parts, parts_text, library_text, generated_name}
 use Rattle.core_naming.specs.Decimal.{number_text}
 use Rattle.core_naming.proofs.Decimal.{number_injective}
-use Rattle.law_round.proofs.Chars.{branch, hex_spell}
+use Rattle.law_round.proofs.Chars.{hex_spell}
 use Rattle.law_names.specs.Variable.{IsPart, IsNamed}
 use Rattle.law_names.specs.Apart.{NamesTellVariables}
 use Rattle.law_names.proofs.Words.{stops, cut, all_append, all_weaker}

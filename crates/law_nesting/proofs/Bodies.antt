@@ -2,6 +2,7 @@
 use Rattle.std.proofs.Common.{◌≡◌, ℕ, ◌+◌, ◌*◌, ◌≤◌, true, false, List, [], ◌∷◌, map, Option, None, Some, Result, Ok, Err, subst, arith}
 use Rattle.base_data.specs.Act.{after, give, each}
 use Rattle.base_data.specs.Datum as datum
+use Rattle.base_data.specs.Elements.{Each}
 use Rattle.base_data.specs.declared.atom.Atom.TheVariants as atoms
 use Rattle.base_data.specs.declared.fault.Fault.{Fault}
 use Rattle.base_data.specs.declared.span.Span.{Span}
@@ -13,7 +14,6 @@ use Rattle.core_language.specs.declared.code.Init.{Init}
 use Rattle.core_language.specs.declared.record.Line.{Line}
 use Rattle.core_language.specs.declared.record.Line.TheVariants as line
 use Rattle.law_core.specs.Records.{line_core}
-use Rattle.law_core.specs.Words.{Each}
 use Rattle.core_shapes.specs.declared.shape.FormalIds.{FormalIds}
 use Rattle.expand_standing.specs.State.{State, Does, fresh, fresh_frame}
 use Rattle.expand_heads.specs.Depth.{deeper, most_round}

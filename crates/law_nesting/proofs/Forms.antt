@@ -2,6 +2,7 @@
 use Rattle.std.proofs.Common.{◌≡◌, ℕ, zero, suc, ◌+◌, ◌*◌, ◌≤◌, Bool, true, false, List, [], ◌∷◌, map, Option, None, Some, Result, refl, arith}
 use Rattle.std.specs.Prelude.{nat_lt}
 use Rattle.base_data.specs.Act.{after, give}
+use Rattle.base_data.specs.Elements.{Each}
 use Rattle.base_data.specs.declared.fault.Fault.{Fault}
 use Rattle.base_data.specs.declared.name.FrameNo.{FrameNo}
 use Rattle.base_data.specs.declared.name.Label.{Label}
@@ -13,7 +14,6 @@ use Rattle.core_language.specs.CoreView.{inits, clauses}
 use Rattle.core_language.specs.declared.code.Init.{Init}
 use Rattle.core_language.specs.declared.code.Lambda.{Lambda}
 use Rattle.core_language.specs.declared.record.CompiledLibrary.{CompiledLibrary}
-use Rattle.law_core.specs.Words.{Each}
 use Rattle.core_shapes.specs.At.{place_of}
 use Rattle.core_shapes.specs.declared.shape.BindingSpec.{BindingSpec}
 use Rattle.core_shapes.specs.declared.shape.FormalIds.{FormalIds}

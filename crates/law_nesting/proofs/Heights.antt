@@ -1,6 +1,7 @@
 -- How high core code is that is built of parts which are low.
 use Rattle.std.proofs.Common.{◌≡◌, ℕ, ◌+◌, ◌*◌, ◌≤◌, max, Bool, true, false, List, [], ◌∷◌, Option, None, Some, refl, sym, ◌∙◌, ap, arith}
 use Rattle.base_data.specs.Datum.{PlainDatum}
+use Rattle.base_data.specs.Elements.{Each}
 use Rattle.base_data.specs.declared.name.CodeNo.{CodeNo}
 use Rattle.base_data.specs.declared.name.Label.{Label}
 use Rattle.base_data.specs.declared.span.Span.{Span}
@@ -12,7 +13,6 @@ use Rattle.core_language.specs.Height.{height, highest, highest_init, highest_ca
 use Rattle.core_language.specs.declared.code.Clause.{Clause}
 use Rattle.core_language.specs.declared.code.Init.{Init}
 use Rattle.core_language.specs.declared.code.Lambda.{Lambda}
-use Rattle.law_core.specs.Words.{Each}
 use Rattle.expand_forms.specs.Body.{sequence_of}
 use Rattle.law_expand.proofs.Nesting.{max-low, IsAlone}
 use Rattle.law_nesting.specs.Heights.{Between, in_code, in_text, between_cases, height_with, highest_with, highest_init_with, highest_case_with, highest_clause_with}

@@ -1,12 +1,13 @@
 -- What waits in a body stands at least as deep as the body.
 use Rattle.std.proofs.Common.{◌≡◌, ℕ, zero, suc, ◌≤◌, Bool, true, false, List, [], ◌∷◌, ◌++◌, Some, Ok, refl, sym, subst, if◌then◌else◌}
 use Rattle.std.specs.Prelude.{◌&&◌, ◌||◌, not}
+use Rattle.base_data.proofs.ElementLemmas.{each-append}
 use Rattle.base_data.specs.Act.{after, give}
+use Rattle.base_data.specs.Elements.{Each}
 use Rattle.base_data.specs.declared.fault.FaultKind.TheVariants as kind
 use Rattle.base_data.specs.declared.name.Label.{Label}
 use Rattle.stx_tree.specs.Tree.{Tree}
 use Rattle.core_language.specs.declared.record.CompiledLibrary.{CompiledLibrary}
-use Rattle.law_core.specs.Words.{Each}
 use Rattle.core_shapes.specs.At.{place_of}
 use Rattle.core_shapes.specs.declared.shape.Shape.{Shape}
 use Rattle.core_shapes.specs.declared.shape.Shape.TheVariants as shapes
@@ -29,7 +30,6 @@ use Rattle.expand_forms.specs.declared.expand_uses.ItemOrUse.{ItemOrUse}
 use Rattle.expand_forms.specs.declared.expand_uses.ItemOrUse.TheVariants as item_steps
 use Rattle.expand_forms.specs.declared.expand_uses.PlannedItem.{PlannedItem}
 use Rattle.law_expand.proofs.Acts.{Gave, gave-after, gave-any, gave-if}
-use Rattle.law_expand.proofs.Fresh.{each-append}
 use Rattle.law_expand.proofs.Items.{item-cases, with_expression}
 use Rattle.law_expand.proofs.NestingItems.{IsDeep}
 use Rattle.law_nesting.proofs.Bodies.{AreDeep}

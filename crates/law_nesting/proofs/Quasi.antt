@@ -1,7 +1,9 @@
 -- `quasiquote` and `quasisyntax` forms nest as deep as they may: the forms that they make count in the depth.
 use Rattle.std.proofs.Common.{◌≡◌, ℕ, ◌+◌, ◌*◌, ◌≤◌, Bool, true, false, List, [], ◌∷◌, ◌++◌, map, refl, sym, ◌∙◌, ap, subst, arith, append-nil, append_assoc, if◌then◌else◌}
 use Rattle.std.specs.Prelude.{nat_lt}
+use Rattle.base_data.proofs.ElementLemmas.{each-append}
 use Rattle.base_data.specs.Act.{after, give}
+use Rattle.base_data.specs.Elements.{Each}
 use Rattle.base_data.specs.declared.op.Op.{Op}
 use Rattle.base_data.specs.declared.span.Span.{Span}
 use Rattle.stx_tree.specs.Changes.{stamp}
@@ -9,7 +11,6 @@ use Rattle.stx_tree.specs.Leaves.{strip}
 use Rattle.stx_tree.specs.Tree.{Tree}
 use Rattle.core_language.specs.Core.{PlainCore, primitive, instance}
 use Rattle.core_language.specs.Template.{PlainTemplate}
-use Rattle.law_core.specs.Words.{Each}
 use Rattle.eval_pattern.specs.declared.compile.PatternVariable.{PatternVariable}
 use Rattle.core_quasi.specs.Plan.{PlainQuasi, PlainQuasis, constant, expression, none, more}
 use Rattle.core_quasi.specs.Plan as quasi
@@ -32,7 +33,6 @@ use Rattle.expand_forms.specs.Quasi.{part_core, parts_in_order, quasi_made, quas
 use Rattle.expand_forms.specs.Site.{site_at}
 use Rattle.expand_forms.specs.Forms.{template_parts}
 use Rattle.law_expand.proofs.Acts.{Gave, gave-after, gave-any, gave-less, gave-within}
-use Rattle.law_expand.proofs.Fresh.{each-append}
 use Rattle.law_expand.proofs.Naming.{as_frame, counted}
 use Rattle.law_expand.proofs.Nesting.{not-deep, too-deep, deeper-next, deeper-up}
 use Rattle.law_expand.proofs.NestingBinding.{Pairs}

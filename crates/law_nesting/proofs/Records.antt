@@ -1,6 +1,7 @@
 -- The lines of every record that expansion gives nest as deep as they may.
 use Rattle.std.proofs.Common.{◌≡◌, ℕ, ◌+◌, ◌*◌, ◌≤◌, List, [], ◌∷◌, map, Result, Ok, Err, subst, arith}
 use Rattle.base_data.specs.Act.{after}
+use Rattle.base_data.specs.Elements.{Each}
 use Rattle.base_data.specs.declared.fault.Fault.{Fault}
 use Rattle.base_data.specs.declared.name.Label.{Label}
 use Rattle.stx_tree.specs.Changes.{stamp}
@@ -8,7 +9,6 @@ use Rattle.stx_tree.specs.Tree.{Tree}
 use Rattle.core_language.specs.declared.record.CompiledLibrary.{CompiledLibrary}
 use Rattle.core_language.specs.declared.record.Line.{Line}
 use Rattle.law_core.specs.Records.{line_core}
-use Rattle.law_core.specs.Words.{Each}
 use Rattle.expand_standing.specs.Start.{started}
 use Rattle.expand_standing.specs.State.{State}
 use Rattle.expand_heads.specs.Depth.{most_round}

@@ -5,6 +5,7 @@ use Rattle.std.specs.Prelude.{codes}
 use Rattle.std.proofs.Math.Nat.{max-le, le-max_left, le-max_right}
 use Rattle.base_data.specs.Datum as datum
 use Rattle.base_data.specs.Datum.{PlainDatum, nil, unspanned}
+use Rattle.base_data.specs.Elements.{Each}
 use Rattle.base_data.specs.Op.{op_text}
 use Rattle.base_data.specs.declared.atom.Atom.{Atom}
 use Rattle.base_data.specs.declared.atom.Atom.TheVariants as a
@@ -18,7 +19,6 @@ use Rattle.law_core_grammar.specs.Spells as s
 use Rattle.law_core_grammar.specs.Spells.{SpellsCode, SpellsAllCode, SpellsInits, SpellsCases}
 use Rattle.law_core.specs.Parts.{parts, all_parts, init_parts, case_parts}
 use Rattle.law_core.specs.Records.{line_core}
-use Rattle.law_core.specs.Words.{Each}
 use Rattle.core_output.specs.CoreText.{VariableNames}
 use Rattle.law_nesting.specs.Heights.{in_text, height_with, highest_with, highest_init_with, highest_case_with}
 use Rattle.law_nesting.specs.Texts.{nested_atom, nested, nested_behind, ReadWhereNested, SpellingsNest, LineSpellingsNest}

@@ -1,14 +1,14 @@
 -- How deep the lines of every record nest that expansion gives, in core code and in text.
 use Rattle.std.specs.Prelude.{◌≡◌, ◌≤◌, ◌+◌, ◌*◌, ℕ, List, Ok}
+use Rattle.base_data.specs.Elements.{Each}
+use Rattle.base_data.specs.declared.imported_name.ImportedName.{ImportedName}
 use Rattle.base_data.specs.declared.library.LibName.{LibName}
-use Rattle.base_data.specs.declared.name.Label.{Label}
 use Rattle.base_data.specs.declared.span.Span.{Span}
 use Rattle.stx_tree.specs.Tree.{Tree}
 use Rattle.core_language.specs.Core.{PlainCore}
 use Rattle.core_language.specs.Height.{height}
 use Rattle.core_language.specs.declared.record.CompiledLibrary.{CompiledLibrary}
 use Rattle.law_core.specs.Records.{line_core}
-use Rattle.law_core.specs.Words.{Each}
 use Rattle.eval_code.specs.Codes.{Codes}
 use Rattle.expand_heads.specs.Depth.{most_round}
 use Rattle.expand_forms.specs.Expanding.{ready, library_record}
@@ -32,7 +32,7 @@ deepest = 4 * (most_round + 1)
 -- each line of a record, whatever the records before it and the forms of its library
 abbrev pub LinesNest : Type 0
 LinesNest = (between : Between) → IsAtMostText between → (own : LibName) (path : List ℕ) (records : List CompiledLibrary)
-    (imports : List (List ℕ × Label)) (version : List ℕ) (place : Span)
+    (imports : List ImportedName) (version : List ℕ) (place : Span)
     (exports : List (List ℕ × Tree)) (forms : List Tree) (codes : Codes) (r : CompiledLibrary)
     → library_record (ready own path records imports codes) records version place exports forms ≡ Ok r
     → Each (λ l. height_with between (line_core l) ≤ deepest) r.run

@@ -1,6 +1,7 @@
 -- How deep data nest, and those that spell core code.
 use Rattle.std.specs.Prelude.{ℕ, ◌+◌, ◌≤◌, max, List}
 use Rattle.base_data.specs.Datum.{PlainDatum, atom, symbol, pair, vector}
+use Rattle.base_data.specs.Elements.{Each}
 use Rattle.base_data.specs.declared.atom.Atom.{Atom}
 use Rattle.base_data.specs.declared.atom.Atom.TheVariants as a
 use Rattle.core_language.specs.Core.{PlainCore}
@@ -9,7 +10,6 @@ use Rattle.law_core_grammar.specs.Lines.{SpellsLine}
 use Rattle.law_core_grammar.specs.Spellable.{CanBeRead, constants}
 use Rattle.law_core_grammar.specs.Spells.{SpellsCode}
 use Rattle.law_core.specs.Records.{line_core}
-use Rattle.law_core.specs.Words.{Each}
 use Rattle.core_output.specs.CoreText.{VariableNames}
 use Rattle.law_nesting.specs.Heights.{in_text, height_with}
 use Rattle.law_round.specs.Readable.{IsReadable}

@@ -1,11 +1,13 @@
 -- What spells core code is an expression of the checker's grammar, with the names that the code binds.
 use Rattle.std.proofs.Common.{◌≡◌, ℕ, suc, Bool, true, false, List, [], ◌∷◌, ◌++◌, Option, append_assoc, refl, sym, ap, subst, ◌∙◌, cond, inl, inr}
 use Rattle.std.proofs.lemmas.List.{append-nil, map-append}
-use Rattle.std.specs.Prelude.{◌||◌, not, codes, unwrap_or}
+use Rattle.std.specs.Prelude.{◌||◌, not, codes}
 use Rattle.std.specs.Cmp.Lexicographic.{bytes_decides}
 use Rattle.std.specs.Str.{bytes_eq}
+use Rattle.base_data.proofs.ElementLemmas.{each-at, each-append}
 use Rattle.base_data.specs.Datum as datum
 use Rattle.base_data.specs.Datum.{PlainDatum, unspanned}
+use Rattle.base_data.specs.Elements.{Each, Among}
 use Rattle.base_data.specs.Op.{op_text}
 use Rattle.base_data.specs.declared.atom.Atom.TheVariants as a
 use Rattle.base_data.specs.declared.name.Label.{Label}
@@ -24,12 +26,10 @@ use Rattle.law_core_grammar.specs.Lines.{SpellsLine}
 use Rattle.law_core_grammar.specs.Names.{IsCalled, IsPrimitive}
 use Rattle.law_core_grammar.specs.Spells as s
 use Rattle.law_core_grammar.specs.Spells.{is_itself, letrec_keyword, SpellsFormals, SpellsCode, SpellsAllCode, SpellsInits, SpellsCases}
+use Rattle.law_core_grammar.proofs.Called.{called_is, primitive_free}
 use Rattle.law_core.specs.Parts.{init_labels}
 use Rattle.law_core.specs.Records.{line_core, line_labels, line_binders}
-use Rattle.law_core.specs.Words.{Each, Among}
 use Rattle.core_output.specs.CoreText.{VariableNames, name_of}
-use Rattle.law_expand.proofs.Fresh.{each-at, each-append}
-use Rattle.law_pass.proofs.Primitives.{primitive_found}
 use Rattle.law_run.specs.Names.{names_for, NamesClosed, AllNamesClosed, InitNamesClosed, CaseNamesClosed}
 
 abbrev Words : Type 0
@@ -97,14 +97,11 @@ quoted_is (datum.pair t d e) h = f.list
 quoted_is (datum.vector t d) h = f.elements
 
 primitive_is : (o : ℕ) → IsPrimitive o → is_primitive (op_text o) ≡ true
-primitive_is o h = ap is_value (primitive_found o h) ∙ ap not h.1
+primitive_is o h = ap is_value (primitive_free o h).found ∙ ap not h.1
 
 letrec_is : (ordered : Bool) → IsLetrec (letrec_keyword ordered)
 letrec_is true = f.ordered
 letrec_is false = f.plain
-
-called_is : (names : VariableNames) (l : Label) (x : List ℕ) → IsCalled names l x → name_of names l ≡ x
-called_is names l x e = ap (λ (o : Option (List ℕ)). unwrap_or o []) e
 
 module _ (names : VariableNames) where
   -- what such a variable is called is a name

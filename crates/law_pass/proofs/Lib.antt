@@ -1,5 +1,4 @@
 pub mod Spans
 pub mod Spelt
-pub mod Primitives
 pub mod Formed
 pub mod Pass

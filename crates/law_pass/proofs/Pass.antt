@@ -1,12 +1,14 @@
 -- What a run writes is accepted.
-use Rattle.std.proofs.Common.{◌≡◌, ℕ, suc, Bool, true, false, List, [], ◌∷◌, ◌++◌, map, Option, Some, None, Result, Ok, Err, refl, sym, ap, subst, inl, inr, ◌∙◌, append_assoc, arith}
+use Rattle.std.proofs.Common.{◌≡◌, ℕ, suc, Bool, true, false, List, [], ◌∷◌, ◌++◌, Option, Some, None, Result, Ok, Err, refl, sym, ap, subst, inl, inr, ◌∙◌, append_assoc, arith}
 use Rattle.std.proofs.lemmas.List.{append-nil, map-append}
 use Rattle.std.proofs.lemmas.List.Concat.{flat_map-append}
 use Rattle.std.specs.Cmp.Lexicographic.{bytes_decides}
 use Rattle.std.specs.List.{flat_map}
 use Rattle.std.specs.Prelude.{◌||◌, codes, slice_get}
 use Rattle.std.specs.Str.{bytes_eq}
+use Rattle.base_data.proofs.ElementLemmas.{each-at, each-of, among-first, among-flat}
 use Rattle.base_data.specs.Datum.{PlainDatum}
+use Rattle.base_data.specs.Elements.{Each, Among, Once}
 use Rattle.base_data.specs.Gives.{◌>>=◌}
 use Rattle.base_data.specs.declared.fault.Fault.{Fault}
 use Rattle.base_data.specs.declared.name.Label.{Label}
@@ -32,12 +34,12 @@ use Rattle.core_language.specs.declared.record.Line.{Line}
 use Rattle.law_core_grammar.specs.Laws.{LineTextsAreSpellings}
 use Rattle.law_core_grammar.specs.Lines.{SpellLines, no_line, further, record_lines, all_lines}
 use Rattle.law_core_grammar.specs.Names.{AreGenerated}
+use Rattle.law_core_grammar.proofs.Whole.{ok_same, plan_text_is}
 use Rattle.law_core.specs.Records.{line_core, line_labels, line_binders, defined, run_binders}
-use Rattle.law_core.specs.Words.{Each, Among, Once}
 use Rattle.core_output.specs.CoreText.{VariableNames, name_of, line_text, lines_text}
 use Rattle.core_output.specs.Syntax.{Checked, lines_checked}
-use Rattle.core_output.specs.Whole.{plan_checked, record_text, plan_text, all_names, all_text, core_text}
-use Rattle.law_expand.proofs.Fresh.{each-at, each-of, among-first}
+use Rattle.core_output.specs.Whole.{plan_checked, all_names, all_text, core_text}
+use Rattle.law_expand.proofs.Behind.{each-mapped}
 use Rattle.law_names.specs.Variable.{NamedVariable}
 use Rattle.law_names.specs.Variable as variables
 use Rattle.core_plan.specs.Planned.{plan_of}
@@ -59,10 +61,10 @@ use Rattle.law_run.specs.Written.{RunsAreWrittenOnce}
 use Rattle.law_run_nesting.specs.Nesting.{IsLow, TextsNest}
 use Rattle.expand_standing.specs.Start.{or_skip, records_at}
 use Rattle.law_text.proofs.Closed.{text-known}
-use Rattle.law_text.proofs.Words.{among-flat, flat-among}
+use Rattle.law_text.proofs.Words.{flat-among}
 use Rattle.law_text.specs.Standing.{AreStanding}
 use Rattle.law_text.specs.Text as planned
-use Rattle.eval_value.specs.Cells as cells
+use Rattle.base_data.specs.Elements as elements
 
 abbrev Words : Type 0
 Words = List (List ℕ)
@@ -86,28 +88,9 @@ once (x ∷ xs) h = judged.Once.name (not_true (has xs x) (λ k. h.0 (has_among 
 
 -- the whole text
 
-lines_both : (names : VariableNames) (ks ls : List Line) → lines_text names (ks ++ ls) ≡ lines_text names ks ++ lines_text names ls
-lines_both names [] ls = refl
-lines_both names (k ∷ ks) ls = ap (λ w. line_text names k ++ w) (lines_both names ks ls) ∙ sym (append_assoc (line_text names k) (lines_text names ks) (lines_text names ls))
-
-record_is : (names : VariableNames) (r : Option CompiledLibrary) → record_text names r ≡ lines_text names (record_lines r)
-record_is names None = refl
-record_is names (Some r) = refl
-
-plan_is : (records : List CompiledLibrary) (names : VariableNames) (plan : List ℕ) (program : CompiledLibrary)
-    → plan_text records names plan ++ lines_text names program.run ≡ lines_text names (all_lines records plan program)
-plan_is records names [] program = refl
-plan_is records names (p ∷ ps) program =
-    append_assoc (record_text names (slice_get records p)) (plan_text records names ps) (lines_text names program.run)
-    ∙ (λ i. record_is names (slice_get records p) i ++ plan_is records names ps program i)
-    ∙ sym (lines_both names (record_lines (slice_get records p)) (all_lines records ps program))
-
 bind_gives : (r : Checked) (q : Result (List ℕ) Fault) (w : List ℕ) → (r >>= λ _. q) ≡ Ok w → q ≡ Ok w
 bind_gives (Ok u) q w h = h
 bind_gives (Err f) q w h = absurd (cc)
-
-ok_same : (v w : List ℕ) → ◌≡◌ {A = Result (List ℕ) Fault} (Ok v) (Ok w) → v ≡ w
-ok_same v w e = cc
 
 whole_is : (records : List CompiledLibrary) (plan : List ℕ) (program : CompiledLibrary) (whole : List ℕ) → core_text records plan program ≡ Ok whole
     → whole ≡ first_line ++ lines_text (all_names records plan program) (all_lines records plan program)
@@ -116,7 +99,7 @@ whole_is records plan program whole h =
     let text = all_text names records plan program in
     let p = bind_gives (plan_checked records plan) (lines_checked program.run >>= λ _. Ok text) whole h in
     let q = bind_gives (lines_checked program.run) (Ok text) whole p in
-    sym (ok_same text whole q) ∙ ap (λ w. first_line ++ w) (plan_is records names plan program)
+    sym (ok_same text whole q) ∙ ap (λ w. first_line ++ w) (plan_text_is records names plan program)
 
 -- what all lines bind is what the records of the text bind
 gathered : (f : Line → List Label) (records : List CompiledLibrary) (ps : List ℕ) (program : CompiledLibrary)
@@ -170,14 +153,10 @@ module _ (readings : SpellingsAre) (texts : LineTextsAreSpellings) (names : Vari
 
 -- The names of a run.
 
-cells_at : {A : Type 0} (P : A → Type 0) (xs : List A) (x : A) → cells.Each P xs → Among xs x → P x
+cells_at : {A : Type 0} (P : A → Type 0) (xs : List A) (x : A) → elements.Each P xs → Among xs x → P x
 cells_at P [] x h a = absurd (a)
 cells_at P (y ∷ ys) x h (inl e) = subst P (sym e) h.0
 cells_at P (y ∷ ys) x h (inr a) = cells_at P ys x h.1 a
-
-each_mapped : {A B : Type 0} (P : B → Type 0) (g : A → B) (xs : List A) → Each (λ x. P (g x)) xs → Each P (map g xs)
-each_mapped P g [] h = tt
-each_mapped P g (x ∷ xs) h = (h.0, each_mapped P g xs h.1)
 
 some_same : (v w : List ℕ) → ◌≡◌ {A = Option (List ℕ)} (Some v) (Some w) → v ≡ w
 some_same v w e = cc
@@ -210,7 +189,7 @@ module _ (records : List CompiledLibrary) (program : CompiledLibrary) (standing 
       among-flat run_binders T r.0 l r.1 (among-flat line_binders r.0.run x.0 l x.1 (among-first (line_labels x.0) (binders (line_core x.0)) l x.2))
 
   defined_named : Each IsName (names_for given_names (flat_map defined T))
-  defined_named = each_mapped IsName (name_of given_names) (flat_map defined T) (each-of (λ l. IsName (name_of given_names l)) (flat_map defined T) (λ l a. binder_is_named l (defined_bound l a)))
+  defined_named = each-mapped IsName (name_of given_names) (flat_map defined T) (each-of (λ l. IsName (name_of given_names l)) (flat_map defined T) (λ l a. binder_is_named l (defined_bound l a)))
 
   lines_good : Each (λ l. Each (IsGood given_names) (line_binders l)) (run_lines records program)
   lines_good = text-lines (λ l. Each (IsGood given_names) (line_binders l)) records program

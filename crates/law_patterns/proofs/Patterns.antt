@@ -1,6 +1,7 @@
 -- A form is compiled to the pattern that it is, and what is none is a bad pattern.
 use Rattle.std.proofs.Common.{◌≡◌, ℕ, ◌+◌, Bool, true, false, List, [], ◌∷◌, ◌++◌, map, Option, None, Some, Result, Ok, Err, refl, ap, sym, ◌∙◌, subst, append-nil, append_assoc, if◌then◌else◌}
 use Rattle.base_data.specs.Act.{after}
+use Rattle.base_data.specs.Elements.{Each}
 use Rattle.base_data.specs.Gives.{◌>>=◌}
 use Rattle.base_data.specs.Named.{Named}
 use Rattle.base_data.specs.declared.atom.Atom.{Atom}
@@ -17,11 +18,11 @@ use Rattle.core_language.specs.Pattern.{PlainPattern, any, variable, literal, li
 use Rattle.core_language.specs.Pattern as pattern_of
 use Rattle.core_language.specs.declared.core_form.CoreForm.TheVariants as form
 use Rattle.core_shapes.specs.Lists.{is_leaf, elements, tail_of}
-use Rattle.eval_value.specs.Cells.{Each}
 use Rattle.eval_pattern.specs.Keywords.{is_form, is_ellipsis, first_ellipsis}
-use Rattle.eval_pattern.specs.Compile.{PatternScope, Taken, Element, bad, may_be_literal, literals_checked, is_literal, is_known, new_variable, leaf_pattern, no_parts, with_part, parts_of, pattern, element_patterns, tail_pattern, with_pattern, walked, forms_walked, list_pattern, list_with, vector_with, with_variables}
+use Rattle.eval_pattern.specs.Compile.{PatternScope, Taken, Element, bad, may_be_literal, literals_checked, is_literal, is_known, new_variable, leaf_pattern, no_parts, with_part, parts_of, pattern, tail_pattern, with_pattern, walked, forms_walked, list_pattern, list_with, vector_with, with_variables}
 use Rattle.eval_pattern.specs.declared.compile.PatternVariable.{PatternVariable}
 use Rattle.eval_pattern.proofs.Walks.{pattern_stop, part_stop, forms_on}
+use Rattle.eval_pattern.proofs.Levels.{elements_are, tail_is}
 use Rattle.law_shapes.specs.Grammar.{IsId}
 use Rattle.law_shapes.specs.Grammar as g
 use Rattle.law_shapes.specs.Records.{IsKeywordIdentifier}
@@ -161,25 +162,13 @@ module _ (fs : Scope) (literals : List Tree) where
 -- Lists, by their elements.
 
 module _ (c : PatternScope) where
-  elements-are : (t : Tree) → element_patterns c t ≡ map (with_pattern c) (elements t)
-  elements-are (atom s a) = refl
-  elements-are (leaf s x k) = refl
-  elements-are (pair s a d) = ap (λ (xs : List Element). (a, pattern c a) ∷ xs) (elements-are d)
-  elements-are (vector s d) = refl
-
-  tail-is : (t : Tree) → tail_pattern c t ≡ pattern c (tail_of t)
-  tail-is (atom s a) = refl
-  tail-is (leaf s x k) = refl
-  tail-is (pair s a d) = tail-is d
-  tail-is (vector s d) = refl
-
   list-is : (p : Option Span) (a d : Tree) (depth : ℕ) (s : Taken) → pattern c (pair p a d) depth s ≡ list_pattern c (pair p a d) depth s
   list-is p a d depth s =
-      ap (λ (xs : List Element). list_with (walked c depth false no_parts ((a, pattern c a) ∷ xs)) (tail_pattern c d depth) s) (elements-are d)
-      ∙ ap (λ (go : ℕ → Taken → Result (PlainPattern × Taken) Fault). list_with (forms_walked c depth (a ∷ elements d)) (go depth) s) (tail-is d)
+      ap (λ (xs : List Element). list_with (walked c depth false no_parts ((a, pattern c a) ∷ xs)) (tail_pattern c d depth) s) ((elements_are c) d)
+      ∙ ap (λ (go : ℕ → Taken → Result (PlainPattern × Taken) Fault). list_with (forms_walked c depth (a ∷ elements d)) (go depth) s) ((tail_is c) d)
 
   vector-is : (p : Option Span) (d : Tree) (depth : ℕ) (s : Taken) → pattern c (vector p d) depth s ≡ vector_with (forms_walked c depth (elements d)) s
-  vector-is p d depth s = ap (λ (xs : List Element). vector_with (walked c depth false no_parts xs) s) (elements-are d)
+  vector-is p d depth s = ap (λ (xs : List Element). vector_with (walked c depth false no_parts xs) s) ((elements_are c) d)
 
   -- What comes of a form.
 

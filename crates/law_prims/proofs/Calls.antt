@@ -1,13 +1,15 @@
 -- What holds of the arguments of a call of a primitive and of the cells holds of what it makes.
 use Rattle.std.proofs.Common.{◌≡◌, ◌+◌, ◌-◌, ◌/◌, ◌%◌, ◌^◌, ◌==◌, ◌||◌, ◌&&◌, ℕ, zero, suc, ℤ, pos, negsuc, List, [], ◌∷◌, ◌++◌, Option, Some, None, Bool, true, false, Result, Ok, Err, length, reverse, map, chars, nat_le, unsigned_abs, sym, subst, slice_get, if◌then◌else◌}
 use mathlib.Core.List.{reverse-cons}
+use Rattle.base_data.proofs.ElementLemmas.{each-append, each-and, each-taken}
+use Rattle.base_data.specs.Elements.{Each}
 use Rattle.base_data.specs.declared.atom.Atom.TheVariants as a
 use Rattle.base_data.specs.declared.fault.Bare.{Bare}
 use Rattle.base_data.specs.declared.op.names.TheConstants as names
 use Rattle.stx_tree.specs.Measures.{max_height}
 use Rattle.stx_tree.specs.Tree.{Tree}
 use Rattle.stx_frames.specs.Scope.{Scope}
-use Rattle.eval_value.specs.Cells.{Each, FitsIn, Lies, CellLies, WholeCells}
+use Rattle.eval_value.specs.Cells.{FitsIn, Lies, CellLies, WholeCells}
 use Rattle.eval_value.specs.declared.value.Value.{Value}
 use Rattle.eval_value.specs.declared.value.Value.TheVariants as value
 use Rattle.eval_value.specs.declared.cell.Cell.{Cell}
@@ -43,12 +45,12 @@ use Rattle.eval_prims.specs.Strings.{part_made, unpacked_made, string_made, digi
 use Rattle.eval_prims.specs.Syntax as identifiers
 use Rattle.eval_prims.specs.Syntax.{identifier_made, temporaries_made}
 use Rattle.law_prims.specs.Holds.{HasNoPlace, HoldsIn, PartsHold, MadeHolds}
-use Rattle.law_prims.proofs.Taken.{PairOr, ValueOr, ValuesOr, each_and, each_both, each_taken, slice_holds, vector_at_holds, pair_holds, elements_hold, tail_holds}
+use Rattle.law_prims.proofs.Taken.{PairOr, ValueOr, ValuesOr, slice_holds, vector_at_holds, pair_holds, elements_hold, tail_holds}
 
 reversed_holds : (P : Value → Type 0) (xs : List Value) → Each P xs → Each P (reverse xs)
 reversed_holds P [] r = tt
 reversed_holds P (x ∷ xs) r =
-    subst (λ (ys : List Value). Each P ys) (sym (reverse-cons x xs)) (each_and P (reverse xs) x (reversed_holds P xs r.1) r.0)
+    subst (λ (ys : List Value). Each P ys) (sym (reverse-cons x xs)) (each-and P (reverse xs) x (reversed_holds P xs r.1) r.0)
 
 module _ (P : Value → Type 0) (cells : List Cell) (holds : HoldsIn P cells) where
   abbrev MadeOr : Option PrimResult → Type 0
@@ -369,7 +371,7 @@ module _ (P : Value → Type 0) (cells : List Cell) (holds : HoldsIn P cells) wh
       made_if (op == names.LIST) _ _ (r, nil_holds)
       (made_if (op == names.VECTOR) _ _ r
       (made_if (op == names.STRING) _ _ (spelt_ok args)
-      (ended_ok (before_last args) (last_of args) (each_taken P (length args - 1) args r) (slice_holds P args (length args - 1) r))))
+      (ended_ok (before_last args) (last_of args) (each-taken P (length args - 1) args r) (slice_holds P args (length args - 1) r))))
 
   elements_ok : (op : ℕ) (xs : List Value) → Each P xs → MadeOr (lists.of_elements op xs)
   elements_ok op xs r =
@@ -403,7 +405,7 @@ module _ (P : Value → Type 0) (cells : List Cell) (holds : HoldsIn P cells) wh
     where
       by_test : (t : Bool) → ((ys : List Value) → Each P ys → Each P (without is ys xs)) → Each P (if t then without is done xs else without is (done ++ x ∷ []) xs)
       by_test true again = again done h
-      by_test false again = again (done ++ x ∷ []) (each_and P done x h r.0)
+      by_test false again = again (done ++ x ∷ []) (each-and P done x h r.0)
 
   without_ok : (is : Value → Bool) (xs : List Value) → Each P xs → MadeOr (lists.list_without is xs)
   without_ok is xs r = (without_holds is [] xs tt r, nil_holds)
@@ -437,7 +439,7 @@ module _ (P : Value → Type 0) (cells : List Cell) (holds : HoldsIn P cells) wh
       by_elements : (o : Option (List Value)) → ValuesOr P o → ((ys : List Value) → Each P ys → ValuesOr P (elements_joined cells ys xs))
           → ValuesOr P (if_some o (λ ys. elements_joined cells (done ++ ys) xs))
       by_elements None k again = tt
-      by_elements (Some ys) k again = again (done ++ ys) (each_both P done ys h k)
+      by_elements (Some ys) k again = again (done ++ ys) (each-append P done ys h k)
 
   last_holds : (o : Option Value) → ValueOr P o → P (lists.last_or_nil o)
   last_holds None r = nil_holds

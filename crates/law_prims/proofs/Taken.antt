@@ -1,6 +1,7 @@
 -- What holds of the values in the cells holds of what is read from them.
-use Rattle.std.proofs.Common.{◌≡◌, ℕ, zero, suc, List, [], ◌∷◌, ◌++◌, Option, Some, None, Bool, true, false, length, take, drop, refl, slice_get, if◌then◌else◌}
-use Rattle.eval_value.specs.Cells.{Each, pair_in, pair_at, vector_in, vector_at}
+use Rattle.std.proofs.Common.{◌≡◌, ℕ, zero, suc, List, [], ◌∷◌, Option, Some, None, Bool, true, false, length, refl, slice_get, if◌then◌else◌}
+use Rattle.base_data.specs.Elements.{Each}
+use Rattle.eval_value.specs.Cells.{pair_in, pair_at, vector_in, vector_at}
 use Rattle.eval_value.specs.declared.value.Value.{Value}
 use Rattle.eval_value.specs.declared.value.Value.TheVariants as value
 use Rattle.eval_value.specs.declared.cell.Cell.{Cell}
@@ -9,27 +10,6 @@ use Rattle.eval_prims.specs.Chains.{pair_of, is_nil, chain_on, chain_to, chain, 
 use Rattle.law_prims.specs.Holds.{HoldsIn}
 
 -- Lists.
-
-pub each_both : {A : Type 0} (P : A → Type 0) (xs ys : List A) → Each P xs → Each P ys → Each P (xs ++ ys)
-each_both P [] ys h k = k
-each_both P (x ∷ xs) ys h k = (h.0, each_both P xs ys h.1 k)
-
-pub each_and : {A : Type 0} (P : A → Type 0) (xs : List A) (x : A) → Each P xs → P x → Each P (xs ++ x ∷ [])
-each_and P xs x h k = each_both P xs (x ∷ []) h (k, tt)
-
-pub each_mapped : {A : Type 0} (P Q : A → Type 0) → ((x : A) → P x → Q x) → (xs : List A) → Each P xs → Each Q xs
-each_mapped P Q k [] h = tt
-each_mapped P Q k (x ∷ xs) h = (k x h.0, each_mapped P Q k xs h.1)
-
-pub each_taken : {A : Type 0} (P : A → Type 0) (n : ℕ) (xs : List A) → Each P xs → Each P (take n xs)
-each_taken P zero xs h = tt
-each_taken P (suc n) [] h = tt
-each_taken P (suc n) (x ∷ xs) h = (h.0, each_taken P n xs h.1)
-
-pub each_dropped : {A : Type 0} (P : A → Type 0) (n : ℕ) (xs : List A) → Each P xs → Each P (drop n xs)
-each_dropped P zero xs h = h
-each_dropped P (suc n) [] h = tt
-each_dropped P (suc n) (x ∷ xs) h = each_dropped P n xs h.1
 
 module _ (P : Value → Type 0) where
   abbrev pub PairOr : Option (Value × Value) → Type 0

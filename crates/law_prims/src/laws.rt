@@ -1,8 +1,9 @@
 //! The laws of what calls make. The functions here compute nothing: what they promise is the laws.
 
 ghost use Rattle.std.specs.Prelude.{◌≡◌, ℕ, Bool, List, Some, Ok, map};
+ghost use Rattle.base_data.specs.Elements.{Each};
 ghost use Rattle.stx_frames.specs.Scope.{Scope};
-ghost use Rattle.eval_value.specs.Cells.{Each, FitsIn, WholeCells};
+ghost use Rattle.eval_value.specs.Cells.{FitsIn, WholeCells};
 ghost use Rattle.eval_value.specs.declared.cell.Cell.{Cell};
 ghost use Rattle.eval_value.specs.declared.value.Value.{Value};
 ghost use Rattle.eval_prims.specs.Delta.{delta};

@@ -1,10 +1,10 @@
 -- What the pieces of a list put before a rest.
 use Rattle.std.proofs.Common.{◌≡◌, Bool, true, false, List, [], ◌∷◌, ◌++◌, map, None, refl, ap, sym, ◌∙◌, append_assoc}
 use Rattle.std.specs.Prelude.{if◌then◌else◌}
-use Rattle.base_data.specs.declared.atom.Atom.{Atom}
-use Rattle.base_data.specs.declared.atom.Atom.TheVariants as atoms
 use Rattle.stx_tree.specs.Tree.{Tree, atom, leaf, pair, vector, nil, chain}
-use Rattle.core_shapes.specs.Lists.{is_nil, is_nil_atom, elements}
+use Rattle.stx_tree.proofs.TreeLaws.{chain-append}
+use Rattle.core_shapes.specs.Lists.{is_nil, elements}
+use Rattle.core_shapes.proofs.WrittenLaws.{nil_atom}
 use Rattle.core_quasi.specs.Plan.{PlainQuasi, constant, expression, call, quasis}
 use Rattle.core_quasi.specs.Quasi.{closed, expressions, with_each, with_splices, is_constant, with_item, is_end, made_of}
 use Rattle.core_quasi.specs.declared.maker.Maker.TheVariants as maker
@@ -18,14 +18,6 @@ use Rattle.law_quasi.specs.Filled.{spliced}
 pub map_joined : {A B : Type 0} (g : A → B) (xs ys : List A) → map g (xs ++ ys) ≡ map g xs ++ map g ys
 map_joined g [] ys = refl
 map_joined g (x ∷ xs) ys = ap (λ zs. g x ∷ zs) (map_joined g xs ys)
-
-pub chain_joined : (xs ys : List Tree) (t : Tree) → chain (xs ++ ys) t ≡ chain xs (chain ys t)
-chain_joined [] ys t = refl
-chain_joined (x ∷ xs) ys t = ap (pair None x) (chain_joined xs ys t)
-
-nil_atom : (a : Atom) → is_nil_atom a ≡ true → a ≡ atoms.Nil
-nil_atom atoms.Nil h = refl
-nil_atom _ h = absurd (cc)
 
 pub nil_is : (t : Tree) → is_nil t ≡ true → plain t ≡ nil
 nil_is (atom s a) h = ap (atom None) (nil_atom a h)
@@ -94,7 +86,7 @@ module _ (f : Given) where
   each_put p es r =
       ap (all_put (map (makes f) p.parts))
       (ap (λ vs. chain vs r) (map_joined (makes f) p.run (expressions es))
-      ∙ chain_joined (map (makes f) p.run) (map (makes f) (expressions es)) r
+      ∙ chain-append (map (makes f) p.run) (map (makes f) (expressions es)) r
       ∙ ap (λ vs. chain (map (makes f) p.run) (chain vs r)) (expressions_made es))
 
   pub splices_put : (p : Pieces) (es : List Tree) (r : Tree) → puts (with_splices p es) r ≡ puts p (spliced f es r)
@@ -110,7 +102,7 @@ module _ (f : Given) where
   pub item_put : (p : Pieces) (q : PlainQuasi) (r : Tree) → puts (with_item p q) r ≡ puts p (pair None (makes f q) r)
   item_put p q r =
       ap (all_put (map (makes f) p.parts))
-      (ap (λ vs. chain vs r) (map_joined (makes f) p.run (q ∷ [])) ∙ chain_joined (map (makes f) p.run) (makes f q ∷ []) r)
+      (ap (λ vs. chain vs r) (map_joined (makes f) p.run (q ∷ [])) ∙ chain-append (map (makes f) p.run) (makes f q ∷ []) r)
 
   end_made : (q : PlainQuasi) → is_end q ≡ true → makes f q ≡ nil
   end_made (constant t) h = nil_is t h

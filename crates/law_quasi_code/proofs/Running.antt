@@ -9,6 +9,7 @@ use Rattle.base_region.specs.declared.region.Place.{Place}
 use Rattle.base_region.proofs.Laws.{slice_get-added}
 use Rattle.stx_tree.specs.Leaves.{strip}
 use Rattle.stx_tree.specs.Tree.{Tree, pair, nil, chain}
+use Rattle.stx_tree.proofs.TreeLaws.{chain-append}
 use Rattle.core_shapes.specs.Lists.{elements}
 use Rattle.core_language.specs.Core as core
 use Rattle.core_language.specs.Core.{PlainCore, quoted, primitive, call, cores}
@@ -38,13 +39,13 @@ use Rattle.eval_code.specs.Setting.{PlainSetting}
 use Rattle.eval_code.specs.State.{WorldState, done, store}
 use Rattle.eval_code.specs.State as states
 use Rattle.law_eval.specs.Kept.{LaterWorld, EndsLater}
-use Rattle.law_eval.proofs.Keeping.{keeps-eval_of}
+use Rattle.law_eval.proofs.Keeping.{keeps-eval_of, later_then}
 use Rattle.law_lists.specs.Runs.{Runs}
 use Rattle.law_lists.proofs.RunLemmas.{runs_still, stored_runs}
 use Rattle.law_given.specs.Calls.{Gives, Calls}
 use Rattle.law_given.proofs.Calling.{plain-called}
 use Rattle.law_given.proofs.Giving.{gives-done, gives-charged, Evaluates, evaluates-step, primitive-is, Operands, operand, call-is}
-use Rattle.law_given.proofs.Later.{later-refl, later-then, calls-later}
+use Rattle.law_given.proofs.Later.{later-refl, calls-later}
 use Rattle.law_given.proofs.Looking.{later-stay}
 use Rattle.law_quasi.proofs.Means.{plan_means}
 use Rattle.law_quasi.specs.Filled as template
@@ -95,10 +96,6 @@ record Joined (given : List (Tree × Value)) (cells : List Cell) (ts : List Tree
   each : ShowsEach given cells (chain trees nil) joined
   ended : Shows given cells end last
 
-chain_joined : (xs ys : List Tree) (t : Tree) → chain (xs ++ ys) t ≡ chain xs (chain ys t)
-chain_joined [] ys t = refl
-chain_joined (x ∷ xs) ys t = ap (pair None x) (chain_joined xs ys t)
-
 module _ (given : List (Tree × Value)) (cells : List Cell) where
   joined_one : (t : Tree) (v : Value) → Shows given cells t v → Joined given cells (t ∷ []) (v ∷ [])
   unfolding elements_joined
@@ -127,7 +124,7 @@ module _ (given : List (Tree × Value)) (cells : List Cell) where
     end = j.end;
     are = ap (λ zs. v ∷ zs) j.are;
     join = λ done. ap (λ o. if_some o (λ ys. elements_joined cells (done ++ ys) j.fronts)) e ∙ j.join (done ++ xs) ∙ ap Some (append_assoc done xs j.joined);
-    tree = ap (chain (elements t)) j.tree ∙ sym (chain_joined (elements t) j.trees j.end);
+    tree = ap (chain (elements t)) j.tree ∙ sym (chain-append (elements t) j.trees j.end);
     each = each_both given cells (elements t) j.trees xs j.joined h j.each;
     ended = j.ended;
   }
@@ -218,7 +215,7 @@ module _ (w : PlainSetting) (scope : Place) (given : List (Tree × Value)) (f : 
   ready_later : (xs : List Want) (cs : List PlainCore) (s t : WorldState) → LaterWorld s t → Ready xs cs s → Ready xs cs t
   ready_later [] cs s t h g = tt
   ready_later (x ∷ xs) [] s t h g = g
-  ready_later (x ∷ xs) (c ∷ cs) s t h g = λ u k. g u (later-then s t u h k)
+  ready_later (x ∷ xs) (c ∷ cs) s t h g = λ u k. g u (later_then s t u h k)
 
   run_constant : (t : Tree) (rest : List Want) (cs : List PlainCore) (s : WorldState) → Ready rest cs s → Ran (quoted (strip t)) (plain t) rest cs s
   run_constant t rest cs s g = record {
@@ -277,7 +274,7 @@ module _ (w : PlainSetting) (scope : Place) (given : List (Tree × Value)) (f : 
           listed = record { runs = stored_runs r.values_of lists.nil r.state.cells; short = stored_length r.values_of lists.nil r.state.cells };
           each = subst (λ (us : List Tree). ShowsEach given u.cells (chain us nil) r.values_of) (sym (elements_chain ts)) (each_still given r.state.cells u.cells (later-stay r.state u k) r.each);
           left = ready_later rest cs r.state u k r.left;
-          later = later-then s r.state u r.later k;
+          later = later_then s r.state u r.later k;
         }
 
     -- a list of new elements shows them
@@ -310,7 +307,7 @@ module _ (w : PlainSetting) (scope : Place) (given : List (Tree × Value)) (f : 
               (each_still given r.state.cells u.cells (later-stay r.state u k) e.each)
               (shows_still given r.state.cells u.cells (later-stay r.state u k) e.ended) (stored_runs e.fronts e.last r.state.cells));
           left = ready_later rest cs r.state u k r.left;
-          later = later-then s r.state u r.later k;
+          later = later_then s r.state u r.later k;
         }
 
     star_ran : (codes : List PlainCore) (t : Tree) (ts : List Tree) → RanAll codes (t ∷ ts) rest cs s → Ran (call_of (op_of maker.ConsStar) codes) (cons_star (t ∷ ts)) rest cs s
@@ -351,7 +348,7 @@ module _ (w : PlainSetting) (scope : Place) (given : List (Tree × Value)) (f : 
             (run_shows given joined_state.cells r.parts.trees r.parts.joined r.parts.end r.parts.last joined_to.0 each_then
             (shows_still given r.state.cells joined_state.cells (later-stay r.state joined_state joined_later) r.parts.ended) (stored_runs r.parts.joined r.parts.last r.state.cells));
         left = ready_later rest (codes_of qs cs).1 r.state joined_state joined_later r.left;
-        later = later-then s r.state joined_state r.later joined_later;
+        later = later_then s r.state joined_state r.later joined_later;
       }
 
       append_list : EndsInNil qs → RanList (call_of (op_of maker.Append) (codes_of qs cs).0) (append (values f qs)) rest (codes_of qs cs).1 s
@@ -369,7 +366,7 @@ module _ (w : PlainSetting) (scope : Place) (given : List (Tree × Value)) (f : 
             };
             each = subst (λ (us : List Tree). ShowsEach given joined_state.cells (chain us nil) r.parts.joined) (sym (ap elements tree ∙ elements_chain r.parts.trees)) each_then;
             left = ready_later rest (codes_of qs cs).1 r.state joined_state joined_later r.left;
-            later = later-then s r.state joined_state r.later joined_later;
+            later = later_then s r.state joined_state r.later joined_later;
           }
 
     -- `list->vector`
@@ -387,7 +384,7 @@ module _ (w : PlainSetting) (scope : Place) (given : List (Tree × Value)) (f : 
               (operand w c core.none scope (value.Prim (op_of maker.ListToVector) ∷ []) s r.state u r.value v r.evaluated h);
           shown = of_vector (ap vector_in (slice_get-added r.state.cells (cell.Vector r.elements_of))) (each_still given r.state.cells u.cells (later-stay r.state u k) r.each);
           left = ready_later rest left r.state u k r.left;
-          later = later-then s r.state u r.later k;
+          later = later_then s r.state u r.later k;
         }
 
   -- Plans.
@@ -417,7 +414,7 @@ module _ (w : PlainSetting) (scope : Place) (given : List (Tree × Value)) (f : 
         (b.operands (vs ++ a.value ∷ []) v u (subst (λ (us : List Value). Gives (applied w (eval_of w) us b.state) v u) (sym (append_assoc vs (a.value ∷ []) b.values_of)) h));
     each = one_more (shows_still given a.state.cells b.state.cells (later-stay a.state b.state b.later) a.shown) b.each;
     left = b.left;
-    later = later-then s a.state b.state a.later b.later;
+    later = later_then s a.state b.state a.later b.later;
   }
 
   last_joined : (q : PlainQuasi) (rest : List Want) (cs : List PlainCore) (s : WorldState) → Ran (filled q cs).0 (makes f q) rest (filled q cs).1 s → RanJoined (more q none) rest cs s
@@ -446,7 +443,7 @@ module _ (w : PlainSetting) (scope : Place) (given : List (Tree × Value)) (f : 
             (each_still given a.state.cells b.state.cells (later-stay a.state b.state b.later) a.each) b.parts;
         nil_end = b.nil_end;
         left = b.left;
-        later = later-then s a.state b.state a.later b.later;
+        later = later_then s a.state b.state a.later b.later;
       }
 
   -- an expression that is spliced

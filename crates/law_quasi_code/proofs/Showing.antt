@@ -1,5 +1,5 @@
 -- What values show.
-use Rattle.std.proofs.Common.{◌≡◌, ℕ, zero, suc, ◌≤◌, Bool, true, false, List, [], ◌∷◌, ◌++◌, length, slice_get, Option, None, Some, refl, sym, ap, subst, ◌∙◌, arith}
+use Rattle.std.proofs.Common.{◌≡◌, ℕ, zero, suc, ◌≤◌, Bool, true, false, List, [], ◌∷◌, ◌++◌, length, Option, None, Some, refl, ap, subst, arith}
 use Rattle.std.specs.Prelude.{if◌then◌else◌}
 use Rattle.base_data.specs.declared.atom.Atom.{Atom}
 use Rattle.base_data.specs.declared.atom.Atom.TheVariants as a
@@ -14,9 +14,10 @@ use Rattle.eval_value.specs.declared.value.Value.{Value}
 use Rattle.eval_value.specs.declared.cell.Cell.{Cell}
 use Rattle.eval_value.specs.declared.cell.Cell.TheVariants as cell
 use Rattle.eval_prims.specs.Chains as chains
-use Rattle.eval_prims.specs.Chains.{Chain, pair_of, is_nil, linked, chain_on, chain_to, list_elements}
+use Rattle.eval_prims.specs.Chains.{Chain, pair_of, is_nil, chain_on, chain_to, list_elements}
 use Rattle.law_lists.specs.Runs.{Runs, here, next, IsList}
-use Rattle.law_lists.proofs.RunLemmas.{Stay, stay_added, pair_still, elements_run}
+use Rattle.law_lists.proofs.RunLemmas.{Stay, stay_added, pair_still, elements_run, chain_is}
+use Rattle.law_lists.proofs.DataLemmas.{read_still}
 use Rattle.law_given.proofs.Looking.{keeps-stay}
 use Rattle.law_quasi.specs.Makes.{plain, plain_items}
 use Rattle.law_quasi_code.specs.Shows.{Shows, of_given, of_atom, of_string, of_symbol, of_pair, of_vector, ShowsEach, no_more, one_more}
@@ -29,16 +30,9 @@ pub record Listed (cells : List Cell) (xs : List Value) (x : Value) : Type 0 whe
   pub short : length xs ≤ length cells
 
 module _ (cells : List Cell) where
-  chain_is : (n : ℕ) {xs : List Value} {rest x : Value} → Runs cells xs rest x → pair_of cells rest ≡ None → length xs ≤ n → chain_to n cells x ≡ record { elements = xs; end = rest }
-  unfolding chain_to
-  chain_is zero here e l = refl
-  chain_is (suc n) {x = x} here e l = ap (chain_on (chain_to n cells) x) e
-  chain_is zero (next f r) e l = absurd (omega (arith, l))
-  chain_is (suc n) {x = x} (next {y = y} {d = d} f r) e l = ap (chain_on (chain_to n cells) x) f ∙ ap (linked y) (chain_is n r e (omega (arith, l)))
-
   pub listed_elements : (xs : List Value) (x : Value) → Listed cells xs x → list_elements cells x ≡ Some xs
   unfolding chains.chain
-  listed_elements xs x h = ap (λ (c : Chain). if is_nil c.end then Some c.elements else None) (chain_is (length cells) h.runs refl h.short)
+  listed_elements xs x h = ap (λ (c : Chain). if is_nil c.end then Some c.elements else None) ((chain_is cells) (length cells) h.runs refl h.short)
 
   chain_short : (n : ℕ) (x : Value) → length (chain_to n cells x).elements ≤ n
   unfolding chain_to
@@ -69,15 +63,6 @@ pub record Split (cells : List Cell) (xs ys : List Value) (rest x : Value) : Typ
 pub runs_split : (cells : List Cell) (xs ys : List Value) (rest x : Value) → Runs cells (xs ++ ys) rest x → Split cells xs ys rest x
 runs_split cells [] ys rest x r = record { middle = x; first = here; last = r }
 runs_split cells (y ∷ xs) ys rest x (next {d = d} f r) = let s = runs_split cells xs ys rest d r in record { middle = s.middle; first = next f s.first; last = s.last }
-
-read_still : {A : Type 0} (read : Option Cell → Option A) → read None ≡ None → (old new : List Cell) → Stay old new → (n : ℕ) (x : A) → read (slice_get old n) ≡ Some x → read (slice_get new n) ≡ Some x
-read_still {A} read e old new s n x h = by (slice_get old n) refl h
-  where
-    by : (o : Option Cell) → slice_get old n ≡ o → read o ≡ Some x → read (slice_get new n) ≡ Some x
-    by None f g =
-        let no : ◌≡◌ {A = Option A} None (Some x) = sym e ∙ g in
-        absurd (cc)
-    by (Some c) f g = ap read (s n c f) ∙ g
 
 module _ (given : List (Tree × Value)) where
   -- What is shown is shown later.

@@ -10,11 +10,11 @@ use Rattle.std.proofs.Math.Nat.{mod-lt}
 use Rattle.std.proofs.lemmas.Bool.{and_from, and_parts}
 use Rattle.std.proofs.lemmas.Bool.Decides.{nat_tests}
 use Rattle.std.proofs.lemmas.Str.{IsUtf8-append, IsUtf8-from_ascii, scalars-chars}
+use Rattle.base_data.proofs.ElementLemmas.{each-taken, each-dropped}
+use Rattle.base_data.specs.Elements.{Each}
 use Rattle.read_spelling.specs.Numbers.{is_digit, is_number_sign, is_exponent_mark, is_spelt}
 use Rattle.read_spelling.proofs.SpeltLemmas.{spelt_all}
 use Rattle.eval_prims.specs.Strings.{joined}
-use Rattle.eval_value.specs.Cells.{Each}
-use Rattle.law_fresh.proofs.Eachs.{each_taken, each_dropped}
 
 -- Characters.
 
@@ -34,7 +34,7 @@ encoded_text cs h = (cs, (all_scalar cs h, refl))
 
 -- the characters from a place to before another
 pub between_text : (cs : List ℕ) (start end : ℕ) → Each IsScalar cs → IsUtf8 (encode_utf8_all (take (end - start) (drop start cs)))
-between_text cs start end h = encoded_text (take (end - start) (drop start cs)) (each_taken IsScalar (end - start) (drop start cs) (each_dropped IsScalar start cs h))
+between_text cs start end h = encoded_text (take (end - start) (drop start cs)) (each-taken IsScalar (end - start) (drop start cs) (each-dropped IsScalar start cs h))
 
 pub joined_text : (done : List ℕ) (ss : List (List ℕ)) → IsUtf8 done → Each IsUtf8 ss → IsUtf8 (joined done ss)
 unfolding joined

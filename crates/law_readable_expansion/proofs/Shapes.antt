@@ -1,8 +1,8 @@
 -- What holds of what is made next, and of the elements of a list.
 use Rattle.std.proofs.Common.{List}
+use Rattle.base_data.specs.Elements.{Each}
 use Rattle.stx_tree.specs.Tree.{Tree}
 use Rattle.core_shapes.specs.Lists.{proper_elements}
-use Rattle.eval_value.specs.Cells.{Each}
 use Rattle.law_invariants.specs.Invariant.{OptionHolds}
 use Rattle.law_invariant_expansion.proofs.Shapes as shapes
 use Rattle.law_readable.specs.Readable.{ReadableTree, readable}

@@ -1,10 +1,10 @@
 -- What is done with states keeps that all in them can be read.
 use Rattle.std.proofs.Common.{List, Result}
 use Rattle.base_data.specs.Act.{after, each}
+use Rattle.base_data.specs.Elements.{Each}
 use Rattle.base_data.specs.declared.fault.Fault.{Fault}
 use Rattle.core_language.specs.Core.{PlainCore}
 use Rattle.expand_standing.specs.State.{State, Does}
-use Rattle.eval_value.specs.Cells.{Each}
 use Rattle.law_invariant_expansion.proofs.Standing as standing
 use Rattle.law_readable.specs.Readable.{ReadableCore, readable}
 use Rattle.law_readable_expansion.specs.States.{ReadableIn}

@@ -1,6 +1,7 @@
 -- The relation has one answer: by the first derivation, with the second taken apart beside it.
 use Rattle.std.proofs.Common.{◌≡◌, ◌+◌, ℕ, Bool, true, false, List, [], ◌∷◌, ◌++◌, map, length, Option, None, Some, Result, Ok, Err, refl, sym, ap, ◌∙◌, subst, inl, inr, true≢false}
 use Rattle.std.specs.Prelude.{◌⊎◌}
+use Rattle.base_data.specs.Elements.{Each}
 use Rattle.base_data.specs.declared.fault.Fault.{Fault}
 use Rattle.base_data.specs.declared.name.FrameNo.{FrameNo}
 use Rattle.base_data.specs.declared.name.Label.{Label}
@@ -43,7 +44,6 @@ use Rattle.expand_heads.specs.declared.taken.BodyAt.{BodyAt}
 use Rattle.expand_heads.specs.declared.taken.Taken.{Taken}
 use Rattle.expand_heads.specs.declared.taken.Waiting.{Waiting}
 use Rattle.expand_heads.specs.declared.taken.Waits.{Waits}
-use Rattle.eval_value.specs.Cells.{Each}
 use Rattle.expand_forms.specs.Body.{sequence_of, body_core}
 use Rattle.expand_forms.specs.ExpandUses.{expand_item_uses}
 use Rattle.expand_forms.specs.declared.expand_uses.PlannedForm.{PlannedForm}

@@ -1,6 +1,7 @@
 -- What captures a leaf, by its history.
 use Rattle.std.proofs.Common.{◌≡◌, ◌≢◌, ℕ, Bool, true, false, List, [], ◌∷◌, ◌++◌, map, Option, Some, refl, sym, ap, ◌∙◌, subst, cond, inl, inr, true≢false}
 use Rattle.std.specs.Prelude.{◌⊎◌, IsSomeAnd, IsFalse}
+use Rattle.base_data.specs.Elements.{Among}
 use Rattle.base_data.specs.declared.name.FrameNo.{FrameNo}
 use Rattle.base_data.specs.declared.name.Mark.{Mark}
 use Rattle.base_data.specs.declared.span.Span.{Span}
@@ -13,11 +14,10 @@ use Rattle.stx_frames.specs.Scope.{Scope}
 use Rattle.law_hygiene.specs.Binder.{binder_of, Captures, IsOfUse}
 use Rattle.law_hygiene.specs.History.{Event, stamped, introduced, change_of, uses, IsOnce, after}
 use Rattle.law_hygiene.specs.Hygiene.{IsOwnOr}
-use Rattle.law_hygiene.specs.Marked.{has_mark, Among, Spares}
-use Rattle.law_hygiene.proofs.Living.{by_same_uses}
+use Rattle.law_hygiene.specs.Marked.{has_mark, Spares}
+use Rattle.law_hygiene.proofs.Living.{by_same_uses, marks_after}
 use Rattle.law_hygiene.proofs.Marking.{same_mark-self, lacks_first}
 use Rattle.law_hygiene.proofs.Using.{brought_in}
-use Rattle.law_fresh_expansion.proofs.Once.{marks-after}
 use Rattle.law_references.specs.Captured.{IsIntroducedBy, CapturesAreHygienic}
 
 -- A mark that a leaf has was there, or a use introduced the leaf.
@@ -94,7 +94,7 @@ module _ (fs : Scope) (r : Row) (s : Option Span) (x : List ℕ) (ms : List Mark
       let start : LeafContext = record { marks = ms; stamps = [] } in
       let template : LeafContext = after early ms in
       let parts = once-start early m f late ms (subst (λ (ds : List Event). IsOnce ds ms) e once) in
-      let fresh : is_first m template.marks ≡ false = lacks_first m template.marks (ap (has_mark m) (marks-after early start parts.0) ∙ parts.1.0) in
+      let fresh : is_first m template.marks ≡ false = lacks_first m template.marks (ap (has_mark m) (marks_after early start parts.0) ∙ parts.1.0) in
       let here : after es ms ≡ acts (map change_of late) (act (change_of (introduced m f)) template) = ap (λ (ds : List Event). after ds ms) e ∙ acts-joined early (introduced m f ∷ late) start in
       by (brought_in m f (leaf s x template) fresh (map change_of late) (late-spares m late (m ∷ uses early ms) (ap (λ b. cond b true (has_mark m (uses early ms))) (same_mark-self m)) parts.1.1) fs)
       (ap (λ (c : LeafContext). binder_of fs (leaf s x c)) (sym here) ∙ is)

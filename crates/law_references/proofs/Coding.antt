@@ -1,6 +1,8 @@
 -- What the code of a quasi form names: what its parts name, and then the pattern variables of its template.
 use Rattle.std.proofs.Common.{◌≡◌, ◌≤◌, ◌+◌, ℕ, true, List, [], ◌∷◌, ◌++◌, length, Some, refl, sym, ap, ◌∙◌, subst, arith, append-nil, inr}
+use Rattle.base_data.proofs.ElementLemmas.{each-append}
 use Rattle.base_data.specs.Act.{after, give}
+use Rattle.base_data.specs.Elements.{Among, Each}
 use Rattle.base_data.specs.declared.library.LibName.{LibName}
 use Rattle.base_data.specs.declared.library.LibName.TheVariants as library
 use Rattle.base_data.specs.declared.name.FrameNo.{FrameNo}
@@ -32,11 +34,8 @@ use Rattle.expand_standing.specs.Binders.{row_put, put_row}
 use Rattle.expand_standing.specs.InScope.{cut}
 use Rattle.expand_standing.specs.Patterns.{put_pattern_variable, bind_pattern_variable, bind_next, bind_pattern, template_of}
 use Rattle.expand_standing.specs.State.{State, fresh, fresh_frame}
-use Rattle.law_hygiene.specs.Marked.{Among}
-use Rattle.eval_value.specs.Cells.{Each}
 use Rattle.law_expand.proofs.Acts.{Gave, gave-both, gave-after, gave-less, gave-within, gave-each, gave-gather}
 use Rattle.law_fresh.specs.Leaves.{TreeHolds}
-use Rattle.law_fresh.proofs.Eachs.{each_both}
 use Rattle.law_fresh_expansion.specs.Events.{HasKnownEvents}
 use Rattle.law_fresh_expansion.specs.Known.{IsNewAmong}
 use Rattle.law_fresh_expansion.specs.States.{FreshStateHolds}
@@ -58,7 +57,7 @@ AllAre Q t = Each Q (leaves t)
 leaves-known : (Q : LeafContext → Type 0) (t : Tree) → TreeHolds Q t → AllAre (λ x. (is_leaf x ≡ true) × TreeHolds Q x) t
 leaves-known Q (atom p a) h = tt
 leaves-known Q (leaf p y c) h = ((refl, h), tt)
-leaves-known Q (pair p a d) h = each_both (λ x. (is_leaf x ≡ true) × TreeHolds Q x) (leaves a) (leaves d) (leaves-known Q a h.0) (leaves-known Q d h.1)
+leaves-known Q (pair p a d) h = each-append (λ x. (is_leaf x ≡ true) × TreeHolds Q x) (leaves a) (leaves d) (leaves-known Q a h.0) (leaves-known Q d h.1)
 leaves-known Q (vector p d) h = leaves-known Q d h
 
 some-known : (Q : Tree → Type 0) (refs : List Reference) (ls : List Tree) → AreSome (leaves_of refs) ls → Each Q ls → Each (λ (r : Reference). Q r.leaf) refs

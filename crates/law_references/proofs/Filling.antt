@@ -1,6 +1,7 @@
 -- What the code of a plan of `quasiquote` names, its parts name, and these are the expressions in it.
 use Rattle.std.proofs.Common.{◌≡◌, ◌≤◌, ◌+◌, ℕ, Bool, true, false, List, [], ◌∷◌, ◌++◌, map, length, refl, sym, ap, ◌∙◌, subst, arith, append-nil, append_assoc, length-append, true≢false, if◌then◌else◌}
 use Rattle.std.specs.Prelude.{nat_lt}
+use Rattle.base_data.specs.Elements.{Each}
 use Rattle.stx_tree.specs.Tree.{Tree}
 use Rattle.core_language.specs.Core.{PlainCore, cores}
 use Rattle.law_references.specs.Namings.{namings, all_namings}
@@ -15,7 +16,6 @@ use Rattle.expand_quasi.specs.declared.form.QuasiForm.{QuasiForm}
 use Rattle.expand_quasi.specs.declared.form.QuasiForm.TheVariants as quasi_forms
 use Rattle.expand_quasi.specs.declared.parts.PartForm.{PartForm}
 use Rattle.expand_heads.specs.Depth.{deeper, most_round}
-use Rattle.eval_value.specs.Cells.{Each}
 
 -- how many expressions there are in a plan
 abbrev mutual

@@ -2,6 +2,7 @@
 use Rattle.std.proofs.Common.{◌≡◌, ◌≢◌, ◌≤◌, ◌+◌, ℕ, List, [], ◌∷◌, ◌++◌, length, Option, None, Some, Result, Ok, Err, refl, sym, ap, ◌∙◌, subst, arith, slice_get, inl, inr}
 use Rattle.std.specs.Prelude.{◌⊎◌, IsFalse}
 use Rattle.base_data.specs.Act.{after, give}
+use Rattle.base_data.specs.Elements.{Among}
 use Rattle.base_data.specs.declared.fault.Fault.{Fault}
 use Rattle.base_data.specs.declared.library.LibName.{LibName}
 use Rattle.base_data.specs.declared.library.LibName.TheVariants as library
@@ -30,7 +31,6 @@ use Rattle.eval_stage.specs.Uses.{procedure_in, call_procedure, tree_at, read_an
 use Rattle.eval_stage.specs.Fuel.{most_fuel}
 use Rattle.expand_standing.specs.RecordUses.{at_state, count_record_type, record_tree, record_marked}
 use Rattle.expand_standing.specs.State.{State}
-use Rattle.law_hygiene.specs.Marked.{Among}
 use Rattle.law_hygiene.proofs.Marking.{same_mark-self, same_mark-differs, lacks_first}
 use Rattle.law_hygiene.proofs.Using.{left_came_in, marks_introduced}
 use Rattle.law_fresh.specs.Leaves.{OptionHolds, TreeHolds, ValueHolds, CellHolds, CellsHold}

@@ -1,7 +1,9 @@
 -- Whole forms: what expansion gives is related to its form, and refers to what identifiers stand for, however deep forms nest.
 use Rattle.std.proofs.Common.{◌≡◌, ◌≤◌, ◌+◌, ℕ, zero, suc, Bool, true, false, List, [], ◌∷◌, ◌++◌, length, Option, None, Some, Result, Ok, refl, sym, ap, ◌∙◌, subst, arith, append-nil, inl, inr, if◌then◌else◌}
 use Rattle.std.specs.Prelude.{nat_lt}
+use Rattle.base_data.proofs.ElementLemmas.{each-implied}
 use Rattle.base_data.specs.Act.{after, give, each}
+use Rattle.base_data.specs.Elements.{Among, Each}
 use Rattle.base_data.specs.declared.fault.Fault.{Fault}
 use Rattle.base_data.specs.declared.fault.FaultKind.TheVariants as kind
 use Rattle.base_data.specs.declared.library.LibName.{LibName}
@@ -41,8 +43,6 @@ use Rattle.expand_heads.specs.declared.plan.Plan.{Plan}
 use Rattle.expand_heads.specs.declared.plan.Plan.TheVariants as plans
 use Rattle.expand_heads.specs.declared.taken.BodyAt.{BodyAt}
 use Rattle.expand_heads.specs.declared.taken.Taken.{Taken}
-use Rattle.law_hygiene.specs.Marked.{Among}
-use Rattle.eval_value.specs.Cells.{Each}
 use Rattle.expand_forms.specs.Body as expand_body
 use Rattle.expand_forms.specs.Body.{splice, perform_item, item, sequence_of}
 use Rattle.expand_forms.specs.Expression.{in_order, lambda_case, lambda, all_cases, case_lambda, application, alternate, conditional, set, in_sequence, all_clauses, syntax_case, keywords_form, perform, perform_settled, form_at, inside}
@@ -60,8 +60,8 @@ use Rattle.law_expand.proofs.Later.{later-then}
 use Rattle.law_expand.proofs.QuasiLater.{form-same, moved-code}
 use Rattle.law_expand.proofs.SpentBinding.{Same, literals-same}
 use Rattle.law_expand.proofs.Uses.{literals-later}
+use Rattle.law_expand.proofs.SparesQuasi.{same-told}
 use Rattle.law_fresh.specs.Leaves.{OptionHolds, TreeHolds}
-use Rattle.law_fresh.proofs.Eachs.{each_mapped}
 use Rattle.law_fresh.proofs.Trees.{OkHolds}
 use Rattle.law_fresh_expansion.specs.Events.{HasKnownEvents}
 use Rattle.law_fresh_expansion.specs.Known.{IsKnown, IsKnownFrame, IsNewAmong}
@@ -84,7 +84,7 @@ use Rattle.law_references.proofs.Filling.{IsLow, forms_of, parts-are}
 use Rattle.law_references.proofs.Settling.{IsTarget, Plans, Settles, expand_uses-so}
 use Rattle.law_references.proofs.SettlingItems.{settled-item-holds}
 use Rattle.law_references.proofs.Staying as staying
-use Rattle.law_references.proofs.Telling.{Untold, told-self, told-same, expand_uses-told, define-keyword-told, expand_uses-item-told, code-told}
+use Rattle.law_references.proofs.Telling.{Untold, told-self, expand_uses-told, define-keyword-told, expand_uses-item-told, code-told}
 use Rattle.law_references.proofs.Walking as walking
 
 -- only leaves stand for something
@@ -265,7 +265,7 @@ module _ (libs : List LibName) (own : LibName) (core : Among libs library.Core) 
         case-lambda-made xs s h k =
             gave-after (λ cs u. Went (counted s) u × Made (ExpandedBind rs place level t xs (counted s) cs u) (case_namings (cases cs)) (counted s) u) (PlanMade place level t (plans.CaseLambda xs) s) (all_cases go (site_at place level depth) t xs (counted s)) _
             (walking.cases-went libs own core new rs first held room traced place level depth t xs (counted s) (counted-at s h)
-            (each_mapped (LambdaHolds (P s.names.number)) (LambdaHolds (P (s.names.number + 1))) (walking.lambda-case-up libs own core new rs first held room traced s.names.number (s.names.number + 1) (one-more s)) xs k))
+            (each-implied (LambdaHolds (P s.names.number)) (LambdaHolds (P (s.names.number + 1))) (walking.lambda-case-up libs own core new rs first held room traced s.names.number (s.names.number + 1) (one-more s)) xs k))
             (λ cs u z. staying.made-from libs own core new (λ refs. ExpandedBind rs place level t xs (counted s) cs u refs) (λ refs. Performs rs place level t (plans.CaseLambda xs) s (procedure (record { 0 = s.names }) (cases cs) false) u refs) (case_namings (cases cs)) (case_namings (cases cs)) s (counted s) u (told-self s) z.1 (λ refs i. makes_cases i) refl)
 
         matching-made : (subject : Tree) (literals : List Tree) (xs : List PatternCase) (span : Span) (s : State) → F s → T s.names.number subject → Each (PatternCaseHolds (P s.names.number)) xs
@@ -283,12 +283,12 @@ module _ (libs : List LibName) (own : LibName) (core : Among libs library.Core) 
             let up-more = q.1.0.0.stage.up in
             gave-after (λ cs u. Went y u × Made (Match rs place level literals xs y cs u) (clause_namings (clauses cs)) y u) (PlanMade place level t (plans.Matching subject literals xs span) s) (all_clauses go (site_at place level depth) literals xs y) (λ cs. give (matching c (clauses cs) span))
             (walking.clauses-went libs own core new rs first held room traced place level depth literals xs y (from-to v y hv q.1.0.0)
-            (each_mapped (PatternCaseHolds (P s.names.number)) (PatternCaseHolds (P y.names.number)) (forms.pattern-case-up own K J P lives first go (walking.keeps libs own core new rs first held room) s.names.number y.names.number (omega (arith, up, up-more))) xs g))
+            (each-implied (PatternCaseHolds (P s.names.number)) (PatternCaseHolds (P y.names.number)) (forms.pattern-case-up own K J P lives first go (walking.keeps libs own core new rs first held room) s.names.number y.names.number (omega (arith, up, up-more))) xs g))
             (λ cs u z.
             let Rest : Noted → Type 0 = λ refs. Match rs place level literals xs y cs u refs in
             staying.made-joined libs own core new (λ refs. Expands rs place level subject s c v refs) Rest (λ refs. Performs rs place level t (plans.Matching subject literals xs span) s (matching c (clauses cs) span) u refs)
             (namings c) (clause_namings (clauses cs)) s v u (later-then own v y u q.0 z.0.later) w.1
-            (staying.made-from libs own core new Rest Rest (clause_namings (clauses cs)) (clause_namings (clauses cs)) v y u (told-same v y (told (Same v) (check_literals place literals v) e y (literals-same literals place v) q.1.1)) z.1 (λ refs i. i) refl)
+            (staying.made-from libs own core new Rest Rest (clause_namings (clauses cs)) (clause_namings (clauses cs)) v y u (same-told v y (told (Same v) (check_literals place literals v) e y (literals-same literals place v) q.1.1)) z.1 (λ refs i. i) refl)
             (λ refs others i j. matches_one i q.1.1 j))))
 
         keywords-made : (recursive : Bool) (bs : List BindingSpec) (fs : List Tree) (s : State) → F s → Each (standing.SpecAt own K J P lives first s.names.number) bs → Ts s.names.number fs
@@ -359,7 +359,7 @@ module _ (libs : List LibName) (own : LibName) (core : Among libs library.Core) 
             let All : Noted → Type 0 = λ refs. Performs rs place level t (plans.Quasi which template) s c u refs in
             let refs = x.1.0.references in
             let m = all_namings (cores cs) ++ named refs in
-            let formed = told-same s v (ap (λ (y : State). y.keywords) (told (λ q v. v ≡ s) made q v (form-same place t which template s) z.1)) in
+            let formed = same-told s v (ap (λ (y : State). y.keywords) (told (λ q v. v ≡ s) made q v (form-same place t which template s) z.1)) in
             let coded : Made Coding (named refs) w u = record { noted = of_references refs; is = x.1.0.is; all = refl; kept = x.1.0.kept; expressions = tt; told = λ l d e. inl (x.1.1 l d e) } in
             staying.made-from libs own core new All All m (namings c) s v u formed
             (staying.made-joined libs own core new Filled Coding All (all_namings (cores cs)) (named refs) v w u x.0 y.0.1 coded (λ others behind i j. fills z.1 (subst (λ (ts : List Tree). Expand rs place level ts v cs w others) (parts-are t depth q y.1.0) i) j)) (λ refs i. i) x.1.0.all)))

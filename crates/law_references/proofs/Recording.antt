@@ -1,8 +1,11 @@
 -- The references of a library's record.
 use Rattle.std.proofs.Common.{◌≡◌, ℕ, zero, suc, List, [], ◌∷◌, ◌++◌, map, Option, None, Some, Result, Ok, Err, refl, sym, ap, ◌∙◌, subst, arith, inl, inr}
 use Rattle.std.specs.Prelude.{◌⊎◌}
+use Rattle.base_data.proofs.ElementLemmas.{each-append, each-implied}
 use Rattle.base_data.specs.Act.{after, give, each}
+use Rattle.base_data.specs.Elements.{Among, Each}
 use Rattle.base_data.specs.declared.fault.Fault.{Fault}
+use Rattle.base_data.specs.declared.imported_name.ImportedName.{ImportedName}
 use Rattle.base_data.specs.declared.library.LibName.{LibName}
 use Rattle.base_data.specs.declared.library.LibName.TheVariants as library
 use Rattle.base_data.specs.declared.name.FrameNo.{FrameNo}
@@ -30,9 +33,7 @@ use Rattle.expand_heads.specs.Items.{begun}
 use Rattle.expand_heads.specs.declared.taken.BodyAt.{BodyAt}
 use Rattle.expand_heads.specs.declared.taken.Taken.{Taken}
 use Rattle.law_hygiene.specs.Binder.{Captures, IsRowAt}
-use Rattle.law_hygiene.specs.Marked.{Among}
 use Rattle.law_hygiene.proofs.Rowing.{by_a_stamp}
-use Rattle.eval_value.specs.Cells.{Each}
 use Rattle.expand_forms.specs.Body.{splice, finish_all}
 use Rattle.expand_forms.specs.Expanding.{ready, body_of}
 use Rattle.expand_forms.specs.Expression.{inside, full_room}
@@ -43,7 +44,6 @@ use Rattle.law_expand.proofs.Acts.{Gave, gave-both, gave-after, gave-each, told,
 use Rattle.law_expand.specs.Kept.{IsKeptWith}
 use Rattle.law_expand.proofs.SpentOnStage.{Tells}
 use Rattle.law_fresh.specs.Leaves.{TreeHolds}
-use Rattle.law_fresh.proofs.Eachs.{each_both, each_mapped}
 use Rattle.law_fresh.proofs.Wider.{tree_wider}
 use Rattle.law_fresh_expansion.specs.Events.{HasKnownEvents}
 use Rattle.law_fresh_expansion.specs.Forms.{TakenHolds}
@@ -70,7 +70,7 @@ use Rattle.law_references.proofs.Walking as walking
 use Rattle.law_references.proofs.Wholly.{captured-so, all-right, all-expressions}
 
 -- a leaf as it is read
-read-at : (libs : List LibName) (own : LibName) (core : Among libs library.Core) (new : IsNewAmong libs own) (n : ℕ) (c : LeafContext) → c ≡ blank → HasKnownEvents libs own n c
+pub read-at : (libs : List LibName) (own : LibName) (core : Among libs library.Core) (new : IsNewAmong libs own) (n : ℕ) (c : LeafContext) → c ≡ blank → HasKnownEvents libs own n c
 read-at libs own core new n c e =
     let alive = staying.lives libs own core new in
     subst (HasKnownEvents libs own n) (sym e) (alive.rises.later 0 n blank (omega arith) alive.read)
@@ -133,7 +133,7 @@ module _ (es : List KeywordExpression) (s u : State) (none : KeepsNone s) (kept 
 
   below-kept : (n : ℕ) → Each Has (own_below u n)
   below-kept zero = tt
-  below-kept (suc n) = each_both Has (own_below u n) (own_row u n) (below-kept n) (row-kept (own_label u n) (bound_to u.bindings (own_label u n)))
+  below-kept (suc n) = each-append Has (own_below u n) (own_row u n) (below-kept n) (row-kept (own_label u n) (bound_to u.bindings (own_label u n)))
 
   bindings-kept : Each Has (own_bindings u)
   unfolding own_bindings
@@ -182,12 +182,12 @@ module _ (libs : List LibName) (own : LibName) (core : Among libs library.Core) 
 
     -- An export is the label of the binder that captures its identifier.
 
-    abbrev RightExports : State → State → List (List ℕ × Tree) → List (List ℕ × Label) → Type 0
+    abbrev RightExports : State → State → List (List ℕ × Tree) → List ImportedName → Type 0
     RightExports v u es ls = AreRightExports libs own v u at.frame es ls
 
-    abbrev Looked : State → List (List ℕ × Tree) → List (List ℕ × Label) → Type 0
+    abbrev Looked : State → List (List ℕ × Tree) → List ImportedName → Type 0
     Looked v [] [] = Unit {0}
-    Looked v (e ∷ es) (x ∷ xs) = ((x.0 ≡ e.0) × (stands v.frames (stamp at.frame e.1) ≡ Some x.1)) × Looked v es xs
+    Looked v (e ∷ es) (x ∷ xs) = ((x.name ≡ e.0) × (stands v.frames (stamp at.frame e.1) ≡ Some x.label)) × Looked v es xs
     Looked v [] (x ∷ xs) = ⊥
     Looked v (e ∷ es) [] = ⊥
 
@@ -195,16 +195,16 @@ module _ (libs : List LibName) (own : LibName) (core : Among libs library.Core) 
     abbrev Since : State → List Label → State → Type 0
     Since v xs u = staying.Went libs own core new (record v { exports = xs }) u
 
-    export-right : (v u : State) (xs : List Label) → J v.names.number at.frame → Since v xs u → (e : List ℕ × Tree) (x : List ℕ × Label) → WasRead e.1 → x.0 ≡ e.0 → stands v.frames (stamp at.frame e.1) ≡ Some x.1
+    export-right : (v u : State) (xs : List Label) → J v.names.number at.frame → Since v xs u → (e : List ℕ × Tree) (x : ImportedName) → WasRead e.1 → x.name ≡ e.0 → stands v.frames (stamp at.frame e.1) ≡ Some x.label
         → IsRightExport libs own v u at.frame e x
     export-right v u xs q w e x read name stood =
         let n = v.names.number in
         let known = stamp-holds own K J P lives n at.frame e.1 q (tree_wider (λ c. c ≡ blank) (P n) (read-at libs own core new n) e.1 read) in
         let now = staying.stays libs own core new n (record v { exports = xs }) u (omega arith) w.later (stamp at.frame e.1) known ∙ stood in
-        let captured = captured-so libs own core new n u (stamp at.frame e.1) x.1 (leaf-stands (stamp at.frame e.1) v x.1 stood) known now in
+        let captured = captured-so libs own core new n u (stamp at.frame e.1) x.label (leaf-stands (stamp at.frame e.1) v x.label stood) known now in
         record { name = name; stood = stood; captured = captured; unmarked = read-unmarked u.frames e.1 at.frame captured.row read captured.captures }
 
-    exports-right : (v u : State) (xs : List Label) → J v.names.number at.frame → Since v xs u → (es : List (List ℕ × Tree)) (ls : List (List ℕ × Label)) → Each (λ (e : List ℕ × Tree). WasRead e.1) es → Looked v es ls → RightExports v u es ls
+    exports-right : (v u : State) (xs : List Label) → J v.names.number at.frame → Since v xs u → (es : List (List ℕ × Tree)) (ls : List ImportedName) → Each (λ (e : List ℕ × Tree). WasRead e.1) es → Looked v es ls → RightExports v u es ls
     exports-right v u xs q w [] [] read h = tt
     exports-right v u xs q w (e ∷ es) (x ∷ ls) read h = (export-right v u xs q w e x read.0 h.0.0 h.0.1, exports-right v u xs q w es ls read.1 h.1)
     exports-right v u xs q w [] (x ∷ ls) read h = h
@@ -216,18 +216,18 @@ module _ (libs : List LibName) (own : LibName) (core : Among libs library.Core) 
         gave-after (λ ls w. Looked v es ls × (w ≡ v)) (λ ls w. Looked v es ls × (w ≡ record v { exports = w.exports })) (all_exports at es v) (λ ls w. after (export_labels ls w) (λ _. give ls)) (all-looked es v)
         (λ ls w k. (k.0, ap (λ (y : State). record y { exports = labels_with [] ls }) k.1))
       where
-        looked-one : (e : List ℕ × Tree) (v : State) → Gave (λ x w. ((x.0 ≡ e.0) × (stands v.frames (stamp at.frame e.1) ≡ Some x.1)) × (w ≡ v)) (export at e v)
+        looked-one : (e : List ℕ × Tree) (v : State) → Gave (λ x w. ((x.name ≡ e.0) × (stands v.frames (stamp at.frame e.1) ≡ Some x.label)) × (w ≡ v)) (export at e v)
         looked-one e v = by (stands v.frames (stamp at.frame e.1)) refl
           where
-            by : (o : Option Label) → stands v.frames (stamp at.frame e.1) ≡ o → Gave (λ x w. ((x.0 ≡ e.0) × (stands v.frames (stamp at.frame e.1) ≡ Some x.1)) × (w ≡ v)) (stands_for at.place e.0 (stamp at.frame e.1) o v)
+            by : (o : Option Label) → stands v.frames (stamp at.frame e.1) ≡ o → Gave (λ x w. ((x.name ≡ e.0) × (stands v.frames (stamp at.frame e.1) ≡ Some x.label)) × (w ≡ v)) (stands_for at.place e.0 (stamp at.frame e.1) o v)
             by None h = tt
             by (Some l) h = ((refl, h), refl)
 
         all-looked : (es : List (List ℕ × Tree)) (v : State) → Gave (λ ls w. Looked v es ls × (w ≡ v)) (all_exports at es v)
-        all-looked [] v = subst (λ (r : Result (List (List ℕ × Label) × State) Fault). Gave (λ ls w. Looked v [] ls × (w ≡ v)) r) (sym (each-nil (export at) v)) (tt, refl)
+        all-looked [] v = subst (λ (r : Result (List ImportedName × State) Fault). Gave (λ ls w. Looked v [] ls × (w ≡ v)) r) (sym (each-nil (export at) v)) (tt, refl)
         all-looked (e ∷ es) v =
-            subst (λ (r : Result (List (List ℕ × Label) × State) Fault). Gave (λ ls w. Looked v (e ∷ es) ls × (w ≡ v)) r) (sym (each-cons (export at) e es v))
-            (gave-after (λ x w. ((x.0 ≡ e.0) × (stands v.frames (stamp at.frame e.1) ≡ Some x.1)) × (w ≡ v)) (λ ls w. Looked v (e ∷ es) ls × (w ≡ v)) (export at e v) (λ a t. after (each (export at) [] es t) (λ ys. give (a ∷ ys))) (looked-one e v)
+            subst (λ (r : Result (List ImportedName × State) Fault). Gave (λ ls w. Looked v (e ∷ es) ls × (w ≡ v)) r) (sym (each-cons (export at) e es v))
+            (gave-after (λ x w. ((x.name ≡ e.0) × (stands v.frames (stamp at.frame e.1) ≡ Some x.label)) × (w ≡ v)) (λ ls w. Looked v (e ∷ es) ls × (w ≡ v)) (export at e v) (λ a t. after (each (export at) [] es t) (λ ys. give (a ∷ ys))) (looked-one e v)
             (λ x w k. gave-after (λ ls y. Looked v es ls × (y ≡ v)) (λ ls y. Looked v (e ∷ es) ls × (y ≡ v)) (all_exports at es w) (λ ys. give (x ∷ ys))
             (subst (λ (y : State). Gave (λ ls z. Looked v es ls × (z ≡ v)) (all_exports at es y)) (sym k.1) (all-looked es v)) (λ ls y j. ((k.0, j.0), j.1))))
 
@@ -264,8 +264,8 @@ module _ (libs : List LibName) (own : LibName) (core : Among libs library.Core) 
           ends = z.1.ends;
           run = z.1.lines;
           frames = refl;
-          right = each_mapped (walking.TellsLine libs own core new u) (IsRightLine libs own u) (line-right u) z.1.told z.1.right;
-          expressions = all-expressions libs own core new (bound ++ others) (each_both KeptExpression bound others took.kept z.1.expressions);
+          right = each-implied (walking.TellsLine libs own core new u) (IsRightLine libs own u) (line-right u) z.1.told z.1.right;
+          expressions = all-expressions libs own core new (bound ++ others) (each-append KeptExpression bound others took.kept z.1.expressions);
           keywords = bindings-kept (bound ++ others) s u none kept;
           exports_are = refl;
           exports_right = exports-right v u w.exports q (subst (λ (x : State). staying.Went libs own core new x u) y.1.1 z.0) es ls read y.1.0;
@@ -289,11 +289,11 @@ given P (Ok p) r h e = let same : p.0 ≡ r = cc in subst P same h
 given P (Err f) r h e = absurd (cc)
 
 -- nothing is kept at first
-kept-first : (own : LibName) (records : List CompiledLibrary) (imports : List (List ℕ × Label)) (codes : Codes) → KeepsNone (started own records imports codes)
+kept-first : (own : LibName) (records : List CompiledLibrary) (imports : List ImportedName) (codes : Codes) → KeepsNone (started own records imports codes)
 unfolding started
 kept-first own records imports codes l c e = absurd (cc)
 
-first-made : (own : LibName) (records : List CompiledLibrary) (imports : List (List ℕ × Label)) (codes : Codes) → IsKnownFrame (libraries_of records) own (started own records imports codes).names.number (first_frame own)
+pub first-made : (own : LibName) (records : List CompiledLibrary) (imports : List ImportedName) (codes : Codes) → IsKnownFrame (libraries_of records) own (started own records imports codes).names.number (first_frame own)
 unfolding started
 first-made own records imports codes = inr (refl, omega arith)
 
@@ -306,4 +306,4 @@ records-hygienic own path records imports version place es fs codes r new only t
     let n = s.names.number in
     given (RunIsRight libs own records s at es fs) (top (inside records full_room) at es fs s) r
     (top-right libs own (inl refl) new records n starts.1 at es fs s starts.0
-    (each_mapped WasRead (TreeHolds (HasKnownEvents libs own n)) (λ t k. tree_wider (λ c. c ≡ blank) (HasKnownEvents libs own n) (read-at libs own (inl refl) new n) t k) fs was) (first-made own records imports codes) read (kept-first own records imports codes)) e
+    (each-implied WasRead (TreeHolds (HasKnownEvents libs own n)) (λ t k. tree_wider (λ c. c ≡ blank) (HasKnownEvents libs own n) (read-at libs own (inl refl) new n) t k) fs was) (first-made own records imports codes) read (kept-first own records imports codes)) e

@@ -1,5 +1,6 @@
 -- The planned item of a form of a body may be met.
 use Rattle.std.proofs.Common.{ℕ, zero, suc, Bool, true, false, List, Some, Result, arith}
+use Rattle.base_data.proofs.ElementLemmas.{each-and}
 use Rattle.base_data.specs.Act.{after}
 use Rattle.base_data.specs.declared.fault.Fault.{Fault}
 use Rattle.base_data.specs.declared.library.LibName.{LibName}
@@ -22,7 +23,6 @@ use Rattle.expand_forms.specs.ExpandUses.{next_form, too_many, at_use, set_item_
 use Rattle.expand_forms.specs.declared.expand_uses.ItemOrUse.{ItemOrUse}
 use Rattle.expand_forms.specs.declared.expand_uses.ItemOrUse.TheVariants as item_steps
 use Rattle.expand_forms.specs.declared.expand_uses.PlannedItem.{PlannedItem}
-use Rattle.law_fresh.proofs.Eachs.{each_and}
 use Rattle.law_fresh_expansion.specs.Living.{Lives}
 use Rattle.law_fresh_expansion.specs.States.{RecordsHold}
 use Rattle.law_fresh_expansion.proofs.Items as items
@@ -54,7 +54,7 @@ module _ (own : LibName) (K : ℕ → Mark → Type 0) (J : ℕ → FrameNo → 
 
   set-holds : (at : BodyAt) (depth : ℕ) (d : Taken) (t : Tree) (l : Label) (b : Bool) (s : State) → F s → TakenAt s.names.number d → T s.names.number t → Gave StepAt s (set_item_step at depth d t l b s)
   set-holds at depth d t l true s h k g = (same s h, k)
-  set-holds at depth d t l false s h k g = (same s h, (each_and (items.WaitingAt own K J P lives first s.names.number) d.waiting (waiting_at at depth (waits.Expression t)) k g, tt))
+  set-holds at depth d t l false s h k g = (same s h, (each-and (items.WaitingAt own K J P lives first s.names.number) d.waiting (waiting_at at depth (waits.Expression t)) k g, tt))
 
   steps-hold : (at : BodyAt) (depth : ℕ) (t : Tree) (d : Taken) (i : HeadItem) (s : State) → F s → TakenAt s.names.number d → T s.names.number t → items.HeadItemAt own K J P lives first s.names.number i → Gave StepAt s (item_step_of rs at depth t d i s)
   steps-hold at depth t d (head_items.Use k) s h j g y = (same s h, j)

@@ -1,6 +1,8 @@
 -- References that were taken name what their identifiers stand for in each later state.
 use Rattle.std.proofs.Common.{◌≡◌, ◌≤◌, ℕ, zero, suc, true, List, [], ◌∷◌, ◌++◌, Some, Result, Ok, Err, refl, sym, ◌∙◌, arith, inl, inr}
 use Rattle.std.specs.Prelude.{◌⊎◌}
+use Rattle.base_data.proofs.ElementLemmas.{each-append, each-implied}
+use Rattle.base_data.specs.Elements.{Among, Each}
 use Rattle.base_data.specs.declared.fault.Fault.{Fault}
 use Rattle.base_data.specs.declared.library.LibName.{LibName}
 use Rattle.base_data.specs.declared.library.LibName.TheVariants as library
@@ -16,8 +18,6 @@ use Rattle.core_language.specs.declared.record.CompiledLibrary.{CompiledLibrary}
 use Rattle.core_shapes.specs.Lists.{is_leaf}
 use Rattle.expand_standing.specs.InScope.{cut}
 use Rattle.expand_standing.specs.State.{State}
-use Rattle.law_hygiene.specs.Marked.{Among}
-use Rattle.eval_value.specs.Cells.{Each}
 use Rattle.expand_forms.specs.Expression.{inside}
 use Rattle.law_expand.specs.Named.{RefersTo}
 use Rattle.law_expand.specs.States.{IsOld, Later}
@@ -28,7 +28,6 @@ use Rattle.law_expand.proofs.Named.{leaf-stays}
 use Rattle.law_expand.specs.Kept.{IsKeptWith}
 use Rattle.law_expand.proofs.SpentOnStage.{Tells}
 use Rattle.law_fresh.specs.Leaves.{TreeHolds}
-use Rattle.law_fresh.proofs.Eachs.{each_both, each_mapped}
 use Rattle.law_fresh.proofs.Wider.{tree_wider}
 use Rattle.law_fresh_expansion.specs.Events.{HasKnownEvents}
 use Rattle.law_fresh_expansion.specs.Known.{IsKnown, IsKnownFrame, HasKnown, IsNewAmong}
@@ -108,13 +107,13 @@ module _ (libs : List LibName) (own : LibName) (core : Among libs library.Core) 
   }
 
   pub all-later : (s u : State) → Later own s u → (refs : List Reference) → Each (Kept s) refs → Each (Kept u) refs
-  all-later s u l refs h = each_mapped (Kept s) (Kept u) (λ r k. kept-later s u l r k) refs h
+  all-later s u l refs h = each-implied (Kept s) (Kept u) (λ r k. kept-later s u l r k) refs h
 
   kept-cut : (n : ℕ) (u : State) (r : Reference) → Kept u r → Kept (cut n u) r
   kept-cut n u r h = record { leafy = h.leafy; known = h.known; code = h.code; stood = h.stood; before = h.before; now = h.now }
 
   pub all-cut : (n : ℕ) (u : State) (refs : List Reference) → Each (Kept u) refs → Each (Kept (cut n u)) refs
-  all-cut n u refs h = each_mapped (Kept u) (Kept (cut n u)) (λ r k. kept-cut n u r k) refs h
+  all-cut n u refs h = each-implied (Kept u) (Kept (cut n u)) (λ r k. kept-cut n u r k) refs h
 
   -- an expression of a keyword, whose references name what their identifiers stood for to its end
   abbrev pub KeptExpression : KeywordExpression → Type 0
@@ -180,8 +179,8 @@ module _ (libs : List LibName) (own : LibName) (core : Among libs library.Core) 
     noted = both a.noted b.noted;
     is = f a.noted b.noted a.is b.is;
     all = (λ i. a.all i ++ b.all i) ∙ sym (named-joined a.noted.references b.noted.references);
-    kept = each_both (Kept u) a.noted.references b.noted.references (all-later v u l a.noted.references a.kept) b.kept;
-    expressions = each_both KeptExpression a.noted.expressions b.noted.expressions a.expressions b.expressions;
+    kept = each-append (Kept u) a.noted.references b.noted.references (all-later v u l a.noted.references a.kept) b.kept;
+    expressions = each-append KeptExpression a.noted.expressions b.noted.expressions a.expressions b.expressions;
     told = only-joined a.noted.expressions b.noted.expressions s v u a.told b.told;
   }
 
@@ -209,7 +208,7 @@ module _ (libs : List LibName) (own : LibName) (core : Among libs library.Core) 
   bound-joined R Q V s v u a b f = record {
     expressions = a.expressions ++ b.expressions;
     is = f a.expressions b.expressions a.is b.is;
-    kept = each_both KeptExpression a.expressions b.expressions a.kept b.kept;
+    kept = each-append KeptExpression a.expressions b.expressions a.kept b.kept;
     told = only-joined a.expressions b.expressions s v u a.told b.told;
   }
 
@@ -220,7 +219,7 @@ module _ (libs : List LibName) (own : LibName) (core : Among libs library.Core) 
     is = f a.expressions b.noted a.is b.is;
     all = e ∙ b.all;
     kept = b.kept;
-    expressions = each_both KeptExpression a.expressions b.noted.expressions a.kept b.expressions;
+    expressions = each-append KeptExpression a.expressions b.noted.expressions a.kept b.expressions;
     told = only-joined a.expressions b.noted.expressions s v u a.told b.told;
   }
 

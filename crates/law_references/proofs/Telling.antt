@@ -1,10 +1,9 @@
 -- What is kept of keywords while forms are planned, used and bound: no expression comes but that of a keyword whose transformer is evaluated.
-use Rattle.std.proofs.Common.{◌≡◌, ℕ, zero, suc, Bool, true, false, List, [], ◌∷◌, None, Some, Result, Ok, refl, ap, ◌∙◌, subst, if◌then◌else◌}
+use Rattle.std.proofs.Common.{◌≡◌, ℕ, zero, suc, Bool, true, false, List, [], ◌∷◌, None, Some, Result, Ok, refl, ap, ◌∙◌, if◌then◌else◌}
 use Rattle.std.specs.Prelude.{◌||◌, ◌&&◌, not}
 use Rattle.base_data.specs.Act.{after, give}
 use Rattle.base_data.specs.declared.fault.Fault.{Fault}
 use Rattle.base_data.specs.declared.fault.FaultKind.TheVariants as kind
-use Rattle.base_data.specs.declared.name.FrameNo.{FrameNo}
 use Rattle.base_data.specs.declared.name.Label.{Label}
 use Rattle.base_data.specs.declared.span.Span.{Span}
 use Rattle.stx_tree.specs.Changes.{stamp}
@@ -15,15 +14,15 @@ use Rattle.eval_pattern.specs.declared.compile.PatternVariable.{PatternVariable}
 use Rattle.core_quasi.specs.declared.quasi_syntax.Insert.{Insert}
 use Rattle.core_quasi.specs.declared.quasi_syntax.QuasiSyntax.{QuasiSyntax}
 use Rattle.expand_quasi.specs.Form.{code_of}
-use Rattle.expand_quasi.specs.Inserted.{dots, ellipsis, insert_variable, insert_variables, match_of, bind_inserts, inserted_in, inserted, syntax_code}
+use Rattle.expand_quasi.specs.Inserted.{insert_variable, insert_variables, match_of, bind_inserts, inserted_in, inserted, syntax_code}
 use Rattle.expand_quasi.specs.declared.form.QuasiForm.{QuasiForm}
 use Rattle.expand_quasi.specs.declared.form.QuasiForm.TheVariants as forms
 use Rattle.core_shapes.specs.At.{place_of}
 use Rattle.core_shapes.specs.declared.shape.BindingSpec.{BindingSpec}
 use Rattle.core_shapes.specs.declared.shape.Shape.{Shape}
 use Rattle.core_shapes.specs.declared.shape.Shape.TheVariants as shapes
-use Rattle.expand_standing.specs.Binders.{put_row, bind_variable}
-use Rattle.expand_standing.specs.Patterns.{template_of, bind_pattern}
+use Rattle.expand_standing.specs.Binders.{bind_variable}
+use Rattle.expand_standing.specs.Patterns.{template_of}
 use Rattle.expand_standing.specs.Standing.{standing_of}
 use Rattle.expand_standing.specs.State.{State, Does, fresh, fresh_frame, fault_word}
 use Rattle.expand_standing.specs.Uses.{bind_keyword, asks_variable}
@@ -52,13 +51,12 @@ use Rattle.expand_forms.specs.declared.expand_uses.PlanOrUse.{PlanOrUse}
 use Rattle.expand_forms.specs.declared.expand_uses.PlanOrUse.TheVariants as steps
 use Rattle.expand_forms.proofs.Linked.{linked-keeps}
 use Rattle.law_expand.proofs.Acts.{Gave, gave-after, gave-less, gave-if, gave-within, gave-each}
-use Rattle.law_expand.proofs.Inserts.{with_dots, IsNewThere, dots-put}
 use Rattle.law_expand.proofs.Items.{item-cases}
 use Rattle.law_expand.proofs.Plans.{plan-cases}
 use Rattle.law_expand.proofs.References.{Refers, AssignsBy, reference-is, assign-is}
-use Rattle.law_expand.specs.Kept.{IsKeptWith}
-use Rattle.law_expand.proofs.SpentBinding.{Same, variable-same, bind-pattern-same, keyword-told}
+use Rattle.law_expand.proofs.SpentBinding.{Same, variable-same, keyword-told}
 use Rattle.law_expand.proofs.SpentOnStage.{Tells, next-told, variable-told}
+use Rattle.law_expand.proofs.SparesQuasi.{inserts-same, same-told}
 use Rattle.law_references.proofs.Templating.{TemplateNames, template-of-names}
 
 -- no expression comes to be kept
@@ -68,9 +66,6 @@ Untold s a u = Tells s.keywords u.keywords
 pub told-self : (s : State) → Tells s.keywords s.keywords
 told-self s l c e = e
 
-pub told-same : (s u : State) → u.keywords ≡ s.keywords → Tells s.keywords u.keywords
-told-same s u same l c e = subst (λ ks. IsKeptWith ks l c) same e
-
 pub told-then : (s v u : State) → Tells s.keywords v.keywords → Tells v.keywords u.keywords → Tells s.keywords u.keywords
 told-then s v u h k l c e = h l c (k l c e)
 
@@ -79,12 +74,12 @@ pub then-told : {A B : Type 0} (s : State) (r : Result (A × State) Fault) (k : 
 then-told s r k h next = gave-after (Untold s) (Untold s) r k h (λ a v e. gave-less (Untold v) (Untold s) (k a v) (next a v) (λ b u f. told-then s v u e f))
 
 same-is-told : {A : Type 0} (s : State) (r : Result (A × State) Fault) → Gave (Same s) r → Gave (Untold s) r
-same-is-told s r h = gave-less (Same s) (Untold s) r h (λ a u e. told-same s u e)
+same-is-told s r h = gave-less (Same s) (Untold s) r h (λ a u e. same-told s u e)
 
 -- Templates.
 
 template-told : (place : Span) (level : ℕ) (t : Tree) (s : State) → Gave (Untold s) (template_of place level t s)
-template-told place level t s = gave-less (TemplateNames place level t s) (Untold s) (template_of place level t s) (template-of-names place level t s) (λ x u k. told-same s u (ap (λ (v : State). v.keywords) k.0))
+template-told place level t s = gave-less (TemplateNames place level t s) (Untold s) (template_of place level t s) (template-of-names place level t s) (λ x u k. same-told s u (ap (λ (v : State). v.keywords) k.0))
 
 -- Plans.
 
@@ -213,11 +208,6 @@ insert-variables-same : (is : List Insert) (s : State) → Gave (Same s) (insert
 unfolding fresh
 insert-variables-same is s = gave-each insert_variable (λ i t v u. Same t v u) (λ js t vs u. Same t vs u) (λ t. Unit {0}) (λ t k. refl) (λ i t k. refl) (λ i t u v k e. tt) (λ i js t u w v vs k e a. a ∙ e) is s tt
 
-bind-inserts-same : (f : FrameNo) (place : Span) (level : ℕ) (vs : List PatternVariable) (s : State) → Gave (Same s) (bind_inserts f place level vs s)
-bind-inserts-same f place level vs s =
-    gave-after (Same s) (Same s) (bind_pattern f place level vs s) (λ _. put_row dots place f ellipsis) (bind-pattern-same f place level vs s)
-    (λ x u e. gave-less (λ y v. (v ≡ with_dots f u) × IsNewThere f u) (Same s) (put_row dots place f ellipsis u) (dots-put f place u) (λ y v k. ap (λ (z : State). z.keywords) k.0 ∙ e))
-
 frame-told : (s : State) → Gave (Untold s) (fresh_frame s)
 unfolding fresh_frame
 frame-told s = told-self s
@@ -231,7 +221,7 @@ module _ (place : Span) (level : ℕ) (t : Tree) where
       within-told : (s : State) → Gave (Untold s) (after (fresh_frame s) (inserted_in place level t q cs))
       within-told s = then-told s (fresh_frame s) (inserted_in place level t q cs) (frame-told s)
           (λ f v. then-told v (insert_variables q.inserts v) (λ vs s'. after (bind_inserts f place level vs s') (λ _ s''. after (template_of place level (stamp f q.template) s'') (λ x. give (match_of vs x (place_of t place) cs)))) (same-is-told v (insert_variables q.inserts v) (insert-variables-same q.inserts v))
-          (λ vs w. then-told w (bind_inserts f place level vs w) (λ _ s''. after (template_of place level (stamp f q.template) s'') (λ x. give (match_of vs x (place_of t place) cs))) (same-is-told w (bind_inserts f place level vs w) (bind-inserts-same f place level vs w))
+          (λ vs w. then-told w (bind_inserts f place level vs w) (λ _ s''. after (template_of place level (stamp f q.template) s'') (λ x. give (match_of vs x (place_of t place) cs))) (same-is-told w (bind_inserts f place level vs w) (inserts-same f place level vs w))
           (λ x y. then-told y (template_of place level (stamp f q.template) y) (λ x. give (match_of vs x (place_of t place) cs)) (template-told place level (stamp f q.template) y) (λ x z. told-self z))))
 
   pub code-told : (q : QuasiForm) (cs : List PlainCore) (s : State) → Gave (Untold s) (code_of place level t q cs s)

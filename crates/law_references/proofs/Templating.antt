@@ -2,6 +2,8 @@
 use Rattle.std.proofs.Common.{◌≡◌, ℕ, zero, suc, ◌+◌, Bool, true, false, List, [], ◌∷◌, ◌++◌, length, Option, None, Some, Result, Ok, Err, refl, sym, ap, ◌∙◌, subst, arith, slice_get, nat_lt, append-nil, append_assoc, inl, inr, true≢false, if◌then◌else◌}
 use Rattle.std.specs.Prelude.{◌||◌, nat_eq}
 use Rattle.std.specs.Cmp.{unsigned_Decides}
+use Rattle.base_data.proofs.ElementLemmas.{each-first, each-last, each-append}
+use Rattle.base_data.specs.Elements.{Each}
 use Rattle.base_data.specs.Gives.{◌>>=◌}
 use Rattle.base_data.specs.declared.fault.Bare.{Bare}
 use Rattle.base_data.specs.declared.fault.Fault.{Fault}
@@ -23,10 +25,8 @@ use Rattle.expand_standing.specs.Patterns.{has_variables, first_outside, outside
 use Rattle.expand_standing.specs.Patterns as patterns
 use Rattle.expand_standing.specs.State.{State}
 use Rattle.eval_template.specs.Compile.{TemplateScope, variable_made, bound_made, label_made, is_special, leaf_made, TemplateElement, dots, dots_behind, reach, with_ellipses, fitted, item_made, Walked, step, walked, constant_of, template_of, items_of, is_fixed, is_changed, any_changed, tree_before, trees, rebuilt, placed, all_fixed, fixed_list, list_joined, fixed_vector, vector_joined, escape_of, unescaped, list_parts, list_made, vector_made, template, elements_made, tail_made, compiled}
-use Rattle.eval_value.specs.Cells.{Each}
 use Rattle.law_expand.proofs.Acts.{Gave, gave-if}
 use Rattle.law_expand.proofs.Templated.{list-template, vector-template}
-use Rattle.law_fresh.proofs.Eachs.{each_both}
 use Rattle.law_fresh.proofs.Trees.{OkHolds}
 use Rattle.law_references.specs.Namings.{namings, template_namings, item_namings}
 use Rattle.law_references.specs.Noted.{Reference, named}
@@ -118,14 +118,6 @@ good-if P false r q h k = k refl
 good-choice : {A X : Type 0} (P : X → A → Type 0) (b : Bool) (x y : X) (r q : Result A Fault) → (b ≡ true → OkHolds (P x) r) → (b ≡ false → OkHolds (P y) q) → OkHolds (P (if b then x else y)) (if b then r else q)
 good-choice P true x y r q h k = h refl
 good-choice P false x y r q h k = k refl
-
-each-first : {A : Type 0} (P : A → Type 0) (xs ys : List A) → Each P (xs ++ ys) → Each P xs
-each-first P [] ys h = tt
-each-first P (x ∷ xs) ys h = (h.0, each-first P xs ys h.1)
-
-each-last : {A : Type 0} (P : A → Type 0) (xs ys : List A) → Each P (xs ++ ys) → Each P ys
-each-last P [] ys h = h
-each-last P (x ∷ xs) ys h = each-last P xs ys h.1
 
 good-of : {A : Type 0} (P : A → Type 0) (r : Result A Fault) → ((a : A) → r ≡ Ok a → P a) → OkHolds P r
 good-of P (Ok x) h = h x refl
@@ -237,19 +229,19 @@ module _ (s : State) (place : Span) (level : ℕ) where
     variables-hold escaped (tree.leaf p x k) = leaf-hold escaped (tree.leaf p x k)
     variables-hold escaped (tree.pair p a d) =
         either-hold (is_escape s place level escaped a d) (variables_behind s place level true d) (variables_in s place level escaped a ++ variables_behind s place level escaped d) (behind-hold true d)
-        (each_both V (variables_in s place level escaped a) (variables_behind s place level escaped d) (variables-hold escaped a) (behind-hold escaped d))
+        (each-append V (variables_in s place level escaped a) (variables_behind s place level escaped d) (variables-hold escaped a) (behind-hold escaped d))
     variables-hold escaped (tree.vector p d) = elements-hold escaped d
 
     behind-hold : (escaped : Bool) (t : Tree) → Each V (variables_behind s place level escaped t)
     behind-hold escaped (tree.atom p a) = tt
     behind-hold escaped (tree.leaf p x k) = leaf-hold escaped (tree.leaf p x k)
-    behind-hold escaped (tree.pair p a d) = each_both V (variables_in s place level escaped a) (variables_behind s place level escaped d) (variables-hold escaped a) (behind-hold escaped d)
+    behind-hold escaped (tree.pair p a d) = each-append V (variables_in s place level escaped a) (variables_behind s place level escaped d) (variables-hold escaped a) (behind-hold escaped d)
     behind-hold escaped (tree.vector p d) = elements-hold escaped d
 
     elements-hold : (escaped : Bool) (t : Tree) → Each V (element_variables s place level escaped t)
     elements-hold escaped (tree.atom p a) = tt
     elements-hold escaped (tree.leaf p x k) = tt
-    elements-hold escaped (tree.pair p a d) = each_both V (variables_in s place level escaped a) (element_variables s place level escaped d) (variables-hold escaped a) (elements-hold escaped d)
+    elements-hold escaped (tree.pair p a d) = each-append V (variables_in s place level escaped a) (element_variables s place level escaped d) (variables-hold escaped a) (elements-hold escaped d)
     elements-hold escaped (tree.vector p d) = tt
 
   -- and some of its leaves, in their order
@@ -394,7 +386,7 @@ module _ (s : State) (place : Span) (level : ℕ) (root : Tree) where
   trees-more (j ∷ is) i h k =
       let parts = subst (λ (ts : List Tree). Each (LeavesHold Q) ts) (before-trees j.made (trees is)) h in
       subst (λ (ts : List Tree). Each (LeavesHold Q) ts) (sym (before-trees j.made (trees (is ++ i ∷ []))))
-      (each_both (LeavesHold Q) (trees_in j.made) (trees (is ++ i ∷ [])) (each-first (LeavesHold Q) (trees_in j.made) (trees is) parts) (trees-more is i (each-last (LeavesHold Q) (trees_in j.made) (trees is) parts) k))
+      (each-append (LeavesHold Q) (trees_in j.made) (trees (is ++ i ∷ [])) (each-first (LeavesHold Q) (trees_in j.made) (trees is) parts) (trees-more is i (each-last (LeavesHold Q) (trees_in j.made) (trees is) parts) k))
 
   more-names : (refs more : List Reference) (is : List MadeItem) (i : MadeItem) → AllNames refs is → ItemNames more i → AllNames (refs ++ more) (is ++ i ∷ [])
   more-names refs more is i h k = (

@@ -1,7 +1,9 @@
 -- What expansion gives is related to its form, and refers to what identifiers stand for, given that it is so inside forms.
 use Rattle.std.proofs.Common.{◌≡◌, ◌≤◌, ◌+◌, ℕ, Bool, true, false, List, [], ◌∷◌, ◌++◌, map, length, Option, None, Some, Result, Ok, refl, sym, ap, ◌∙◌, subst, arith, append-nil, append_assoc, inl, inr}
 use Rattle.std.specs.Prelude.{◌⊎◌}
+use Rattle.base_data.proofs.ElementLemmas.{each-append, each-implied}
 use Rattle.base_data.specs.Act.{after, give, each, gather}
+use Rattle.base_data.specs.Elements.{Among, Each}
 use Rattle.base_data.specs.declared.fault.Fault.{Fault}
 use Rattle.base_data.specs.declared.library.LibName.{LibName}
 use Rattle.base_data.specs.declared.library.LibName.TheVariants as library
@@ -41,8 +43,6 @@ use Rattle.expand_heads.specs.declared.taken.Taken.{Taken}
 use Rattle.expand_heads.specs.declared.taken.Waiting.{Waiting}
 use Rattle.expand_heads.specs.declared.taken.Waits.{Waits}
 use Rattle.expand_heads.specs.declared.taken.Waits.TheVariants as waits
-use Rattle.law_hygiene.specs.Marked.{Among}
-use Rattle.eval_value.specs.Cells.{Each}
 use Rattle.expand_forms.specs.Body.{splice, no_value, value_of, finish_as, finish_one, finish_all, sequence_of, inits_in, values_in, with_inits, body_core, finish, lambda_at, body_in, body}
 use Rattle.expand_forms.specs.Expression.{in_order, case_in, lambda_case, one_case, all_cases, one_init, all_inits, letrec_in, letrec_form, fender, clause_in, pattern_clause, all_clauses, inside}
 use Rattle.expand_forms.specs.Inside.{Inside}
@@ -57,8 +57,8 @@ use Rattle.law_expand.proofs.Changes.{Moves, inside-moves, moved-body, moved-cas
 use Rattle.law_expand.specs.Kept.{IsKeptWith}
 use Rattle.law_expand.proofs.SpentBinding.{Same, formals-same, specs-same, pattern-same, bind-pattern-same, keywords-told}
 use Rattle.law_expand.proofs.SpentOnStage.{Tells, TellsBut, finish-told}
+use Rattle.law_expand.proofs.SparesQuasi.{same-told}
 use Rattle.law_fresh.specs.Leaves.{OptionHolds, TreeHolds, CoreHolds, LineHolds}
-use Rattle.law_fresh.proofs.Eachs.{each_both, each_mapped}
 use Rattle.law_fresh_expansion.specs.Events.{HasKnownEvents}
 use Rattle.law_fresh_expansion.specs.Forms.{WaitsHold, TakenHolds}
 use Rattle.law_fresh_expansion.specs.Known.{IsKnown, IsKnownFrame, IsNewAmong}
@@ -78,7 +78,7 @@ use Rattle.law_references.specs.Namings.{Naming, namings, all_namings, init_nami
 use Rattle.law_references.specs.Whole.{KeepsOnly}
 use Rattle.law_references.proofs.Staying as staying
 use Rattle.law_references.proofs.Templating.{named-joined}
-use Rattle.law_references.proofs.Telling.{told-self, told-same, told-then}
+use Rattle.law_references.proofs.Telling.{told-self, told-then}
 
 -- What parts mention.
 
@@ -107,7 +107,7 @@ line-said (line.Expr c) = namings c
 
 -- what bindings and patterns keep of keywords
 told-by : {A : Type 0} (s v : State) (r : Result (A × State) Fault) (x : A) → Gave (Same s) r → r ≡ Ok (x, v) → Tells s.keywords v.keywords
-told-by s v r x h e = told-same s v (told (Same s) r x v h e)
+told-by s v r x h e = same-told s v (told (Same s) r x v h e)
 
 with-inits-said : (is : List Init) (c : PlainCore) → namings (with_inits is c) ≡ init_namings (inits is) ++ namings c
 with-inits-said [] c = refl
@@ -250,7 +250,7 @@ module _ (libs : List LibName) (own : LibName) (core : Among libs library.Core) 
               subst (λ (r : Result (List A × State) Fault). Gave (AllMade (x ∷ xs) s) r) (sym (each-cons step x xs s))
               (gave-after (λ a u. Went s u × Made (One x s a u) (m a) s u) (AllMade (x ∷ xs) s) (step x s) (λ a t. after (each step [] xs t) (λ ys. give (a ∷ ys))) (one x s h k.0)
               (λ a v w. gave-after (AllMade xs v) (AllMade (x ∷ xs) s) (each step [] xs v) (λ ys. give (a ∷ ys))
-              (each-went xs v (goes s v h w.0) (each_mapped (Known s.names.number) (Known v.names.number) (up s.names.number v.names.number w.0.from.stage.up) xs k.1))
+              (each-went xs v (goes s v h w.0) (each-implied (Known s.names.number) (Known v.names.number) (up s.names.number v.names.number w.0.from.stage.up) xs k.1))
               (λ made u z. (
                 staying.went-then libs own core new first s v u w.0 z.0,
                 staying.made-so libs own core new (All (x ∷ xs) s (a ∷ made) u) (All (x ∷ xs) s (a ∷ made) u) (m a ++ ms made) (ms (a ∷ made)) s u
@@ -314,7 +314,7 @@ module _ (libs : List LibName) (own : LibName) (core : Among libs library.Core) 
                 lines = ap (λ xs. x ∷ xs) z.1.lines;
                 ends = next_line y.1.is z.1.ends;
                 right = ((y.1.all, staying.all-later libs own core new v u z.0.later y.1.noted.references y.1.kept), z.1.right);
-                expressions = each_both (staying.KeptExpression libs own core new) y.1.noted.expressions (of_lines z.1.told) y.1.expressions z.1.expressions;
+                expressions = each-append (staying.KeptExpression libs own core new) y.1.noted.expressions (of_lines z.1.told) y.1.expressions z.1.expressions;
                 kept = staying.only-joined libs own core new y.1.noted.expressions (of_lines z.1.told) s v u y.1.told z.1.kept;
               },
             ))))
@@ -335,7 +335,7 @@ module _ (libs : List LibName) (own : LibName) (core : Among libs library.Core) 
             (λ x u q. record {
               expressions = h.noted.expressions ++ e ∷ [];
               is = means h.is q.1;
-              kept = each_both (staying.KeptExpression libs own core new) h.noted.expressions (e ∷ []) h.expressions ((h.all, h.kept), tt);
+              kept = each-append (staying.KeptExpression libs own core new) h.noted.expressions (e ∷ []) h.expressions ((h.all, h.kept), tt);
               told = staying.only-joined libs own core new h.noted.expressions (e ∷ []) s w u (λ l d k. h.told l d k) (λ l d k. last w.keywords h.noted.references l d (q.0 l d k));
             })
           where
@@ -372,7 +372,7 @@ module _ (libs : List LibName) (own : LibName) (core : Among libs library.Core) 
             (staying.gave-and libs own core new first (λ n e. Unit {0}) (λ e v. MeansMade place level x s v) s (keywords.expand_transformer go (site_at place level depth) x s)
             (forms.keyword-holds own K J P lives first go keeps place level depth x s h (seen-known recursive f b s.names.number k.0)) (means-made place level depth x s h (seen-known recursive f b s.names.number k.0)))
             (λ e v z. gave-less (λ d u. Bound (λ es. Mean rs place level recursive f bs v u es) v u) (λ d u. Bound (λ es. Mean rs place level recursive f (b ∷ bs) s u es) s u) (expand_transformers go (site_at place level depth) recursive f bs v)
-            (mean-made place level depth recursive f bs v (from-to s v h z.0.0) (each_mapped (InFrame f s.names.number) (InFrame f v.names.number) (forms.bound-in-up own K J P lives first f s.names.number v.names.number z.0.0.stage.up) bs k.1))
+            (mean-made place level depth recursive f bs v (from-to s v h z.0.0) (each-implied (InFrame f s.names.number) (InFrame f v.names.number) (forms.bound-in-up own K J P lives first f s.names.number v.names.number z.0.0.stage.up) bs k.1))
             (λ d u y. staying.bound-joined libs own core new (λ es. KeywordMeans rs place level x s v es) (λ es. Mean rs place level recursive f bs v u es) (λ es. Mean rs place level recursive f (b ∷ bs) s u es) s v u z.1 y (λ es others i j. keyword i j)))
 
         -- keywords, with the forms in which they stand
@@ -389,7 +389,7 @@ module _ (libs : List LibName) (own : LibName) (core : Among libs library.Core) 
             (gave-after (λ xs v. ((FreshStateHolds own K P (counted s).names.number v × Each (standing.BoundHolds own K J P lives first v.names.number) xs) × (bound ≡ Ok (xs, v))) × Tells (counted s).keywords v.keywords) (λ x u. KeywordsMade place level recursive bs fs s (map (stamp f) fs) u) bound (expand_transformers go (site_at place level depth) recursive f)
             (gave-both (λ xs v. (FreshStateHolds own K P (counted s).names.number v × Each (standing.BoundHolds own K J P lives first v.names.number) xs) × (bound ≡ Ok (xs, v))) (λ xs v. Tells (counted s).keywords v.keywords) bound
             (staying.gave-from libs own core new first (λ n xs. Each (standing.BoundHolds own K J P lives first n) xs) (counted s) bound
-            (standing.bind-keywords-holds own K J P lives first f place level bs (counted s) hs (each_mapped (standing.SpecAt own K J P lives first s.names.number) (standing.SpecAt own K J P lives first (s.names.number + 1)) (standing.spec-up own K J P lives first s.names.number (s.names.number + 1) (one-more s)) bs k)))
+            (standing.bind-keywords-holds own K J P lives first f place level bs (counted s) hs (each-implied (standing.SpecAt own K J P lives first s.names.number) (standing.SpecAt own K J P lives first (s.names.number + 1)) (standing.spec-up own K J P lives first s.names.number (s.names.number + 1) (one-more s)) bs k)))
             (keywords-told f place level bs (counted s)))
             (λ xs v z. gave-less (λ x u. Bound (λ es. Mean rs place level recursive f xs v u es) v u) (λ x u. KeywordsMade place level recursive bs fs s (map (stamp f) fs) u) (expand_transformers go (site_at place level depth) recursive f xs v)
             (mean-made place level depth recursive f xs v (from-to (counted s) v hs z.0.0.0)
@@ -438,7 +438,7 @@ module _ (libs : List LibName) (own : LibName) (core : Among libs library.Core) 
 
         definitions-kept : (xs : List NotedLine) (u : State) → Each (TellsLine u) xs → Each (Kept u) (of_definitions xs)
         definitions-kept [] u h = tt
-        definitions-kept (x ∷ xs) u h = each_both (Kept u) (if_definition x.line x.noted.references) (of_definitions xs) (by x.line) (definitions-kept xs u h.1)
+        definitions-kept (x ∷ xs) u h = each-append (Kept u) (if_definition x.line x.noted.references) (of_definitions xs) (by x.line) (definitions-kept xs u h.1)
           where
             by : (l : Line) → Each (Kept u) (if_definition l x.noted.references)
             by (line.Define l c) = h.0.1
@@ -446,7 +446,7 @@ module _ (libs : List LibName) (own : LibName) (core : Among libs library.Core) 
 
         expressions-kept : (xs : List NotedLine) (u : State) → Each (TellsLine u) xs → Each (Kept u) (of_expressions xs)
         expressions-kept [] u h = tt
-        expressions-kept (x ∷ xs) u h = each_both (Kept u) (if_expression x.line x.noted.references) (of_expressions xs) (by x.line) (expressions-kept xs u h.1)
+        expressions-kept (x ∷ xs) u h = each-append (Kept u) (if_expression x.line x.noted.references) (of_expressions xs) (by x.line) (expressions-kept xs u h.1)
           where
             by : (l : Line) → Each (Kept u) (if_expression l x.noted.references)
             by (line.Define l c) = tt
@@ -484,8 +484,8 @@ module _ (libs : List LibName) (own : LibName) (core : Among libs library.Core) 
               noted = of_body es xs;
               is = is_body depth z.1.is y.1.1.ends;
               all = body-said xs u y.1.1.right;
-              kept = staying.all-cut libs own core new n u (of_definitions xs ++ of_expressions xs) (each_both (Kept u) (of_definitions xs) (of_expressions xs) (definitions-kept xs u y.1.1.right) (expressions-kept xs u y.1.1.right));
-              expressions = each_both (staying.KeptExpression libs own core new) es (of_lines xs) z.1.kept y.1.1.expressions;
+              kept = staying.all-cut libs own core new n u (of_definitions xs ++ of_expressions xs) (each-append (Kept u) (of_definitions xs) (of_expressions xs) (definitions-kept xs u y.1.1.right) (expressions-kept xs u y.1.1.right));
+              expressions = each-append (staying.KeptExpression libs own core new) es (of_lines xs) z.1.kept y.1.1.expressions;
               told = staying.only-joined libs own core new es (of_lines xs) s v u (λ l d e. z.1.told l d e) y.1.1.kept;
             }))))
 
@@ -560,7 +560,7 @@ module _ (libs : List LibName) (own : LibName) (core : Among libs library.Core) 
             gave-within (PlanMade place level t (plans.Letrec star bs fs) s) (λ v. after (fresh_frame v) (letrec_in go (site_at place level depth) (letrec_parts t star bs fs))) s
             (gave-after (λ ls v. (FreshStateHolds own K P (counted s).names.number v × Each (standing.BoundHolds own K J P lives first v.names.number) ls) × (bound ≡ Ok (ls, v))) So bound _
             (staying.gave-from libs own core new first (λ n ls. Each (standing.BoundHolds own K J P lives first n) ls) (counted s) bound
-            (standing.bind-specs-holds own K J P lives first f place level bs (counted s) hs (each_mapped (standing.SpecAt own K J P lives first s.names.number) (standing.SpecAt own K J P lives first (s.names.number + 1)) (standing.spec-up own K J P lives first s.names.number (s.names.number + 1) one) bs k)))
+            (standing.bind-specs-holds own K J P lives first f place level bs (counted s) hs (each-implied (standing.SpecAt own K J P lives first s.names.number) (standing.SpecAt own K J P lives first (s.names.number + 1)) (standing.spec-up own K J P lives first s.names.number (s.names.number + 1) one) bs k)))
             (λ ls v z.
             let hv = from-to (counted s) v hs z.0.0 in
             let up : s.names.number + 1 ≤ v.names.number = z.0.0.stage.up in

@@ -1,6 +1,8 @@
 -- The references of whole forms.
 use Rattle.std.proofs.Common.{◌≡◌, ℕ, true, List, Option, None, Some, refl, sym, ◌∙◌, subst, true≢false}
 use Rattle.std.specs.Prelude.{option_map}
+use Rattle.base_data.proofs.ElementLemmas.{each-implied}
+use Rattle.base_data.specs.Elements.{Among, Each}
 use Rattle.base_data.specs.declared.library.LibName.{LibName}
 use Rattle.base_data.specs.declared.library.LibName.TheVariants as library
 use Rattle.base_data.specs.declared.span.Span.{Span}
@@ -13,14 +15,11 @@ use Rattle.stx_scope.specs.Stands.{stands, symbol_of}
 use Rattle.core_shapes.specs.Lists.{is_leaf}
 use Rattle.expand_standing.specs.State.{State}
 use Rattle.law_hygiene.specs.Binder.{binder_of, Captures}
-use Rattle.law_hygiene.specs.Marked.{Among}
 use Rattle.law_hygiene.proofs.Rowing.{label_by-row}
-use Rattle.eval_value.specs.Cells.{Each}
 use Rattle.expand_forms.specs.Expression.{inside}
 use Rattle.expand_forms.specs.Site.{site_at}
 use Rattle.law_expand.proofs.Acts.{told}
 use Rattle.law_fresh.specs.Leaves.{TreeHolds}
-use Rattle.law_fresh.proofs.Eachs.{each_mapped}
 use Rattle.law_fresh_expansion.specs.Events.{HasKnownEvents}
 use Rattle.law_fresh_expansion.specs.Known.{IsNewAmong}
 use Rattle.law_references.specs.Noted.{Reference, KeywordExpression}
@@ -65,14 +64,14 @@ module _ (libs : List LibName) (own : LibName) (core : Among libs library.Core) 
   right-so u r h = record { code = h.code; stood = h.stood; captured = captured-so r.state.names.number u r.leaf r.label h.leafy h.known h.now }
 
   pub all-right : (u : State) (refs : List Reference) → Each (Kept libs own core new u) refs → Each (IsRightReference libs own u) refs
-  all-right u refs h = each_mapped (Kept libs own core new u) (IsRightReference libs own u) (right-so u) refs h
+  all-right u refs h = each-implied (Kept libs own core new u) (IsRightReference libs own u) (right-so u) refs h
 
   -- so are expressions of keywords
   right-expression : (e : KeywordExpression) → KeptExpression libs own core new e → IsRightExpression libs own e
   right-expression e h = record { all = h.0; mentions = mentions-named e.code e.references h.0; right = all-right e.state e.references h.1 }
 
   pub all-expressions : (es : List KeywordExpression) → Each (KeptExpression libs own core new) es → Each (IsRightExpression libs own) es
-  all-expressions es h = each_mapped (KeptExpression libs own core new) (IsRightExpression libs own) right-expression es h
+  all-expressions es h = each-implied (KeptExpression libs own core new) (IsRightExpression libs own) right-expression es h
 
 pub forms-hygienic : FormsAreHygienic
 forms-hygienic libs own records room place level depth t s u c core new holds held has e =

@@ -1,5 +1,6 @@
 -- What the history of a leaf tells of the binder that captures it: the two sentences of hygiene (Dybvig, Hieb and Bruggeman 1992).
 use Rattle.std.specs.Prelude.{◌≡◌, ◌⊎◌, ℕ, List, ◌∷◌, ◌++◌, Option}
+use Rattle.base_data.specs.Elements.{Among}
 use Rattle.base_data.specs.declared.library.LibName.{LibName}
 use Rattle.base_data.specs.declared.name.FrameNo.{FrameNo}
 use Rattle.base_data.specs.declared.name.Mark.{Mark}
@@ -10,7 +11,6 @@ use Rattle.stx_frames.specs.Rows.{Row}
 use Rattle.stx_frames.specs.Scope.{Scope}
 use Rattle.law_hygiene.specs.Binder.{Captures, IsOfUse}
 use Rattle.law_hygiene.specs.History.{Event, introduced, after}
-use Rattle.law_hygiene.specs.Marked.{Among}
 use Rattle.law_fresh_expansion.specs.Events.{HasKnownEvents}
 
 -- one of these events was that the use of m introduced the leaf

@@ -1,5 +1,6 @@
 -- Which leaves of what a use gives it introduced.
 use Rattle.std.specs.Prelude.{◌≡◌, ◌⊎◌, List, Option, Ok, IsTrue}
+use Rattle.base_data.specs.Elements.{Among}
 use Rattle.base_data.specs.declared.library.LibName.{LibName}
 use Rattle.base_data.specs.declared.library.LibName.TheVariants as library
 use Rattle.base_data.specs.declared.name.FrameNo.{FrameNo}
@@ -15,7 +16,6 @@ use Rattle.eval_stage.specs.Uses.{transform_marked}
 use Rattle.expand_standing.specs.RecordUses.{record_marked}
 use Rattle.expand_standing.specs.State.{State}
 use Rattle.eval_value.specs.declared.value.Value.{Value}
-use Rattle.law_hygiene.specs.Marked.{Among}
 use Rattle.law_fresh.specs.Leaves.{TreeHolds, ValueHolds}
 use Rattle.law_fresh_expansion.specs.Known.{IsKnown, HasKnown, IsNewAmong}
 use Rattle.law_fresh_expansion.specs.States.{StageHolds, FreshStateHolds}

@@ -1,5 +1,7 @@
 -- The references of a library's record.
 use Rattle.std.specs.Prelude.{◌≡◌, ℕ, List, [], ◌∷◌, ◌++◌, map, Some, Ok}
+use Rattle.base_data.specs.Elements.{Each}
+use Rattle.base_data.specs.declared.imported_name.ImportedName.{ImportedName}
 use Rattle.base_data.specs.declared.library.LibName.{LibName}
 use Rattle.base_data.specs.declared.name.FrameNo.{FrameNo}
 use Rattle.base_data.specs.declared.name.Label.{Label}
@@ -19,7 +21,6 @@ use Rattle.expand_standing.specs.Start.{started}
 use Rattle.expand_standing.specs.State.{State}
 use Rattle.expand_heads.specs.Items.{begun}
 use Rattle.expand_heads.specs.declared.taken.Taken.{Taken}
-use Rattle.eval_value.specs.Cells.{Each}
 use Rattle.expand_forms.specs.Expanding.{ready, body_of, library_record}
 use Rattle.expand_forms.specs.Expression.{inside, full_room}
 use Rattle.expand_forms.specs.Top as top
@@ -54,14 +55,14 @@ IsBoundTo es l _ = Unit {0}
 
 -- An export has the name that its clause gives it, and the label that the identifier of the clause stood for behind the first pass over the body and
 -- stands for at the end. It was read, so no binder that a use introduced captures it.
-pub record IsRightExport (libs : List LibName) (own : LibName) (first last : State) (f : FrameNo) (e : List ℕ × Tree) (x : List ℕ × Label) : Type 0 where
-  pub name : x.0 ≡ e.0
-  pub stood : stands first.frames (stamp f e.1) ≡ Some x.1
-  pub captured : IsCaptured libs own first.names.number last (stamp f e.1) x.1
+pub record IsRightExport (libs : List LibName) (own : LibName) (first last : State) (f : FrameNo) (e : List ℕ × Tree) (x : ImportedName) : Type 0 where
+  pub name : x.name ≡ e.0
+  pub stood : stands first.frames (stamp f e.1) ≡ Some x.label
+  pub captured : IsCaptured libs own first.names.number last (stamp f e.1) x.label
   pub unmarked : captured.row.marks ≡ []
 
 -- so it is of each, in the order of the clauses
-abbrev pub AreRightExports : List LibName → LibName → State → State → FrameNo → List (List ℕ × Tree) → List (List ℕ × Label) → Type 0
+abbrev pub AreRightExports : List LibName → LibName → State → State → FrameNo → List (List ℕ × Tree) → List ImportedName → Type 0
 AreRightExports libs own first last f [] [] = Unit {0}
 AreRightExports libs own first last f (e ∷ es) (x ∷ xs) = IsRightExport libs own first last f e x × AreRightExports libs own first last f es xs
 AreRightExports libs own first last f [] (x ∷ xs) = ⊥
@@ -75,7 +76,7 @@ pub record RunIsRight (libs : List LibName) (own : LibName) (records : List Comp
   pub taken : Taken
   pub first : State
   pub bound : List KeywordExpression
-  pub exported : List (List ℕ × Label)
+  pub exported : List ImportedName
   pub between : State
   pub told : List NotedLine
   pub last : State
@@ -93,7 +94,7 @@ pub record RunIsRight (libs : List LibName) (own : LibName) (records : List Comp
 
 -- So it is of the record of each library with a new name, behind records and codes of texts whose leaves have histories.
 abbrev pub RecordsAreHygienic : Type 0
-RecordsAreHygienic = (own : LibName) (path : List ℕ) (records : List CompiledLibrary) (imports : List (List ℕ × Label)) (version : List ℕ)
+RecordsAreHygienic = (own : LibName) (path : List ℕ) (records : List CompiledLibrary) (imports : List ImportedName) (version : List ℕ)
     (place : Span) (exports : List (List ℕ × Tree)) (forms : List Tree) (codes : Codes) (r : CompiledLibrary)
     → IsNewAmong (libraries_of records) own → Each (RecordHasOnly HasEvents (libraries_of records)) records
     → CodesHold (HasOnly HasEvents (libraries_of records)) codes → Each WasRead forms → Each (λ (e : List ℕ × Tree). WasRead e.1) exports

@@ -1,5 +1,6 @@
 -- The identifiers of a template: each of its pattern variables is an identifier of the form that stands for it, and its other identifiers are left as they are.
 use Rattle.std.specs.Prelude.{◌≡◌, ◌⊎◌, ℕ, nat_eq, Bool, true, false, List, [], ◌∷◌, ◌++◌, Option, None, Some, if◌then◌else◌}
+use Rattle.base_data.specs.Elements.{Each}
 use Rattle.base_data.specs.declared.name.Label.{Label}
 use Rattle.base_data.specs.declared.span.Span.{Span}
 use Rattle.stx_tree.specs.Context.{LeafContext}
@@ -15,7 +16,6 @@ use Rattle.eval_pattern.specs.Keywords.{is_ellipsis}
 use Rattle.core_shapes.specs.Lists.{is_nil}
 use Rattle.expand_standing.specs.State.{State}
 use Rattle.eval_template.specs.Compile.{is_special}
-use Rattle.eval_value.specs.Cells.{Each}
 use Rattle.law_references.specs.Namings.{template_namings}
 use Rattle.law_references.specs.Noted.{Reference, named}
 

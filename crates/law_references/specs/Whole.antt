@@ -1,5 +1,6 @@
 -- The references of a whole expansion.
 use Rattle.std.specs.Prelude.{◌≡◌, ◌⊎◌, ℕ, List, Option, Some, Ok}
+use Rattle.base_data.specs.Elements.{Among, Each}
 use Rattle.base_data.specs.declared.library.LibName.{LibName}
 use Rattle.base_data.specs.declared.library.LibName.TheVariants as library
 use Rattle.base_data.specs.declared.name.Label.{Label}
@@ -18,8 +19,6 @@ use Rattle.core_language.specs.declared.record.CompiledLibrary.{CompiledLibrary}
 use Rattle.eval_stage.specs.Stage.{expression_of}
 use Rattle.expand_standing.specs.State.{State, stage_of}
 use Rattle.law_hygiene.specs.Binder.{Captures}
-use Rattle.law_hygiene.specs.Marked.{Among}
-use Rattle.eval_value.specs.Cells.{Each}
 use Rattle.expand_forms.specs.Expression.{inside}
 use Rattle.expand_forms.specs.Site.{site_at}
 use Rattle.law_expand.specs.Named.{RefersTo}

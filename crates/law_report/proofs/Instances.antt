@@ -1,5 +1,5 @@
 -- An instance is what the report says, or lengths differ.
-use Rattle.std.proofs.Common.{◌≡◌, ℕ, zero, suc, ◌+◌, ◌-◌, ◌<◌, ◌≤◌, Bool, true, false, List, [], ◌∷◌, ◌++◌, length, take, slice_get, Option, Some, None, Result, Ok, Err, refl, ap, sym, ◌∙◌, subst, append-nil, append_assoc, arith, inl, inr, if◌then◌else◌}
+use Rattle.std.proofs.Common.{◌≡◌, ℕ, zero, suc, ◌+◌, ◌-◌, ◌<◌, ◌≤◌, Bool, true, false, List, [], ◌∷◌, ◌++◌, length, slice_get, Option, Some, None, Result, Ok, Err, refl, ap, sym, ◌∙◌, subst, append-nil, append_assoc, arith, inl, inr, if◌then◌else◌}
 use Rattle.std.specs.Prelude.{◌⊎◌, nat_eq, nat_lt}
 use Rattle.std.specs.Cmp.{unsigned_Decides}
 use Rattle.std.proofs.lemmas.Bool.{eqb-true, ltb-true, ltb-false}
@@ -25,6 +25,7 @@ use Rattle.eval_template.specs.Lengths.{lengths, items_lengths, differing, agree
 use Rattle.eval_template.specs.Instance.{then_add, turned, item, counts, is_end, ending, instance, parts}
 use Rattle.law_templates.specs.Ready.{HasDepth}
 use Rattle.law_templates.proofs.Sight.{Sees, AllSeen, ItemsSeen, agreed_all, seen_next, seen_ready}
+use Rattle.law_templates.proofs.Alikes.{take_get}
 use Rattle.law_report.specs.Instances.{HasBinds, IsTurn, IsReached, IsSeen, HasLength, AreLengths, AreItemLengths, AllAre, IsAgreed, IsListed, IsNil, IsInstance, IsEnd, AreInstances, AreRepeated, AreTurns, IsItem, AreUneven, IsUneven, InstancesAreGiven}
 use Rattle.law_report.specs.Instances as r
 
@@ -128,19 +129,13 @@ agrees m (n ∷ ns) = by (nat_eq m n) refl (agree (Some m) ns) (agrees m ns)
 
 -- Cells that are kept.
 
-take-get : (m : ℕ) (cells : List Cell) (n : ℕ) (c : Cell) → slice_get (take m cells) n ≡ Some c → slice_get cells n ≡ Some c
-take-get zero cells n c h = absurd (let f : ⊥ = cc in f)
-take-get (suc m) [] n c h = absurd (let f : ⊥ = cc in f)
-take-get (suc m) (x ∷ cells) zero c h = h
-take-get (suc m) (x ∷ cells) (suc n) c h = take-get m cells n c h
-
 module _ (binds : Binds) (x y : List Cell) (k : Keeps x y) where
   kept : {A : Type 0} (look : Option Cell → Option A) (v : A) (n : ℕ) → look None ≡ None → look (slice_get x n) ≡ Some v → look (slice_get y n) ≡ Some v
   kept {A} look v n empty e = go (slice_get x n) refl e
     where
       go : (o : Option Cell) → slice_get x n ≡ o → look o ≡ Some v → look (slice_get y n) ≡ Some v
       go None f g = absurd (let h : None ≡ Some v = sym empty ∙ g in let z : ⊥ = cc in z)
-      go (Some c) f g = ap look (take-get (length x) y n c (ap (λ cells. slice_get cells n) k ∙ f)) ∙ g
+      go (Some c) f g = ap look (take_get (length x) y n c (ap (λ cells. slice_get cells n) k ∙ f)) ∙ g
 
   still-listed : {xs : List Value} {w v : Value} → IsListed x xs w v → IsListed y xs w v
   still-listed r.listed_none = r.listed_none

@@ -3,7 +3,6 @@ use Rattle.std.proofs.Common.{◌≡◌, ℕ, suc, ◌+◌, true, List, [], ◌�
 use Rattle.std.specs.Prelude.{flat_map, option_map}
 use Rattle.base_data.specs.declared.atom.Atom.{Atom}
 use Rattle.base_data.specs.declared.atom.Atom.TheVariants.{Str}
-use Rattle.base_data.specs.declared.name.Label.{Label}
 use Rattle.stx_tree.specs.Tree.{Tree, atom, leaf, pair, vector}
 use Rattle.stx_frames.specs.Scope.{Scope}
 use Rattle.core_language.specs.Pattern.{PlainPattern, PlainPatterns, none, more, dots}
@@ -13,7 +12,7 @@ use Rattle.eval_value.specs.declared.cell.Cell.{Cell}
 use Rattle.eval_value.specs.declared.value.Value.{Value}
 use Rattle.eval_value.specs.declared.value.Value.TheVariants as value
 use Rattle.eval_pattern.specs.Values.{atom_of, is_alike, vector_of}
-use Rattle.eval_pattern.specs.Columns.{empty_columns, with_bind, grown, closed}
+use Rattle.eval_pattern.specs.Columns.{empty_columns, closed}
 use Rattle.eval_pattern.specs.Matched.{matched, nothing, limit, one_more}
 use Rattle.eval_pattern.specs.Matched as matching
 use Rattle.eval_pattern.specs.declared.columns.Column.{Column}
@@ -22,7 +21,7 @@ use Rattle.law_matches.specs.Matches.{Bindings, pair_of, stacked}
 use Rattle.law_matches.specs.Matches as m
 use Rattle.law_matches.proofs.Sound.{rightly}
 use Rattle.law_templates.specs.Repeating.{variables}
-use Rattle.law_templates.proofs.Columns.{labels, column_labels, labels_none, AllLong, long_none, RowsFit, rows_fit}
+use Rattle.law_templates.proofs.Columns.{labels, column_labels, labels_none, AllLong, long_none, RowsFit, rows_fit, zipped, grown-zipped, none_some, tails_same}
 use Rattle.law_report.specs.Matching.{IsAtom, plain_atom, written_atom, stored_string, IsPairValue, stored_pair, written_pair, IsVectorValue, stored_vector, written_vector, RefersAs, refers, Begins, IsLast, first_bind, gathered, MatchesPattern, FillsElements, RepeatsPattern, IsRight}
 use Rattle.law_report.specs.Matching as r
 
@@ -118,32 +117,16 @@ abbrev with-rows : List Column → List Bindings → Bindings
 with-rows [] rows = []
 with-rows (c ∷ cols) rows = (c.label, many (turns (c.binds ++ flat_map first_bind rows))) ∷ with-rows cols (map (drop 1) rows)
 
-abbrev zipped : List Column → Bindings → List Column
-zipped [] row = []
-zipped (c ∷ cols) [] = []
-zipped (c ∷ cols) (b ∷ row) = with_bind c b.1 ∷ zipped cols row
-
-grown-zipped : (done cols : List Column) (row : Bindings) → grown done cols row ≡ done ++ zipped cols row
-grown-zipped done [] row = sym (append-nil done)
-grown-zipped done (c ∷ cols) [] = sym (append-nil done)
-grown-zipped done (c ∷ cols) (b ∷ row) = grown-zipped (done ++ with_bind c b.1 ∷ []) cols row ∙ append_assoc done (with_bind c b.1 ∷ []) (zipped cols row)
-
-none-some : (x : Label) (xs : List Label) → [] ≡ x ∷ xs → ⊥
-none-some x xs e = cc
-
-tails-same : (x y : Label) (xs ys : List Label) → x ∷ xs ≡ y ∷ ys → xs ≡ ys
-tails-same x y xs ys e = cc
-
 zipped-labels : (cols : List Column) (row : Bindings) → labels row ≡ column_labels cols → column_labels (zipped cols row) ≡ column_labels cols
 zipped-labels [] row h = refl
-zipped-labels (c ∷ cols) [] h = absurd (none-some c.label (column_labels cols) h)
-zipped-labels (c ∷ cols) (b ∷ row) h = ap (λ ls. c.label ∷ ls) (zipped-labels cols row (tails-same b.0 c.label (labels row) (column_labels cols) h))
+zipped-labels (c ∷ cols) [] h = absurd (none_some c.label (column_labels cols) h)
+zipped-labels (c ∷ cols) (b ∷ row) h = ap (λ ls. c.label ∷ ls) (zipped-labels cols row (tails_same b.0 c.label (labels row) (column_labels cols) h))
 
 zipped-rows : (cols : List Column) (row : Bindings) (rows : List Bindings) → labels row ≡ column_labels cols → with-rows (zipped cols row) rows ≡ with-rows cols (row ∷ rows)
 zipped-rows [] row rows h = refl
-zipped-rows (c ∷ cols) [] rows h = absurd (none-some c.label (column_labels cols) h)
+zipped-rows (c ∷ cols) [] rows h = absurd (none_some c.label (column_labels cols) h)
 zipped-rows (c ∷ cols) (b ∷ row) rows h =
-    λ i. (c.label, many (turns (append_assoc c.binds (b.1 ∷ []) (flat_map first_bind rows) i))) ∷ zipped-rows cols row (map (drop 1) rows) (tails-same b.0 c.label (labels row) (column_labels cols) h) i
+    λ i. (c.label, many (turns (append_assoc c.binds (b.1 ∷ []) (flat_map first_bind rows) i))) ∷ zipped-rows cols row (map (drop 1) rows) (tails_same b.0 c.label (labels row) (column_labels cols) h) i
 
 closed-rows : (cols : List Column) → closed cols ≡ with-rows cols []
 closed-rows [] = refl

@@ -2,6 +2,7 @@
 use Rattle.std.proofs.Common.{◌≡◌, ◌≤◌, ℕ, ◌+◌, Bool, true, false, List, [], ◌∷◌, ◌++◌, map, Option, None, Some, refl, ◌∙◌, ap, if◌then◌else◌}
 use Rattle.std.specs.Prelude.{nat_lt}
 use Rattle.base_data.specs.Act.{after, give}
+use Rattle.base_data.specs.Elements.{Each}
 use Rattle.base_data.specs.declared.fault.FaultKind.TheVariants as kind
 use Rattle.base_data.specs.declared.name.FrameNo.{FrameNo}
 use Rattle.base_data.specs.declared.name.Label.{Label}
@@ -52,7 +53,7 @@ use Rattle.expand_forms.specs.ExpandUses.{expand_uses, expand_item_uses}
 use Rattle.expand_forms.specs.Site.{site_at}
 use Rattle.expand_forms.specs.Forms.{definition_parts, if_parts, let_syntax_parts, letrec_parts, procedure_parts, syntax_case_parts, template_parts}
 use Rattle.law_room.proofs.Items.{deeper-from, Keeps, keeps-splice}
-use Rattle.law_room.proofs.Same.{Each, same-after, both-after, where-after, same-framed, where-each, same-each, same-gather}
+use Rattle.law_room.proofs.Same.{same-after, both-after, where-after, same-framed, where-each, same-each, same-gather}
 use Rattle.law_room.proofs.Waiting.{IsFrom, WaitsFrom}
 
 pub record Agree (d : ℕ) (go ho : Inside) : Type 0 where

@@ -1,15 +1,11 @@
 -- Actions that answer the same, and what holds of what an action gives.
 use Rattle.std.proofs.Common.{◌≡◌, Bool, true, false, List, [], ◌∷◌, ◌++◌, length, Result, Ok, Err, refl, ◌∙◌, ap, if◌then◌else◌}
 use Rattle.base_data.specs.Act.{after, each, gather}
+use Rattle.base_data.specs.Elements.{Each}
 use Rattle.base_data.specs.declared.fault.Fault.{Fault}
 use Rattle.base_data.specs.declared.name.FrameNo.{FrameNo}
 use Rattle.expand_standing.specs.InScope.{leaving, within}
 use Rattle.expand_standing.specs.State.{State, Does, fresh_frame}
-
--- this holds of each
-abbrev pub Each : {A : Type 0} → (A → Type 0) → List A → Type 0
-Each P [] = Unit {0}
-Each P (x ∷ xs) = P x × Each P xs
 
 -- where it gives a value, this holds of the value
 abbrev pub Gave : {A : Type 0} → (A → Type 0) → Result (A × State) Fault → Type 0

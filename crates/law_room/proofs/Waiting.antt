@@ -2,6 +2,7 @@
 use Rattle.std.proofs.Common.{◌≤◌, ℕ, zero, suc, Bool, true, false, List, [], ◌∷◌, ◌++◌, Some, Result, Ok, Err, if◌then◌else◌}
 use Rattle.std.specs.Prelude.{◌||◌, ◌&&◌, not}
 use Rattle.base_data.specs.Act.{after, give}
+use Rattle.base_data.specs.Elements.{Each}
 use Rattle.base_data.specs.declared.fault.Fault.{Fault}
 use Rattle.base_data.specs.declared.name.Label.{Label}
 use Rattle.base_data.specs.declared.fault.FaultKind.TheVariants as kind
@@ -37,7 +38,7 @@ use Rattle.expand_forms.specs.ExpandUses as expand_uses
 use Rattle.expand_forms.specs.declared.expand_uses.ItemOrUse.{ItemOrUse}
 use Rattle.expand_forms.specs.declared.expand_uses.ItemOrUse.TheVariants as item_steps
 use Rattle.expand_forms.specs.declared.expand_uses.PlannedItem.{PlannedItem}
-use Rattle.law_room.proofs.Same.{Each, Gave, gave-after, gave-any, gave-if}
+use Rattle.law_room.proofs.Same.{Gave, gave-after, gave-any, gave-if}
 
 -- no less deep than this
 abbrev pub IsFrom : ℕ → Waiting → Type 0

@@ -1,5 +1,5 @@
 -- Characters as tokens.
-use Rattle.std.proofs.Common.{◌≡◌, ℕ, zero, suc, ◌+◌, ◌-◌, ◌<◌, ◌≤◌, ◌^◌, Bool, true, false, cond, List, [], ◌∷◌, ◌++◌, length, drop, take, arith, refl, sym, ap, ◌∙◌, subst, Option, Some, None, Result, Ok}
+use Rattle.std.proofs.Common.{◌≡◌, ℕ, zero, suc, ◌+◌, ◌-◌, ◌<◌, ◌≤◌, ◌^◌, Bool, true, false, List, [], ◌∷◌, ◌++◌, length, drop, take, arith, refl, sym, ap, ◌∙◌, subst, Option, Some, None, Result, Ok}
 use Rattle.std.specs.Prelude.{◌==◌, ◌&&◌, ◌||◌, nat_lt, nat_le, not, slice_index, codes, encode_utf8}
 use Rattle.std.specs.Char.{IsScalar}
 use Rattle.std.specs.List.{list_all}
@@ -14,6 +14,7 @@ use Rattle.base_data.specs.Gives.{◌>>=◌}
 use Rattle.base_data.specs.Hex.{hex}
 use Rattle.base_data.specs.declared.atom.Atom.TheVariants as a
 use Rattle.base_data.specs.declared.fault.Fault.{Fault}
+use Rattle.base_data.proofs.Chars.{branch}
 use Rattle.read_spelling.specs.Escapes.{is_scalar}
 use Rattle.read_spelling.specs.Numbers.{is_digit, is_digits}
 use Rattle.read_spelling.specs.Source.{characters}
@@ -139,11 +140,6 @@ numbered c ds h spell file from to = rw (digits_some ds spell.some, all_digits 1
 
 numbered_reads : (c : ℕ) (ds rest : List ℕ) → IsScalar c → Spell 16 c ds → ends rest ≡ true → Reads (0x23 ∷ 0x5C ∷ 0x78 ∷ ds) rest (t.Atom (a.Char c))
 numbered_reads c ds rest h spell e = long_reads 0x78 c ds rest (omega arith) spell.some (all_plain ds spell.are) e (numbered c ds h spell)
-
--- what holds on both ways of a test holds
-pub branch : {A : Type 0} (P : A → Type 0) (t : Bool) {x y : A} → (t ≡ true → P x) → (t ≡ false → P y) → P (cond t x y)
-branch P true f g = f refl
-branch P false f g = g refl
 
 graphic_small : (c : ℕ) → is_graphic c ≡ true → c < 0x80
 graphic_small c h = grind (arith, nat_tests)

@@ -37,26 +37,26 @@ module _ (file source : List ℕ) (nesting : ℕ) where
       record { us = one.us ++ others.us; es = one.e ∷ others.es; lexes = one.lexes; are = item one.is others.are; same = λ i. one.same i ∷ others.same i }
 
 -- lexemes that follow one another to the end
-record Followed (next : ℕ → Result (Option Lexeme) Fault) (at : ℕ) (ls : List Lexeme) : Type 0 where
-  end : ℕ
-  follow : Follow next at ls end
-  ends : next end ≡ Ok None
+pub record Followed (next : ℕ → Result (Option Lexeme) Fault) (at : ℕ) (ls : List Lexeme) : Type 0 where
+  pub end : ℕ
+  pub follow : Follow next at ls end
+  pub ends : next end ≡ Ok None
 
-list_parts : {A : Type 0} (x y : A) (xs ys : List A) → x ∷ xs ≡ y ∷ ys → (x ≡ y) × (xs ≡ ys)
+pub list_parts : {A : Type 0} (x y : A) (xs ys : List A) → x ∷ xs ≡ y ∷ ys → (x ≡ y) × (xs ≡ ys)
 list_parts x y xs ys e = (cc, cc)
 
-some_lexemes : (l : Lexeme) (ls : List Lexeme) → l ∷ ls ≡ [] → ⊥
+pub some_lexemes : (l : Lexeme) (ls : List Lexeme) → l ∷ ls ≡ [] → ⊥
 some_lexemes l ls e = cc
 
-some_fault : (f : Fault) → ◌≡◌ {A = Option Fault} (Some f) None → ⊥
+pub some_fault : (f : Fault) → ◌≡◌ {A = Option Fault} (Some f) None → ⊥
 some_fault f e = cc
 
-ends_there : (r : Result (Option Lexeme) Fault) (others : ℕ → Lexed) → lexed_on r others ≡ alone [] → r ≡ Ok None
+pub ends_there : (r : Result (Option Lexeme) Fault) (others : ℕ → Lexed) → lexed_on r others ≡ alone [] → r ≡ Ok None
 ends_there (Ok None) others e = refl
 ends_there (Ok (Some l)) others e = absurd (some_lexemes l (others l.to).lexemes (ap (λ (x : Lexed). x.lexemes) e))
 ends_there (Err f) others e = absurd (some_fault f (ap (λ (x : Lexed). x.fault) e))
 
-goes_on : (l : Lexeme) (ls : List Lexeme) (r : Result (Option Lexeme) Fault) (others : ℕ → Lexed) → lexed_on r others ≡ alone (l ∷ ls) → (r ≡ Ok (Some l)) × (others l.to ≡ alone ls)
+pub goes_on : (l : Lexeme) (ls : List Lexeme) (r : Result (Option Lexeme) Fault) (others : ℕ → Lexed) → lexed_on r others ≡ alone (l ∷ ls) → (r ≡ Ok (Some l)) × (others l.to ≡ alone ls)
 goes_on l ls (Ok None) others e = absurd (some_lexemes l ls (sym (ap (λ (x : Lexed). x.lexemes) e)))
 goes_on l ls (Ok (Some m)) others e =
     let p = list_parts m l (others m.to).lexemes ls (ap (λ (x : Lexed). x.lexemes) e) in
@@ -66,12 +66,12 @@ goes_on l ls (Ok (Some m)) others e =
 goes_on l ls (Err f) others e = absurd (some_fault f (ap (λ (x : Lexed). x.fault) e))
 
 module _ (next : ℕ → Result (Option Lexeme) Fault) where
-  turn_is : (k at : ℕ) → lexed_from next (suc k) at ≡ lexed_on (next at) (λ to. lexed_from next k to)
+  pub turn_is : (k at : ℕ) → lexed_from next (suc k) at ≡ lexed_on (next at) (λ to. lexed_from next k to)
   unfolding lexed_from
   turn_is k at = refl
 
   -- where so many turns or more give these lexemes
-  follow_on : (ls : List Lexeme) (at n : ℕ) → ((k : ℕ) → n ≤ k → lexed_from next k at ≡ alone ls) → Followed next at ls
+  pub follow_on : (ls : List Lexeme) (at n : ℕ) → ((k : ℕ) → n ≤ k → lexed_from next k at ≡ alone ls) → Followed next at ls
   follow_on [] at n same = record { end = at; follow = none; ends = ends_there (next at) (λ to. lexed_from next n to) (sym (turn_is n at) ∙ same (suc n) (omega arith)) }
   follow_on (l ∷ ls) at n same =
       let first = goes_on l ls (next at) (λ to. lexed_from next n to) (sym (turn_is n at) ∙ same (suc n) (omega arith)) in

@@ -8,12 +8,12 @@ use Rattle.bstr.proofs.lemmas.PieceLemmas.{pieces-step}
 use Rattle.bstr.proofs.lemmas.SoundLemmas.{SpellsChar-decoded}
 use Rattle.base_data.specs.Gives.{◌>>=◌}
 use Rattle.base_data.specs.declared.fault.Fault.{Fault}
+use Rattle.base_data.proofs.Chars.{branch}
 use Rattle.read_spelling.specs.Escapes.{is_scalar, scalar, scalar_of, letter, escape, escape_of}
 use Rattle.read_spelling.specs.Numbers.{digits_size, value_from}
 use Rattle.read_spelling.specs.Source.{characters}
 use Rattle.read_spelling.specs.declared.escapes.Letter.{Letter}
 use Rattle.law_round.proofs.Ascii.{characters-nil}
-use Rattle.law_round.proofs.Chars.{branch}
 
 -- what is given is a character, if anything is
 abbrev pub IsChar : Option ℕ → Type 0

@@ -16,6 +16,7 @@ use Rattle.base_data.specs.Hex.{hex}
 use Rattle.base_data.specs.Place.{line_end}
 use Rattle.base_data.specs.declared.atom.Atom.TheVariants as a
 use Rattle.base_data.specs.declared.fault.Fault.{Fault}
+use Rattle.base_data.proofs.Chars.{branch}
 use Rattle.read_spelling.specs.Escapes.{escape}
 use Rattle.read_spelling.specs.Numbers.{digits_size}
 use Rattle.read_spelling.specs.declared.escapes.Letter.{Letter}
@@ -27,7 +28,7 @@ use Rattle.read_lexer.specs.declared.token.Token.TheVariants as t
 use Rattle.read_printer.specs.Escapes.{escape_text}
 use Rattle.read_printer.specs.Strings.{string_text, contents, string_character, unescaped, is_plain}
 use Rattle.law_round.proofs.Ascii.{characters-ascii, no_gap, no_start}
-use Rattle.law_round.proofs.Chars.{branch, hex_spell}
+use Rattle.law_round.proofs.Chars.{hex_spell}
 use Rattle.law_round.proofs.Digits.{Spell}
 use Rattle.law_round.proofs.Escapes.{escaped, escape_gives, digits_size-semicolon}
 use Rattle.law_round.proofs.Lexing.{Reads}

@@ -11,6 +11,7 @@ use Rattle.std.proofs.lemmas.Bool.Decides.{nat_tests}
 use Rattle.std.proofs.lemmas.List.{append-nil}
 use Rattle.std.proofs.lemmas.Str.{encode_ascii, encodes-chars, scalars-chars}
 use Rattle.base_data.specs.Hex.{hex}
+use Rattle.base_data.proofs.Chars.{branch}
 use Rattle.read_spelling.specs.Escapes.{escape}
 use Rattle.read_spelling.specs.Identifiers.{identifier, is_peculiar, is_initial, is_later, is_of, letter_here, name_from, name}
 use Rattle.read_spelling.specs.declared.escapes.Letter.{Letter}
@@ -23,7 +24,7 @@ use Rattle.read_printer.specs.Symbols.{symbol_text, name_text, initial_text, sub
 use Rattle.law_round.specs.Readable.{IsName}
 use Rattle.law_round.proofs.Ascii.{characters-ascii, ends}
 use Rattle.law_round.proofs.Bare.{plain, opens, Runs, runs_plain, runs_end, runs_escape, bare_reads}
-use Rattle.law_round.proofs.Chars.{branch, hex_spell}
+use Rattle.law_round.proofs.Chars.{hex_spell}
 use Rattle.law_round.proofs.Digits.{Spell}
 use Rattle.law_round.proofs.Escapes.{escaped, escape_gives}
 use Rattle.law_round.proofs.Ints.{usual, and_false}

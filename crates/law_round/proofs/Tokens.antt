@@ -15,6 +15,7 @@ use Rattle.base_data.specs.declared.atom.Atom.TheVariants as a
 use Rattle.base_data.specs.declared.fault.Fault.{Fault}
 use Rattle.base_data.specs.declared.fault.FaultKind.{FaultKind}
 use Rattle.base_data.specs.declared.fault.FaultKind.TheVariants as kind
+use Rattle.base_data.proofs.Chars.{branch}
 use Rattle.read_spelling.specs.Escapes.{scalar_of, escape}
 use Rattle.read_spelling.specs.Identifiers.{identifier, letter_here, name_from, char_letter, first_letter, is_of, is_peculiar}
 use Rattle.read_spelling.specs.Numbers.{digits_size, value_from, integer, signed, greatest, spelt, is_spelt, is_integer, is_minus, unsigned, is_digits}
@@ -35,7 +36,6 @@ use Rattle.read_lexer.specs.declared.token.Lexeme.{Lexeme}
 use Rattle.read_lexer.specs.declared.token.Token.{Token}
 use Rattle.read_lexer.specs.declared.token.Token.TheVariants as t
 use Rattle.law_round.specs.Readable.{IsReadableAtom, IsName, Fits}
-use Rattle.law_round.proofs.Chars.{branch}
 use Rattle.law_round.proofs.Scalars.{IsChar, FirstIsChar, LetterIsChar, bind, anything, first_is, scalar_char, escape_char}
 
 -- the atom or the symbol of a token is readable

@@ -1,26 +1,26 @@
 -- A library is expanded behind records that serve, and its record serves too.
 use Rattle.std.proofs.Common.{◌≡◌, ℕ, zero, suc, ◌+◌, Bool, true, false, List, [], ◌∷◌, Option, Result, Ok, Err, refl, inl, inr, if◌then◌else◌}
 use Rattle.std.specs.Prelude.{map}
+use Rattle.base_data.proofs.ElementLemmas.{each-append}
 use Rattle.base_data.specs.Datum.{PlainDatum}
+use Rattle.base_data.specs.Elements.{Each, Among}
 use Rattle.base_data.specs.Gives.{◌>>=◌}
 use Rattle.base_data.specs.declared.fault.Fault.{Fault}
-use Rattle.base_data.specs.Op.{name_count, op_text}
+use Rattle.base_data.specs.Op.{name_count}
+use Rattle.base_data.specs.declared.imported_name.ImportedName.{ImportedName}
 use Rattle.base_data.specs.declared.library.LibName.{LibName}
 use Rattle.base_data.specs.declared.library.LibName.TheVariants as library
-use Rattle.base_data.specs.declared.name.Label.{Label}
-use Rattle.load_builtin.specs.Exports.{derived, label_at}
+use Rattle.load_builtin.specs.Exports.{derived}
 use Rattle.load_builtin.specs.declared.derived.TheConstants.{DERIVED_SOURCE}
 use Rattle.stx_tree.specs.Tree.{Tree}
 use Rattle.core_language.specs.declared.record.CompiledLibrary.{CompiledLibrary}
 use Rattle.law_core.specs.Follows.{names_of}
-use Rattle.law_core.specs.Words.{Each, Among}
 use Rattle.run_derived.specs.Derived.{forms_of, record_of, derived_record}
-use Rattle.run_derived.specs.Names.{path, start, is_defined, name_at, names_from, names, exports_of}
+use Rattle.run_derived.specs.Names.{path, start, is_defined, core_name, name_at, names_from, names, exports_of}
 use Rattle.eval_code.specs.Codes.{Codes}
 use Rattle.expand_forms.specs.Expanding.{ready, library_record}
 use Rattle.law_expand.specs.Ready.{IsReady}
 use Rattle.law_expand.specs.Serves.{IsThere, AllServe}
-use Rattle.law_expand.proofs.Fresh.{each-append}
 use Rattle.law_expand.proofs.GoodKeywords.{keywords-good}
 use Rattle.law_expand.proofs.Records.{records-good}
 use Rattle.law_expand.proofs.Shallow.{records-shallow}
@@ -79,13 +79,13 @@ module _ (records : List CompiledLibrary) (serve : AllServe [] records) (path : 
 
 -- The derived library: it imports names of the implementation alone.
 
-names_there : (ds : List (Option ℕ)) (n count : ℕ) → Each (λ (e : List ℕ × Label). IsThere [] e.1.0.library) (names_from ds n count)
+names_there : (ds : List (Option ℕ)) (n count : ℕ) → Each (λ (e : ImportedName). IsThere [] e.label.0.library) (names_from ds n count)
 unfolding names_from
 names_there ds n zero = tt
 names_there ds n (suc count) =
-    each-append (λ (e : List ℕ × Label). IsThere [] e.1.0.library) (name_at ds n) (names_from ds (n + 1) count) (by (is_defined n ds)) (names_there ds (n + 1) count)
+    each-append (λ (e : ImportedName). IsThere [] e.label.0.library) (name_at ds n) (names_from ds (n + 1) count) (by (is_defined n ds)) (names_there ds (n + 1) count)
   where
-    by : (b : Bool) → Each (λ (e : List ℕ × Label). IsThere [] e.1.0.library) (if b then [] else (op_text n, label_at library.Core n) ∷ [])
+    by : (b : Bool) → Each (λ (e : ImportedName). IsThere [] e.label.0.library) (if b then [] else core_name n ∷ [])
     by true = tt
     by false = (inr (inl refl), tt)
 

@@ -1,13 +1,13 @@
 -- The text of a run is closed, and bound once.
 use Rattle.std.proofs.Common.{◌≡◌, ℕ, zero, suc, List, [], ◌∷◌, ◌++◌, Option, Some, None, refl, sym, subst, inl, inr}
 use Rattle.std.specs.Prelude.{slice_get}
+use Rattle.base_data.specs.Elements.{Each, Among, Once}
 use Rattle.base_data.specs.declared.library.LibName.{LibName}
 use Rattle.base_data.specs.declared.library.LibName.TheVariants as library
 use Rattle.core_language.specs.declared.record.CompiledLibrary.{CompiledLibrary}
 use Rattle.law_core.specs.Follows.{names_of, line_cores}
 use Rattle.law_core.specs.Templates.{TemplatesSuit}
 use Rattle.law_core.specs.WellMade.{IsWellMade}
-use Rattle.law_core.specs.Words.{Each, Among, Once}
 use Rattle.law_expand.proofs.Fresh.{each-map}
 use Rattle.load_files.specs.Found.{needed}
 use Rattle.load_files.specs.declared.found.Found.{Found}
@@ -15,15 +15,12 @@ use Rattle.load_files.specs.declared.found.Loading.{Loading}
 use Rattle.expand_standing.specs.Start.{or_skip, records_at}
 use Rattle.law_text.specs.Standing.{IsStanding, AreStanding}
 use Rattle.law_text.proofs.Text.{text-is-closed-once}
+use Rattle.law_text.proofs.Names.{got-among}
 use Rattle.law_run.specs.Run.{Stands, AllStand, RunsAreClosedOnce}
-use Rattle.law_run.proofs.RunLemmas.{same_place, all_records_stand}
+use Rattle.law_run.proofs.RunLemmas.{all_records_stand}
+use Rattle.law_local.proofs.Part.{same_place}
 
 -- ---- lists
-
-pub get_among : (rs : List CompiledLibrary) (i : ℕ) (r : CompiledLibrary) → slice_get rs i ≡ Some r → Among rs r
-get_among [] i r h = absurd (cc)
-get_among (x ∷ rs) zero r h = let same : r ≡ x = cc in inl same
-get_among (x ∷ rs) (suc i) r h = inr (get_among rs i r h)
 
 -- the records at some places are among them
 at_among : (rs : List CompiledLibrary) (ps : List ℕ) → Each (Among rs) (records_at rs ps)
@@ -32,7 +29,7 @@ at_among rs (p ∷ ps) = by (slice_get rs p) refl (at_among rs ps)
   where
     by : (o : Option CompiledLibrary) → slice_get rs p ≡ o → Each (Among rs) (records_at rs ps) → Each (Among rs) (or_skip o (records_at rs ps))
     by None e rest = rest
-    by (Some r) e rest = (get_among rs p r e, rest)
+    by (Some r) e rest = (got-among rs p r e, rest)
 
 pub each_place : (P : CompiledLibrary → Type 0) (rs : List CompiledLibrary) → ((i : ℕ) (r : CompiledLibrary) → slice_get rs i ≡ Some r → P r) → Each P rs
 each_place P [] h = tt

@@ -2,16 +2,14 @@
 use Rattle.std.proofs.Common.{◌≡◌, ◌≤◌, ◌<◌, ℕ, zero, suc, ◌+◌, Bool, true, false, List, [], ◌∷◌, ◌++◌, length, get_or, Option, Some, refl, ◌∙◌, ap, cond, arith, if◌then◌else◌}
 use Rattle.std.specs.Prelude.{nat_eq, is_some}
 use Rattle.std.specs.Cmp.Lexicographic.{pointwise}
+use Rattle.base_data.proofs.ElementLemmas.{each-append}
+use Rattle.base_data.specs.Elements.{Each}
 use Rattle.base_data.specs.Op.{name_count, op_text}
 use Rattle.base_data.specs.OpNames.{op_names}
-use Rattle.base_data.specs.declared.library.LibName.TheVariants as library
-use Rattle.base_data.specs.declared.name.Label.{Label}
-use Rattle.load_builtin.specs.Exports.{derived, label_at}
-use Rattle.law_core.specs.Words.{Each}
-use Rattle.run_derived.specs.Names.{is_defined, name_at, names_from, names}
-use Rattle.law_expand.proofs.Fresh.{each-append}
-use Rattle.load_import.specs.Names.{Labelled}
-use Rattle.load_import.specs.Table.{value_of}
+use Rattle.base_data.specs.declared.imported_name.ImportedName.{ImportedName}
+use Rattle.load_builtin.specs.Exports.{derived}
+use Rattle.run_derived.specs.Names.{is_defined, core_name, name_at, names_from, names}
+use Rattle.load_import.specs.Names.{Labelled, label_named}
 use Rattle.law_imports.specs.Algebra.{IsOnce}
 
 -- whether no text of a table is one behind it
@@ -56,20 +54,20 @@ how-many = refl
 names-apart : (n k : ℕ) → n < k → k < name_count → pointwise nat_eq (op_text n) (op_text k) ≡ false
 names-apart n k lt less = apart-at op_names n k table-once lt (let e = how-many in omega (arith, less, e))
 
-none-found : (n : List ℕ) (es : Labelled) → Each (λ (e : List ℕ × Label). pointwise nat_eq n e.0 ≡ false) es → is_some (value_of n es) ≡ false
+none-found : (n : List ℕ) (es : Labelled) → Each (λ (e : ImportedName). pointwise nat_eq n e.name ≡ false) es → is_some (label_named n es) ≡ false
 none-found n [] h = refl
-none-found n (e ∷ es) h = ap (λ b. is_some (cond b (Some e.1) (value_of n es))) h.0 ∙ none-found n es h.1
+none-found n (e ∷ es) h = ap (λ b. is_some (cond b (Some e.label) (label_named n es))) h.0 ∙ none-found n es h.1
 
 module _ (ds : List (Option ℕ)) where
-  abbrev Other : ℕ → List ℕ × Label → Type 0
-  Other n e = pointwise nat_eq (op_text n) e.0 ≡ false
+  abbrev Other : ℕ → ImportedName → Type 0
+  Other n e = pointwise nat_eq (op_text n) e.name ≡ false
 
   later : (n m count : ℕ) → n < m → m + count ≤ name_count → Each (Other n) (names_from ds m count)
   unfolding names_from
   later n m zero lt le = tt
   later n m (suc count) lt le = each-append (Other n) (name_at ds m) (names_from ds (m + 1) count) (by (is_defined m ds)) (later n (m + 1) count (omega (arith, lt)) (omega (arith, le)))
     where
-      by : (b : Bool) → Each (Other n) (if b then [] else (op_text m, label_at library.Core m) ∷ [])
+      by : (b : Bool) → Each (Other n) (if b then [] else core_name m ∷ [])
       by true = tt
       by false = (names-apart n m lt (omega (arith, le)), tt)
 
@@ -78,7 +76,7 @@ module _ (ds : List (Option ℕ)) where
   names-once n zero le = tt
   names-once n (suc count) le = by (is_defined n ds) (names-once (n + 1) count (omega (arith, le)))
     where
-      by : (b : Bool) → IsOnce (names_from ds (n + 1) count) → IsOnce ((if b then [] else (op_text n, label_at library.Core n) ∷ []) ++ names_from ds (n + 1) count)
+      by : (b : Bool) → IsOnce (names_from ds (n + 1) count) → IsOnce ((if b then [] else core_name n ∷ []) ++ names_from ds (n + 1) count)
       by true rest = rest
       by false rest = (none-found (op_text n) (names_from ds (n + 1) count) (later n (n + 1) count (omega arith) (omega (arith, le))), rest)
 

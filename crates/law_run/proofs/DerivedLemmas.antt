@@ -2,39 +2,40 @@
 use Rattle.std.proofs.Common.{◌≡◌, ℕ, zero, suc, ◌+◌, ◌<◌, ◌≤◌, Bool, true, false, List, [], ◌∷◌, Result, Ok, Err, Option, Some, None, refl, sym, ap, subst, inl, inr, arith, if◌then◌else◌}
 use Rattle.std.specs.Cmp.{unsigned_Decides}
 use Rattle.std.specs.Prelude.{map, is_some}
+use Rattle.base_data.proofs.ElementLemmas.{each-append}
+use Rattle.base_data.specs.Elements.{Each, Among, Once}
 use Rattle.base_data.specs.Gives.{◌>>=◌}
 use Rattle.base_data.specs.Op.{name_count, op_text}
 use Rattle.base_data.specs.declared.fault.Fault.{Fault}
+use Rattle.base_data.specs.declared.imported_name.ImportedName.{ImportedName}
 use Rattle.base_data.specs.declared.library.LibName.TheVariants as library
 use Rattle.base_data.specs.declared.name.Label.{Label}
-use Rattle.load_builtin.specs.Exports.{derived, is_number, definition_from, derived_place, label_at}
+use Rattle.load_builtin.specs.Exports.{derived, is_number, definition_from, derived_place}
 use Rattle.load_builtin.specs.declared.derived.TheConstants.{DERIVED_SOURCE}
 use Rattle.core_language.specs.declared.record.CompiledLibrary.{CompiledLibrary}
 use Rattle.law_core.specs.Follows.{export_names, Follows}
-use Rattle.law_core.specs.Words.{Each, Among, Once}
 use Rattle.law_core.proofs.Decisions.{once_decides, text_decides}
 use Rattle.run_derived.specs.Derived.{forms_of, record_of, derived_record}
-use Rattle.run_derived.specs.Names.{path, start, is_defined, name_at, names_from, names, exports_of}
+use Rattle.run_derived.specs.Names.{path, start, is_defined, core_name, name_at, names_from, names, exports_of}
 use Rattle.eval_code.specs.Codes.{Codes}
 use Rattle.law_expand.specs.Behind.{IsKnownBefore, IsFollower}
 use Rattle.law_expand.proofs.Behind.{asked, record-named, records-follow}
-use Rattle.law_expand.proofs.Fresh.{each-append}
-use Rattle.load_import.specs.Names.{Labelled}
-use Rattle.load_import.specs.Table.{same_text, value_of}
+use Rattle.load_import.specs.Names.{Labelled, label_named}
+use Rattle.load_import.specs.Table.{same_text}
 use Rattle.law_imports.specs.Algebra.{IsOnce}
 use Rattle.law_run.proofs.Derived.{derived-names-once}
 use Rattle.stx_tree.specs.Tree.{Tree}
-use Rattle.law_run.proofs.ExportLemmas.{names_in, has_value}
+use Rattle.law_run.proofs.ExportLemmas.{imported_names, has_label_named}
 
 -- ---- what it imports
 
 -- names that stand once by their values stand once
-pub once_by_name : (names : Labelled) → IsOnce names → Once (names_in names)
+pub once_by_name : (names : Labelled) → IsOnce names → Once (imported_names names)
 once_by_name [] h = tt
-once_by_name (e ∷ es) h = ((λ a. by (value_of e.0 es) refl h.0 a), once_by_name es h.1)
+once_by_name (e ∷ es) h = ((λ a. by (label_named e.name es) refl h.0 a), once_by_name es h.1)
   where
-    by : (o : Option Label) → value_of e.0 es ≡ o → is_some o ≡ false → Among (names_in es) e.0 → ⊥
-    by None none h a = has_value e.0 es a none
+    by : (o : Option Label) → label_named e.name es ≡ o → is_some o ≡ false → Among (imported_names es) e.name → ⊥
+    by None none h a = has_label_named e.name es a none
     by (Some l) there h a = absurd (cc)
 
 not_placed : (n place : ℕ) (ds : List (Option ℕ)) → is_defined n ds ≡ false → definition_from place n ds ≡ None
@@ -45,19 +46,19 @@ not_placed n place (d ∷ ds) h = by (is_number n d) h (not_placed n (place + 1)
     by true h rest = absurd (cc)
     by false h rest = rest h
 
-abbrev IsLeft : List (Option ℕ) → List ℕ × Label → Type 0
-IsLeft ds e = (e.1.0.library ≡ library.Core) × ((e.1.0.number < name_count) × (definition_from 0 e.1.0.number ds ≡ None))
+abbrev IsLeft : List (Option ℕ) → ImportedName → Type 0
+IsLeft ds e = (e.label.0.library ≡ library.Core) × ((e.label.0.number < name_count) × (definition_from 0 e.label.0.number ds ≡ None))
 
 names_left : (ds : List (Option ℕ)) (n count : ℕ) → n + count ≤ name_count → Each (IsLeft ds) (names_from ds n count)
 unfolding names_from
 names_left ds n zero low = tt
 names_left ds n (suc count) low = each-append (IsLeft ds) (name_at ds n) (names_from ds (n + 1) count) (by (is_defined n ds) refl) (names_left ds (n + 1) count (omega (arith, low)))
   where
-    by : (b : Bool) → is_defined n ds ≡ b → Each (IsLeft ds) (if b then [] else (op_text n, label_at library.Core n) ∷ [])
+    by : (b : Bool) → is_defined n ds ≡ b → Each (IsLeft ds) (if b then [] else core_name n ∷ [])
     by true e = tt
     by false e = ((refl, (omega (arith, low), not_placed n 0 ds e)), tt)
 
-left_known : (es : Labelled) → Each (IsLeft derived) es → Each (λ (e : List ℕ × Label). IsKnownBefore [] e.1) es
+left_known : (es : Labelled) → Each (IsLeft derived) es → Each (λ (e : ImportedName). IsKnownBefore [] e.label) es
 left_known [] h = tt
 left_known (e ∷ es) h = (inr h.0, left_known es h.1)
 

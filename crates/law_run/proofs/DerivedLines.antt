@@ -1,28 +1,29 @@
 -- The derived library defines keywords alone, and so its record has no lines.
-use Rattle.std.proofs.Common.{map, ◌≡◌, ℕ, Bool, true, false, List, [], ◌∷◌, ◌++◌, Some, Result, Ok, Err, refl, sym, subst, if◌then◌else◌}
+use Rattle.std.proofs.Common.{map, ◌≡◌, Bool, true, false, List, [], ◌∷◌, ◌++◌, Some, Result, Ok, Err, refl, sym, subst, if◌then◌else◌}
 use Rattle.std.specs.Prelude.{◌&&◌, codes, nat_eq}
 use Rattle.std.specs.Cmp.Lexicographic.{pointwise}
 use Rattle.std.proofs.lemmas.Bool.{and_parts}
 use Rattle.bstr.specs.Utf8.{pieces_from}
+use Rattle.base_data.proofs.ElementLemmas.{each-append}
 use Rattle.base_data.specs.Datum.{PlainDatum}
 use Rattle.base_data.specs.Datum as datum
+use Rattle.base_data.specs.Elements.{Each}
 use Rattle.base_data.specs.Gives.{◌>>=◌}
 use Rattle.base_data.specs.Same.{texts_decides}
 use Rattle.base_data.specs.declared.fault.Fault.{Fault}
+use Rattle.base_data.specs.declared.imported_name.ImportedName.{ImportedName}
 use Rattle.base_data.specs.declared.library.LibName.TheVariants as library
-use Rattle.base_data.specs.declared.name.Label.{Label}
 use Rattle.load_builtin.specs.Exports.{derived}
 use Rattle.load_builtin.specs.declared.derived.TheConstants.{DERIVED_SOURCE}
 use Rattle.core_language.specs.declared.record.CompiledLibrary.{CompiledLibrary}
 use Rattle.law_core.specs.Records.{same_text}
-use Rattle.law_core.specs.Words.{Each, once}
+use Rattle.law_core.specs.Words.{once}
 use Rattle.law_core.proofs.Decisions.{text_decides, once_decides}
 use Rattle.run_derived.specs.Derived.{tree_at, trees, forms_of, record_of, derived_record}
 use Rattle.run_derived.specs.Names.{path, start, names, names_from, exports_of}
 use Rattle.eval_code.specs.Codes.{Codes}
 use Rattle.law_expand.specs.States.{AreKeyed}
 use Rattle.law_expand.proofs.Behind.{started-keyed}
-use Rattle.law_expand.proofs.Fresh.{each-append}
 use Rattle.stx_frames.specs.Scope.{label_at}
 use Rattle.read_lexer.specs.Gap.{atmosphere_end}
 use Rattle.read_lexer.specs.Repeat.{repeated}
@@ -109,12 +110,12 @@ forms-are forms e = data-are (data_of path DERIVED_SOURCE.now file_nesting) form
 
 -- it imports each name once, and the word that defines keywords is among them
 
-names-once : once same_text (map (λ (e : List ℕ × Label). e.0) names) ≡ true
+names-once : once same_text (map (λ (e : ImportedName). e.name) names) ≡ true
 unfolding names_from
 names-once = refl
 
 start-keyed : (codes : Codes) → AreKeyed library.Derived (started library.Derived [] names codes).frames
-start-keyed codes = started-keyed library.Derived [] names codes tt (λ a. elim a [ ]) (λ e. cc) ((once_decides same_text text_decides (map (λ (e : List ℕ × Label). e.0) names)).0 names-once)
+start-keyed codes = started-keyed library.Derived [] names codes tt (λ a. elim a [ ]) (λ e. cc) ((once_decides same_text text_decides (map (λ (e : ImportedName). e.name) names)).0 names-once)
 
 word-found : (codes : Codes) → label_at (started library.Derived [] names codes).frames (first_frame library.Derived) word [] ≡ Some defining
 unfolding started record_frame rows_for names_from

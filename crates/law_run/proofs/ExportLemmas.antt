@@ -2,11 +2,13 @@
 use Rattle.std.proofs.Common.{◌≡◌, ℕ, Bool, true, false, List, [], ◌∷◌, ◌++◌, Result, Ok, Err, Option, Some, None, refl, sym, ap, subst, cond, ◌∙◌, inl, inr}
 use Rattle.std.specs.Prelude.{map, codes, if◌then◌else◌}
 use Rattle.base_data.specs.Datum.{PlainDatum}
+use Rattle.base_data.specs.Elements.{Each, Among, Once}
 use Rattle.base_data.specs.Gives.{◌>>=◌}
 use Rattle.base_data.specs.declared.fault.Fault.{Fault}
+use Rattle.base_data.specs.declared.imported_name.ImportedName.{ImportedName}
 use Rattle.base_data.specs.declared.library.LibName.TheVariants as library
+use Rattle.base_data.specs.declared.name.Label.{Label}
 use Rattle.base_data.specs.declared.span.Span.{Span}
-use Rattle.law_core.specs.Words.{Each, Among, Once}
 use Rattle.law_core.proofs.Decisions.{text_decides}
 use Rattle.law_expand.proofs.Fresh.{once-append}
 use Rattle.load_forms.specs.Export.{Exports, export_twice, add_by, add_export, exported}
@@ -17,6 +19,7 @@ use Rattle.load_forms.specs.declared.export.Export.{Export}
 use Rattle.load_forms.specs.declared.form.LibraryForm.{LibraryForm}
 use Rattle.load_forms.specs.declared.name.VersionedName.{VersionedName}
 use Rattle.load_forms.specs.declared.set.Import.{Import}
+use Rattle.load_import.specs.Names.{label_named}
 use Rattle.load_import.specs.Table.{same_text, value_of}
 use Rattle.load_import.specs.declared.set.NameAt.{NameAt}
 use Rattle.load_files.specs.Found.{nothing_loaded, with_source, most_libraries}
@@ -52,6 +55,23 @@ has_value {V} name (row ∷ rows) (inr a) e = by (same_text name row.0) e (has_v
     by : (b : Bool) → ◌≡◌ {A = Option V} (cond b (Some row.1) (value_of name rows)) None → (value_of name rows ≡ None → ⊥) → ⊥
     by true e rest = absurd (cc)
     by false e rest = rest e
+
+-- the names of imports
+abbrev pub imported_names : List ImportedName → List (List ℕ)
+imported_names es = map (λ (e : ImportedName). e.name) es
+
+-- a name that stands there has a label
+pub has_label_named : (name : List ℕ) (es : List ImportedName) → Among (imported_names es) name → label_named name es ≡ None → ⊥
+has_label_named name [] a h = elim a [ ]
+has_label_named name (e ∷ es) (inl is) h =
+    let yes : same_text name e.name ≡ true = (text_decides name e.name).1 is in
+    let none : ◌≡◌ {A = Option Label} (Some e.label) None = sym (ap (λ b. cond b (Some e.label) (label_named name es)) yes) ∙ h in
+    absurd (cc)
+has_label_named name (e ∷ es) (inr a) h = by (same_text name e.name) h (has_label_named name es a)
+  where
+    by : (b : Bool) → ◌≡◌ {A = Option Label} (cond b (Some e.label) (label_named name es)) None → (label_named name es ≡ None → ⊥) → ⊥
+    by true h rest = absurd (cc)
+    by false h rest = rest h
 
 names_parts : {V : Type 0} (xs ys : List (List ℕ × V)) → names_in (xs ++ ys) ≡ names_in xs ++ names_in ys
 names_parts [] ys = refl

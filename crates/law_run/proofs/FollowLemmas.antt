@@ -1,7 +1,9 @@
 -- In a run each record follows those that its library needs, and all that stand before it.
 use Rattle.std.proofs.Common.{◌≡◌, ℕ, zero, suc, ◌+◌, ◌<◌, Bool, true, false, List, [], ◌∷◌, ◌++◌, length, Option, Some, None, Result, Ok, Err, refl, sym, ap, subst, ◌∙◌, inl, inr, arith, append_assoc, append-nil}
 use Rattle.std.specs.Prelude.{◌⊎◌, map, slice_get}
+use Rattle.base_data.proofs.ElementLemmas.{among-first, among-second, among-parts}
 use Rattle.base_data.specs.Datum.{PlainDatum}
+use Rattle.base_data.specs.Elements.{Among, Once}
 use Rattle.base_data.specs.Gives.{◌>>=◌}
 use Rattle.base_data.specs.declared.fault.Fault.{Fault}
 use Rattle.base_data.specs.declared.library.LibName.{LibName}
@@ -9,12 +11,10 @@ use Rattle.base_data.specs.declared.library.LibName.TheVariants as library
 use Rattle.core_language.specs.declared.record.CompiledLibrary.{CompiledLibrary}
 use Rattle.law_core.specs.Following.{AllFollow}
 use Rattle.law_core.specs.Follows.{names_of, Follows}
-use Rattle.law_core.specs.Words.{Among, Once}
 use Rattle.eval_code.specs.Codes.{Codes}
 use Rattle.expand_forms.specs.Expanding.{ready, library_record}
 use Rattle.law_expand.specs.Behind.{IsFollower}
 use Rattle.law_expand.proofs.Behind.{records-follow}
-use Rattle.law_expand.proofs.Fresh.{among-parts, among-first, among-second}
 use Rattle.load_forms.specs.Form.{library_body, program_body}
 use Rattle.load_forms.specs.declared.form.LibraryForm.{LibraryForm}
 use Rattle.load_import.specs.Names.{Labelled}
@@ -31,11 +31,10 @@ use Rattle.law_load.proofs.RowLemmas.{at_first, at_end}
 use Rattle.law_run.proofs.Runs.{names-once}
 use Rattle.base_outside.specs.Contents.{Paths}
 use Rattle.law_run.specs.Run.{IsRun, AllStand}
-use Rattle.law_run.proofs.ClosedLemmas.{get_among}
 use Rattle.law_run.proofs.MadeLemmas.{IsMade, all_made}
 use Rattle.law_run.proofs.NameLemmas.{named_among, name_among}
-use Rattle.law_run.proofs.PlaceLemmas.{marked_from, first_records, needed_behind, low_behind}
-use Rattle.law_run.proofs.RunLemmas.{below_next, same_place, all_records_stand}
+use Rattle.law_run.proofs.PlaceLemmas.{marked_from, first_records, low_behind}
+use Rattle.law_run.proofs.RunLemmas.{below_next, all_records_stand}
 use Rattle.law_run.proofs.UserLemmas.{IsUser, program_name, user_at}
 use Rattle.expand_standing.specs.Start.{or_skip, records_at}
 use Rattle.stx_tree.specs.Tree.{Tree}
@@ -44,6 +43,9 @@ use Rattle.law_run.proofs.DerivedLemmas.{once_by_name, ExportsTheDerived, IsDeri
 use Rattle.law_run.proofs.ExportLemmas.{names_in, ExportsOnce, program_exports_once, library_exports_once}
 use Rattle.law_run.proofs.ImportsFollow.{imports_known}
 use Rattle.law_run.proofs.WiderLemmas.{AreAmong, follows_wider}
+use Rattle.law_local.proofs.BehindLemmas.{with_first}
+use Rattle.law_local.proofs.Part.{same_place}
+use Rattle.law_text.proofs.Names.{got-among}
 
 -- ---- places
 
@@ -62,10 +64,10 @@ same_name_place [] once i j a b h k e = absurd (cc)
 same_name_place (r ∷ rs) once zero zero a b h k e = refl
 same_name_place (r ∷ rs) once zero (suc j) a b h k e =
     let same : r ≡ a = cc in
-    absurd (once.0 (subst (Among (names_of rs)) (sym (ap (λ (x : CompiledLibrary). x.name) same ∙ e)) (name_among rs b (get_among rs j b k))))
+    absurd (once.0 (subst (Among (names_of rs)) (sym (ap (λ (x : CompiledLibrary). x.name) same ∙ e)) (name_among rs b (got-among rs j b k))))
 same_name_place (r ∷ rs) once (suc i) zero a b h k e =
     let same : r ≡ b = cc in
-    absurd (once.0 (subst (Among (names_of rs)) (e ∙ sym (ap (λ (x : CompiledLibrary). x.name) same)) (name_among rs a (get_among rs i a h))))
+    absurd (once.0 (subst (Among (names_of rs)) (e ∙ sym (ap (λ (x : CompiledLibrary). x.name) same)) (name_among rs a (got-among rs i a h))))
 same_name_place (r ∷ rs) once (suc i) (suc j) a b h k e = ap suc (same_name_place rs once.1 i j a b h k e)
 
 -- ---- one expansion
@@ -305,7 +307,7 @@ module _ (prelude : Result Codes Fault) (files : Paths) (roots : List (List ℕ)
         let low : (p : ℕ) → slice_get (true ∷ f.needs) p ≡ Some true → zero + p < length x.before =
         low_behind (length x.before) f.needs (λ p h. let less = (closed p h).before in omega (arith, less, many, place)) (omega (arith, many)) in
         let same : needed_records x.before (true ∷ f.needs) ≡ Behind f =
-        sym (first_records x.before x.after zero (true ∷ f.needs) low) ∙ ap (λ (rs : List CompiledLibrary). needed_records rs (true ∷ f.needs)) (sym x.parts) ∙ needed_behind d others f.needs in
+        sym (first_records x.before x.after zero (true ∷ f.needs) low) ∙ ap (λ (rs : List CompiledLibrary). needed_records rs (true ∷ f.needs)) (sym x.parts) ∙ with_first d others f.needs in
         let name = library_name i file f r at there in
         let new : Among (names_of (Behind f)) r.name → ⊥ =
         new_behind (Behind f) (suc f.place) r (needed_before f closed) (subst (λ k. slice_get all (suc k) ≡ Some r) (sym place) (place_in_all i r there)) in
@@ -336,7 +338,7 @@ module _ (prelude : Result Codes Fault) (files : Paths) (roots : List (List ℕ)
 
   program_follows : Follows program (Behind found)
   program_follows =
-      let same : needed_records records (true ∷ found.needs) ≡ Behind found = ap (λ (rs : List CompiledLibrary). needed_records rs (true ∷ found.needs)) m.parts ∙ needed_behind d others found.needs in
+      let same : needed_records records (true ∷ found.needs) ≡ Behind found = ap (λ (rs : List CompiledLibrary). needed_records rs (true ∷ found.needs)) m.parts ∙ with_first d others found.needs in
       let new : Among (names_of (Behind found)) program.name → ⊥ = new_behind (Behind found) (suc found.place) program (needed_before found whole.stands.closed) program_place in
       let name : found.opened.form.name ≡ program.name = program_is ∙ sym stand.last.named in
       expansion_follows d (records_at others (needed found)) (all_behind found whole.stands.closed (λ j less. follows_at j)) derived_name derived_is.exports prelude found.opened.path found.opened.form

@@ -1,7 +1,9 @@
 -- Before a run, no leaf has a mark: the forms of files have none, and the codes of the texts have no leaves.
 use Rattle.std.proofs.Common.{◌≡◌, ℕ, true, List, [], ◌∷◌, ◌++◌, map, Option, Some, None, Result, Ok, Err, refl, subst}
 use Rattle.std.specs.Prelude.{is_some}
+use Rattle.base_data.proofs.ElementLemmas.{each-and, each-append}
 use Rattle.base_data.specs.Datum.{PlainDatum, atom, symbol, pair, vector}
+use Rattle.base_data.specs.Elements.{Each}
 use Rattle.base_data.specs.declared.fault.Bare.{Bare}
 use Rattle.base_data.specs.declared.fault.Fault.{Fault}
 use Rattle.base_data.specs.declared.span.Span.{Span}
@@ -14,7 +16,6 @@ use Rattle.eval_code.specs.Codes.{Codes}
 use Rattle.load_import.specs.declared.set.NameAt.{NameAt}
 use Rattle.law_fresh_expansion.specs.RecordMarks.{WasRead}
 use Rattle.law_fresh.specs.Leaves.{CoreHolds, CoresHold, InitsHold, CasesHold, CodesHold}
-use Rattle.law_fresh.proofs.Eachs.{each_and, each_both}
 use Rattle.law_fresh.proofs.Trees.{OkHolds, within_holds}
 use Rattle.law_given.specs.Texts.{written_table}
 use Rattle.run_library.specs.Library.{export_tree, placed, tree_at, trees_at}
@@ -26,7 +27,6 @@ use Rattle.stx_tree.specs.Context.{blank}
 use Rattle.stx_tree.specs.Leaves.{tree_of}
 use Rattle.stx_tree.specs.Measures.{within}
 use Rattle.stx_tree.specs.Tree.{Tree}
-use Rattle.eval_value.specs.Cells.{Each}
 use Rattle.law_run.specs.Hygienic.{IsNoLeaf, CodesHaveNoLeaves, FormsWereRead}
 
 -- Codes.
@@ -102,7 +102,7 @@ tree-at-read place d = by (within (tree_of blank d)) (limited-read d)
 trees-read : (place : Span) (done : List Tree) (ds : List PlainDatum) → Each WasRead done → OkHolds (Each WasRead) (trees_at place done ds)
 trees-read place done [] h = h
 trees-read place done (d ∷ ds) h =
-    then-holds WasRead (Each WasRead) (tree_at place d) (λ t. trees_at place (done ++ t ∷ []) ds) (tree-at-read place d) (λ t j. trees-read place (done ++ t ∷ []) ds (each_and WasRead done t h j))
+    then-holds WasRead (Each WasRead) (tree_at place d) (λ t. trees_at place (done ++ t ∷ []) ds) (tree-at-read place d) (λ t j. trees-read place (done ++ t ∷ []) ds (each-and WasRead done t h j))
 
 pub ok-holds : {A : Type 0} (P : A → Type 0) (r : Result A Fault) (x : A) → OkHolds P r → r ≡ Ok x → P x
 ok-holds P (Ok y) x h e = let same : y ≡ x = cc in subst P same h
@@ -123,7 +123,7 @@ placed-read place d = by (within (tree_of blank d)) (limited-read d)
 derived-trees : (done : List Tree) (ds : List PlainDatum) → Each WasRead done → OkHolds (Each WasRead) (of_derived.trees done ds)
 derived-trees done [] h = h
 derived-trees done (d ∷ ds) h =
-    then-holds WasRead (Each WasRead) (of_derived.tree_at d) (λ t. of_derived.trees (done ++ t ∷ []) ds) (placed-read derived_names.start d) (λ t j. derived-trees (done ++ t ∷ []) ds (each_and WasRead done t h j))
+    then-holds WasRead (Each WasRead) (of_derived.tree_at d) (λ t. of_derived.trees (done ++ t ∷ []) ds) (placed-read derived_names.start d) (λ t j. derived-trees (done ++ t ∷ []) ds (each-and WasRead done t h j))
 
 abbrev Any : List PlainDatum → Type 0
 Any ds = Unit {0}
@@ -152,4 +152,4 @@ export-at-read (Some n) = (refl, tt)
 pub derived-exports-read : (ds : List (Option ℕ)) → ExportsWereRead (derived_names.exports_of ds)
 unfolding derived_names.exports_of
 derived-exports-read [] = tt
-derived-exports-read (d ∷ ds) = each_both (λ (e : List ℕ × Tree). WasRead e.1) (derived_names.export_at d) (derived_names.exports_of ds) (export-at-read d) (derived-exports-read ds)
+derived-exports-read (d ∷ ds) = each-append (λ (e : List ℕ × Tree). WasRead e.1) (derived_names.export_at d) (derived_names.exports_of ds) (export-at-read d) (derived-exports-read ds)

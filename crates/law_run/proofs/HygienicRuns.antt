@@ -1,7 +1,9 @@
 -- Every record of a run is hygienic.
 use Rattle.std.proofs.Common.{◌≡◌, ℕ, zero, suc, ◌+◌, ◌<◌, Bool, true, false, List, [], ◌∷◌, ◌++◌, length, map, Option, Some, None, Result, Ok, Err, refl, sym, ap, subst, ◌∙◌, inl, inr, arith, append-nil}
 use Rattle.std.specs.Prelude.{slice_get}
+use Rattle.base_data.proofs.ElementLemmas.{each-implied}
 use Rattle.base_data.specs.Datum.{PlainDatum}
+use Rattle.base_data.specs.Elements.{Among, Each}
 use Rattle.base_data.specs.Gives.{◌>>=◌}
 use Rattle.base_data.specs.declared.fault.Fault.{Fault}
 use Rattle.base_data.specs.declared.library.LibName.{LibName}
@@ -12,7 +14,7 @@ use Rattle.load_builtin.specs.Exports.{derived}
 use Rattle.load_builtin.specs.declared.derived.TheConstants.{DERIVED_SOURCE}
 use Rattle.core_language.specs.declared.record.CompiledLibrary.{CompiledLibrary}
 use Rattle.law_core.specs.Follows.{names_of}
-use Rattle.law_core.specs.Words as words
+use Rattle.base_data.specs.Elements as elements
 use Rattle.run_derived.specs.Derived.{forms_of, record_of, derived_record}
 use Rattle.run_derived.specs.Names as derived_names
 use Rattle.eval_code.specs.Codes.{Codes}
@@ -26,10 +28,8 @@ use Rattle.law_fresh_expansion.proofs.Once.{events-wider}
 use Rattle.law_fresh_expansion.proofs.Recorded.{events-stay}
 use Rattle.law_fresh_expansion.proofs.Standing.{bindings-wider}
 use Rattle.law_fresh.specs.Leaves.{CodesHold}
-use Rattle.law_fresh.proofs.Eachs.{each_mapped}
 use Rattle.law_fresh.proofs.Trees.{OkHolds}
 use Rattle.law_fresh.proofs.Wider.{codes_wider, lines_wider}
-use Rattle.law_hygiene.specs.Marked.{Among}
 use Rattle.load_import.specs.Names.{Labelled}
 use Rattle.run_library.specs.Imports.{form_names}
 use Rattle.run_library.specs.Library.{export_tree, trees_at, expander_of, expand_library}
@@ -49,50 +49,50 @@ use Rattle.expand_standing.specs.Start.{or_skip, records_at}
 use Rattle.stx_tree.specs.Context.{LeafContext, blank}
 use Rattle.stx_tree.specs.Tree.{Tree}
 use Rattle.stx_tree.specs.declared.frame_row.FrameRow.{FrameRow}
-use Rattle.eval_value.specs.Cells.{Each}
 use Rattle.law_run.specs.Hygienic.{IsNoLeaf, IsHygienicBehind, IsHygienicDerived, PartIsHygienic, PartsAreHygienic, RunsAreHygienic}
 use Rattle.law_run.proofs.BehindLemmas.{IsNew}
 use Rattle.law_run.proofs.HygienicForms.{codes-without, forms-read, ok-holds, derived-read, exports-read, derived-exports-read}
 use Rattle.law_run.proofs.MadeLemmas.{IsMade, all_made}
 use Rattle.law_run.proofs.NameLemmas.{IsNamed, named_among}
-use Rattle.law_run.proofs.PlaceLemmas.{marked_from, first_records, needed_behind, low_behind}
+use Rattle.law_run.proofs.PlaceLemmas.{marked_from, first_records, low_behind}
 use Rattle.law_run.proofs.NamedFiles.{IsUser, AllUsers, users-all}
 use Rattle.law_run.proofs.PartBehind.{Behind, AllMadeBehind, library-new, program-new}
 use Rattle.law_run.proofs.PartFits.{IsLoaded, loaded-is, parts-are}
 use Rattle.law_run.proofs.PartRows.{IsFirst}
-use Rattle.law_run.proofs.RunLemmas.{same_place}
 use Rattle.law_run.proofs.UserLemmas.{program_name}
+use Rattle.law_local.proofs.BehindLemmas.{with_first}
+use Rattle.law_local.proofs.Part.{same_place}
 
 -- Names.
 
-in-words : (rs : List CompiledLibrary) (n : LibName) → Among (map (λ (r : CompiledLibrary). r.name) rs) n → words.Among (names_of rs) n
+in-words : (rs : List CompiledLibrary) (n : LibName) → Among (map (λ (r : CompiledLibrary). r.name) rs) n → elements.Among (names_of rs) n
 in-words [] n a = elim a [ ]
 in-words (r ∷ rs) n (inl e) = inl e
 in-words (r ∷ rs) n (inr a) = inr (in-words rs n a)
 
-name-there : (rs : List CompiledLibrary) (r : CompiledLibrary) → words.Among rs r → Among (map (λ (r : CompiledLibrary). r.name) rs) r.name
+name-there : (rs : List CompiledLibrary) (r : CompiledLibrary) → elements.Among rs r → Among (map (λ (r : CompiledLibrary). r.name) rs) r.name
 name-there [] r a = elim a [ ]
 name-there (x ∷ rs) r (inl e) = inl (ap (λ (y : CompiledLibrary). y.name) e)
 name-there (x ∷ rs) r (inr a) = inr (name-there rs r a)
 
-each-among : {A : Type 0} (P : A → Type 0) (xs : List A) → ((x : A) → words.Among xs x → P x) → Each P xs
+each-among : {A : Type 0} (P : A → Type 0) (xs : List A) → ((x : A) → elements.Among xs x → P x) → Each P xs
 each-among P [] h = tt
 each-among P (x ∷ xs) h = (h x (inl refl), each-among P xs (λ y a. h y (inr a)))
 
 -- what is marked is among the records at marked places
-marked-there : (records : List CompiledLibrary) (k : ℕ) (ms : List Bool) (p : ℕ) (r : CompiledLibrary) → slice_get ms p ≡ Some true → slice_get records (k + p) ≡ Some r → words.Among (records_at records (places_from k ms)) r
+marked-there : (records : List CompiledLibrary) (k : ℕ) (ms : List Bool) (p : ℕ) (r : CompiledLibrary) → slice_get ms p ≡ Some true → slice_get records (k + p) ≡ Some r → elements.Among (records_at records (places_from k ms)) r
 unfolding places_from
 marked-there records k [] p r h e = absurd (cc)
 marked-there records k (false ∷ ms) zero r h e = absurd (cc)
 marked-there records k (false ∷ ms) (suc p) r h e = let next : k + suc p ≡ suc k + p = omega arith in marked-there records (suc k) ms p r h (subst (λ i. slice_get records i ≡ Some r) next e)
 marked-there records k (true ∷ ms) zero r h e = by (slice_get records k) (let same : k + zero ≡ k = omega arith in subst (λ i. slice_get records i ≡ Some r) same e)
   where
-    by : (o : Option CompiledLibrary) → o ≡ Some r → words.Among (or_skip o (records_at records (places_from (suc k) ms))) r
+    by : (o : Option CompiledLibrary) → o ≡ Some r → elements.Among (or_skip o (records_at records (places_from (suc k) ms))) r
     by None i = absurd (cc)
     by (Some x) i = let same : r ≡ x = cc in inl same
 marked-there records k (true ∷ ms) (suc p) r h e = by (slice_get records k) (let next : k + suc p ≡ suc k + p = omega arith in marked-there records (suc k) ms p r h (subst (λ i. slice_get records i ≡ Some r) next e))
   where
-    by : (o : Option CompiledLibrary) → words.Among (records_at records (places_from (suc k) ms)) r → words.Among (or_skip o (records_at records (places_from (suc k) ms))) r
+    by : (o : Option CompiledLibrary) → elements.Among (records_at records (places_from (suc k) ms)) r → elements.Among (or_skip o (records_at records (places_from (suc k) ms))) r
     by None a = a
     by (Some x) a = inr a
 
@@ -120,8 +120,8 @@ module _ (few many : List LibName) (within : (n : LibName) → Among few n → A
   record-wider r h = record {
     run = lines_wider (HasOnly HasEvents few) (HasOnly HasEvents many) leaf-wider r.run h.run;
     bindings = bindings-wider (HasOnly HasEvents few) (HasOnly HasEvents many) leaf-wider r.bindings h.bindings;
-    frames = each_mapped (λ (f : FrameRow). Each (IsOfOne few) f.marks) (λ (f : FrameRow). Each (IsOfOne many) f.marks)
-        (λ f k. each_mapped (IsOfOne few) (IsOfOne many) (λ m i. within m.0.library i) f.marks k) r.frames h.frames;
+    frames = each-implied (λ (f : FrameRow). Each (IsOfOne few) f.marks) (λ (f : FrameRow). Each (IsOfOne many) f.marks)
+        (λ f k. each-implied (IsOfOne few) (IsOfOne many) (λ m i. within m.0.library i) f.marks k) r.frames h.frames;
   }
 
 -- One library.
@@ -234,7 +234,7 @@ module _ (prelude : Result Codes Fault) (without : HasNoLeaves prelude) where
           within n (inr (inl e)) = inl e
           within n (inr (inr a)) = elim a [ ]
 
-      needed-here : (x : CompiledLibrary) → words.Among here x → Has libs x
+      needed-here : (x : CompiledLibrary) → elements.Among here x → Has libs x
       needed-here x a =
           let y = marked_from m.others zero f.needs x a in
           let same : zero + y.place ≡ y.place = omega arith in
@@ -294,7 +294,7 @@ module _ (prelude : Result Codes Fault) (without : HasNoLeaves prelude) where
           let low : (p : ℕ) → slice_get (true ∷ f.needs) p ≡ Some true → zero + p < length x.before =
           low_behind (length x.before) f.needs (λ p h. let l = (closed p h).before in omega (arith, l, many, is_at)) (omega (arith, many)) in
           let same : needed_records x.before (true ∷ f.needs) ≡ Behind m.derived m.others f =
-          sym (first_records x.before x.after zero (true ∷ f.needs) low) ∙ ap (λ (rs : List CompiledLibrary). needed_records rs (true ∷ f.needs)) (sym x.parts) ∙ needed_behind m.derived m.others f.needs in
+          sym (first_records x.before x.after zero (true ∷ f.needs) low) ∙ ap (λ (rs : List CompiledLibrary). needed_records rs (true ∷ f.needs)) (sym x.parts) ∙ with_first m.derived m.others f.needs in
           both-made (Behind m.derived m.others f) f.opened.path f.opened.form (library_body f.opened.«data») r
           (new-among (Behind m.derived m.others f) f.opened.form.name no-core (library-new s sound users m.derived first.stands first.behind m.others made f closed i file at))
           (behind-here f closed (λ j l. earlier j (omega (arith, l, is_at))))
@@ -311,7 +311,7 @@ module _ (prelude : Result Codes Fault) (without : HasNoLeaves prelude) where
         → Both (Behind m.derived m.others found) found.opened.path found.opened.form body program
     program-holds found closed named body program h =
         let same : needed_records records (true ∷ found.needs) ≡ Behind m.derived m.others found =
-        ap (λ (rs : List CompiledLibrary). needed_records rs (true ∷ found.needs)) m.parts ∙ needed_behind m.derived m.others found.needs in
+        ap (λ (rs : List CompiledLibrary). needed_records rs (true ∷ found.needs)) m.parts ∙ with_first m.derived m.others found.needs in
         both-made (Behind m.derived m.others found) found.opened.path found.opened.form body program
         (new-among (Behind m.derived m.others found) found.opened.form.name (λ e. let bad : library.Program ≡ library.Core = sym named ∙ e in absurd (cc))
         (program-new s sound users m.derived first.stands first.behind m.others made found closed found.opened.form.name named))

@@ -1,11 +1,13 @@
 -- Each label that a form imports is one that a library exports.
-use Rattle.std.proofs.Common.{◌≡◌, ℕ, Bool, true, false, List, [], ◌∷◌, ◌++◌, Result, Ok, Err, Option, Some, None, refl, sym, subst, inl, inr}
+use Rattle.std.proofs.Common.{◌≡◌, ℕ, Bool, true, false, List, [], ◌∷◌, ◌++◌, Result, Ok, Err, Option, Some, None, refl, sym, subst, cond, inl, inr}
 use Rattle.std.specs.Prelude.{map, filter, not, option_map, if◌then◌else◌}
 use Rattle.std.specs.List.{find}
-use Rattle.std.specs.Map.{lookup}
+use Rattle.base_data.proofs.ElementLemmas.{each-append}
+use Rattle.base_data.specs.Elements.{Each, Among}
 use Rattle.base_data.specs.Gives.{◌>>=◌}
 use Rattle.base_data.specs.Same.{same_library}
 use Rattle.base_data.specs.declared.fault.Fault.{Fault}
+use Rattle.base_data.specs.declared.imported_name.ImportedName.{ImportedName}
 use Rattle.base_data.specs.declared.library.LibName.{LibName}
 use Rattle.base_data.specs.declared.library.LibName.TheVariants as library
 use Rattle.base_data.specs.declared.name.Label.{Label}
@@ -14,11 +16,10 @@ use Rattle.load_builtin.specs.Exports.{exports, export, library_exports, core_un
 use Rattle.load_builtin.specs.Libraries.{library_named, library_numbers}
 use Rattle.load_builtin.specs.declared.library.Library.{Library}
 use Rattle.core_language.specs.declared.record.CompiledLibrary.{CompiledLibrary}
-use Rattle.law_core.specs.Words.{Each, Among}
-use Rattle.law_expand.proofs.Fresh.{each-append, each-map}
+use Rattle.law_expand.proofs.Fresh.{each-map}
 use Rattle.load_forms.specs.declared.set.Import.{Import}
-use Rattle.load_import.specs.Names.{Labelled, same_label, conflict, join_by, join_one, joined, has_name, need_by, need, is_among, only, except, prefixed, new_name, renamed, sources, step_names, import_names}
-use Rattle.load_import.specs.Table.{same_text, value_of}
+use Rattle.load_import.specs.Names.{Labelled, label_named, same_label, conflict, join_by, join_one, joined, has_name, need_by, need, is_among, only, except, prefixed, new_name, renamed, sources, step_names, import_names}
+use Rattle.load_import.specs.Table.{same_text}
 use Rattle.load_import.specs.Turns.{turns}
 use Rattle.load_import.specs.declared.set.NameAt.{NameAt}
 use Rattle.load_import.specs.declared.set.ImportStep.{ImportStep}
@@ -30,7 +31,7 @@ use Rattle.law_run.proofs.NameLemmas.{exports_there}
 
 -- each imported label is of a library that is there
 abbrev pub ImportsAreThere : List CompiledLibrary → Labelled → Type 0
-ImportsAreThere records imports = Each (λ (e : List ℕ × Label). IsThere records e.1.0.library) imports
+ImportsAreThere records imports = Each (λ (e : ImportedName). IsThere records e.label.0.library) imports
 
 -- what each step keeps holds at the end
 pub turns_keep : {S X : Type 0} (step : S → X → Result S Fault) (P : S → Type 0) (Q : X → Type 0) → ((s t : S) (x : X) → P s → Q x → step s x ≡ Ok t → P t)
@@ -69,28 +70,28 @@ found_among {A} p (y ∷ ys) x h = by (p y) (found_among p ys x) h
 -- ---- import sets give labels that they are given
 
 module _ (P : Label → Type 0) where
-  abbrev pub LabelIs : List ℕ × Label → Type 0
-  LabelIs e = P e.1
+  abbrev pub LabelIs : ImportedName → Type 0
+  LabelIs e = P e.label
 
   abbrev pub LabelsAre : Labelled → Type 0
   LabelsAre names = Each LabelIs names
 
-  one_joined : (span : Span) (names r : Labelled) (e : List ℕ × Label) → LabelsAre names → P e.1 → join_one span names e ≡ Ok r → LabelsAre r
-  one_joined span names r e h p k = by (value_of e.0 names) k
+  one_joined : (span : Span) (names r : Labelled) (e : ImportedName) → LabelsAre names → P e.label → join_one span names e ≡ Ok r → LabelsAre r
+  one_joined span names r e h p k = by (label_named e.name names) k
     where
-      again : (b : Bool) → ◌≡◌ {A = Result Labelled Fault} (if b then Ok names else Err (conflict span e.0)) (Ok r) → LabelsAre r
+      again : (b : Bool) → ◌≡◌ {A = Result Labelled Fault} (if b then Ok names else Err (conflict span e.name)) (Ok r) → LabelsAre r
       again true k = let same : names ≡ r = cc in subst LabelsAre same h
       again false k = absurd (cc)
 
       by : (o : Option Label) → join_by span names e o ≡ Ok r → LabelsAre r
       by None k = let same : names ++ e ∷ [] ≡ r = cc in subst LabelsAre same (each-append LabelIs names (e ∷ []) h (p, tt))
-      by (Some l) k = again (same_label l e.1) k
+      by (Some l) k = again (same_label l e.label) k
 
   all_joined : (span : Span) (names more r : Labelled) → LabelsAre names → LabelsAre more → joined span names more ≡ Ok r → LabelsAre r
   all_joined span names more r h k e = turns_keep (join_one span) LabelsAre LabelIs (λ s t x g p f. one_joined span s t x g p f) more names r k h e
 
   -- names are changed, and labels stay
-  moved : (f : List ℕ × Label → List ℕ) (names : Labelled) → LabelsAre names → LabelsAre (map (λ (e : List ℕ × Label). (f e, e.1)) names)
+  moved : (f : ImportedName → List ℕ) (names : Labelled) → LabelsAre names → LabelsAre (map (λ (e : ImportedName). record { name = f e; label = e.label }) names)
   moved f [] h = tt
   moved f (e ∷ es) h = (h.0, moved f es h.1)
 
@@ -105,16 +106,16 @@ module _ (P : Label → Type 0) where
   step_keeps span names r (Only ids) h e =
       let k = needed_is names ids (Ok (only ids names)) r e in
       let same : only ids names ≡ r = cc in
-      subst LabelsAre same (each_filter LabelIs (λ (x : List ℕ × Label). is_among ids x.0) names h)
+      subst LabelsAre same (each_filter LabelIs (λ (x : ImportedName). is_among ids x.name) names h)
   step_keeps span names r (Except ids) h e =
       let k = needed_is names ids (Ok (except ids names)) r e in
       let same : except ids names ≡ r = cc in
-      subst LabelsAre same (each_filter LabelIs (λ (x : List ℕ × Label). not (is_among ids x.0)) names h)
+      subst LabelsAre same (each_filter LabelIs (λ (x : ImportedName). not (is_among ids x.name)) names h)
   step_keeps span names r (Prefix symbol) h e =
       let same : prefixed symbol names ≡ r = cc in
-      subst LabelsAre same (moved (λ (x : List ℕ × Label). symbol ++ x.0) names h)
+      subst LabelsAre same (moved (λ (x : ImportedName). symbol ++ x.name) names h)
   step_keeps span names r (Rename renamings) h e =
-      all_joined span [] (renamed renamings names) r tt (moved (λ (x : List ℕ × Label). new_name renamings x.0) names h)
+      all_joined span [] (renamed renamings names) r tt (moved (λ (x : ImportedName). new_name renamings x.name) names h)
       (needed_is names (sources renamings) (joined span [] (renamed renamings names)) r e)
 
   set_gives : (import : Import) (given r : Labelled) → LabelsAre given → import_names import.set import.span given ≡ Ok r → LabelsAre r
@@ -145,8 +146,8 @@ module _ (P : Label → Type 0) where
 
 -- ---- what libraries export
 
-abbrev IsGivenLabel : List ℕ × Label → Type 0
-IsGivenLabel e = IsOfImplementation e.1.0.library
+abbrev IsGivenLabel : ImportedName → Type 0
+IsGivenLabel e = IsOfImplementation e.label.0.library
 
 label_given : (n : ℕ) (o : Option ℕ) → IsOfImplementation (core_unless n o).0.library
 label_given n None = inl refl
@@ -168,7 +169,7 @@ given_labels (library.User parts) names h = by (library_named parts) h
     by None h = absurd (cc)
     by (Some l) h = let same : library_exports l ≡ names = cc in subst (λ (es : Labelled). Each IsGivenLabel es) same (all_given (library_numbers l))
 
-pub each_label : (P : Label → Type 0) (es : Labelled) → Each P (map (λ (e : List ℕ × Label). e.1) es) → LabelsAre P es
+pub each_label : (P : Label → Type 0) (es : Labelled) → Each P (map (λ (e : ImportedName). e.label) es) → LabelsAre P es
 each_label P [] h = tt
 each_label P (e ∷ es) h = (h.0, each_label P es h.1)
 
@@ -182,26 +183,26 @@ module _ (records : List CompiledLibrary) (serve : AllServe [] records) where
 
   -- a derived name stands for what the derived record exports
   module _ (r : CompiledLibrary) (gives : LabelsAre There r.exports) where
-    looked_up : (name : List ℕ) (rows : Labelled) (l : Label) → LabelsAre There rows → lookup (same_text name) rows ≡ Some l → There l
+    looked_up : (name : List ℕ) (rows : Labelled) (l : Label) → LabelsAre There rows → label_named name rows ≡ Some l → There l
     looked_up name [] l h e = absurd (cc)
-    looked_up name (row ∷ rows) l h e = by (same_text name row.0) (looked_up name rows l h.1) e
+    looked_up name (row ∷ rows) l h e = by (same_text name row.name) (looked_up name rows l h.1) e
       where
-        by : (b : Bool) → (lookup (same_text name) rows ≡ Some l → There l) → (if b then Some row.1 else lookup (same_text name) rows) ≡ Some l → There l
-        by true rest e = let same : row.1 ≡ l = cc in subst There same h.0
+        by : (b : Bool) → (label_named name rows ≡ Some l → There l) → (if b then Some row.label else label_named name rows) ≡ Some l → There l
+        by true rest e = let same : row.label ≡ l = cc in subst There same h.0
         by false rest e = rest e
 
-    one_there : (x : List ℕ × Label) → There x.1 → There (relabelled_in r x).1
-    one_there x h = by (same_library x.1.0.library library.Derived)
+    one_there : (x : ImportedName) → There x.label → There (relabelled_in r x).label
+    one_there x h = by (same_library x.label.0.library library.Derived)
       where
-        found : (o : Option Label) → lookup (same_text x.0) r.exports ≡ o → There (label_or x.1 o)
+        found : (o : Option Label) → label_named x.name r.exports ≡ o → There (label_or x.label o)
         found None e = h
-        found (Some l) e = looked_up x.0 r.exports l gives e
+        found (Some l) e = looked_up x.name r.exports l gives e
 
-        by : (b : Bool) → There (if b then (x.0, label_or x.1 (lookup (same_text x.0) r.exports)) else x).1
-        by true = found (lookup (same_text x.0) r.exports) refl
+        by : (b : Bool) → There (cond {A = ImportedName} b (record { name = x.name; label = label_or x.label (label_named x.name r.exports) }) x).label
+        by true = found (label_named x.name r.exports) refl
         by false = h
 
-    all_there : (names : Labelled) → LabelsAre There names → LabelsAre There (map (λ (e : List ℕ × Label). relabelled_in r e) names)
+    all_there : (names : Labelled) → LabelsAre There names → LabelsAre There (map (λ (e : ImportedName). relabelled_in r e) names)
     all_there [] h = tt
     all_there (x ∷ xs) h = (one_there x h.0, all_there xs h.1)
 

@@ -3,8 +3,11 @@
 use Rattle.std.proofs.Common.{◌≡◌, ℕ, zero, suc, ◌+◌, ◌-◌, ◌<◌, ◌≤◌, Bool, true, false, List, [], ◌∷◌, ◌++◌, Ok, Option, Some, None, refl, sym, ap, subst, cond, inl, inr, arith, if◌then◌else◌}
 use Rattle.std.specs.Prelude.{◌⊎◌, map, option_map}
 use Rattle.std.specs.List.{flat_map}
+use Rattle.base_data.proofs.ElementLemmas.{each-append, among-parts}
+use Rattle.base_data.specs.Elements.{Each, Among}
 use Rattle.base_data.specs.Op.{name_count, op_text}
 use Rattle.base_data.specs.Same.{same_library, same_library_decides}
+use Rattle.base_data.specs.declared.imported_name.ImportedName.{ImportedName}
 use Rattle.base_data.specs.declared.library.LibName.{LibName}
 use Rattle.base_data.specs.declared.library.LibName.TheVariants as library
 use Rattle.base_data.specs.declared.name.Label.{Label}
@@ -16,17 +19,16 @@ use Rattle.load_builtin.specs.declared.library.Run.{Run}
 use Rattle.core_language.specs.declared.record.CompiledLibrary.{CompiledLibrary}
 use Rattle.law_core.specs.Following.{AllFollow}
 use Rattle.law_core.specs.Follows.{export_labels, bound_labels, IsKnown}
-use Rattle.law_core.specs.Words.{Each, Among}
 use Rattle.run_derived.specs.Derived.{label_or, relabelled_in}
 use Rattle.law_expand.specs.Behind.{IsKnownBefore}
-use Rattle.law_expand.proofs.Fresh.{each-map, each-append, among-parts}
+use Rattle.law_expand.proofs.Fresh.{each-map}
 use Rattle.load_forms.specs.declared.set.Import.{Import}
-use Rattle.load_import.specs.Names.{Labelled}
-use Rattle.load_import.specs.Table.{same_text, value_of}
+use Rattle.load_import.specs.Names.{Labelled, label_named}
+use Rattle.load_import.specs.Table.{same_text}
 use Rattle.run_library.specs.Imports.{named, record_exports, given_names, exported_by, exported, form_names}
 use Rattle.law_run.proofs.ImportLemmas.{LabelsAre, form_gives, found_among, each_label}
 use Rattle.law_run.proofs.DerivedLemmas.{ExportsTheDerived}
-use Rattle.law_run.proofs.ExportLemmas.{has_value}
+use Rattle.law_run.proofs.ExportLemmas.{has_label_named}
 use Rattle.law_run.proofs.WiderLemmas.{AreAmong, among_all, all_wider}
 
 -- ---- records that follow one another export what is known
@@ -90,12 +92,12 @@ runs_fit l.RecordsSyntactic = (omega arith, tt)
 -- ---- what libraries export
 
 -- a name that stands there has the label of one of the rows
-looked_up : (P : Label → Type 0) (name : List ℕ) (rows : Labelled) (x : Label) → LabelsAre P rows → value_of name rows ≡ Some x → P x
+looked_up : (P : Label → Type 0) (name : List ℕ) (rows : Labelled) (x : Label) → LabelsAre P rows → label_named name rows ≡ Some x → P x
 looked_up P name [] x h e = absurd (cc)
-looked_up P name (row ∷ rows) x h e = by (same_text name row.0) (looked_up P name rows x h.1) e
+looked_up P name (row ∷ rows) x h e = by (same_text name row.name) (looked_up P name rows x h.1) e
   where
-    by : (b : Bool) → (value_of name rows ≡ Some x → P x) → (if b then Some row.1 else value_of name rows) ≡ Some x → P x
-    by true rest e = let same : row.1 ≡ x = cc in subst P same h.0
+    by : (b : Bool) → (label_named name rows ≡ Some x → P x) → (if b then Some row.label else label_named name rows) ≡ Some x → P x
+    by true rest e = let same : row.label ≡ x = cc in subst P same h.0
     by false rest e = rest e
 
 module _ (d : CompiledLibrary) (rest : List CompiledLibrary) (follow : AllFollow [] (d ∷ rest)) (is_derived : d.name ≡ library.Derived) (derives : ExportsTheDerived d) where
@@ -110,15 +112,15 @@ module _ (d : CompiledLibrary) (rest : List CompiledLibrary) (follow : AllFollow
   named_known n (Some r) e = record_known r (found_among (λ (x : CompiledLibrary). same_library x.name n) (d ∷ rest) r e)
 
   -- a name of the implementation has a given label, or that under which the derived record exports it
-  given_known : (n : ℕ) → n < name_count → (o : Option ℕ) → derived_place n ≡ o → Known (relabelled_in d (op_text n, core_unless n o)).1
+  given_known : (n : ℕ) → n < name_count → (o : Option ℕ) → derived_place n ≡ o → Known (relabelled_in d (record { name = op_text n; label = core_unless n o })).label
   given_known n less None e = inr (refl, (less, e))
-  given_known n less (Some place) e = by (value_of (op_text n) d.exports) refl
+  given_known n less (Some place) e = by (label_named (op_text n) d.exports) refl
     where
-      by : (o : Option Label) → value_of (op_text n) d.exports ≡ o → Known (label_or (core_unless n (Some place)) o)
-      by None none = absurd (has_value (op_text n) d.exports (derives n place e) none)
+      by : (o : Option Label) → label_named (op_text n) d.exports ≡ o → Known (label_or (core_unless n (Some place)) o)
+      by None none = absurd (has_label_named (op_text n) d.exports (derives n place e) none)
       by (Some x) there = looked_up Known (op_text n) d.exports x (record_known d (inl refl)) there
 
-  numbers_known : (ns : List ℕ) → Each IsNumber ns → LabelsAre Known (map (λ (e : List ℕ × Label). relabelled_in d e) (map export ns))
+  numbers_known : (ns : List ℕ) → Each IsNumber ns → LabelsAre Known (map (λ (e : ImportedName). relabelled_in d e) (map export ns))
   numbers_known [] h = tt
   numbers_known (n ∷ ns) h = (given_known n h.0 (derived_place n) refl, numbers_known ns h.1)
 

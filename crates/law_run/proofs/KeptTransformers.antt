@@ -4,11 +4,11 @@ use Rattle.std.specs.Prelude.{IsTrue, slice_get}
 use Rattle.std.specs.List.{flat_map}
 use Rattle.base_data.specs.Act.{after, give}
 use Rattle.base_data.specs.declared.fault.Fault.{Fault}
+use Rattle.base_data.specs.declared.imported_name.ImportedName.{ImportedName}
 use Rattle.base_data.specs.declared.library.LibName.{LibName}
 use Rattle.base_data.specs.declared.library.LibName.TheVariants as library
 use Rattle.base_data.specs.declared.name.CodeNo.{CodeNo}
 use Rattle.base_data.specs.declared.name.FrameNo.{FrameNo}
-use Rattle.base_data.specs.declared.name.Label.{Label}
 use Rattle.base_data.specs.declared.name.Mark.{Mark}
 use Rattle.base_data.specs.declared.span.Span.{Span}
 use Rattle.stx_tree.specs.Changes.{enter, leave, stamp}
@@ -68,10 +68,10 @@ use Rattle.law_run.proofs.OtherFaults.{AreRead}
 use Rattle.law_run.proofs.PartBehind.{Behind, all-serve, all-behind, library-new, program-new}
 use Rattle.law_run.proofs.PartFits.{at-next, PartsAre, parts-are, IsLoaded, loaded-is}
 use Rattle.law_run.proofs.PartRows.{no-text-derived, no-text-program, no-text-user}
-use Rattle.law_run.proofs.PlaceLemmas.{needed_behind}
 use Rattle.law_run.proofs.Unstuck.{texts-read}
 use Rattle.law_run.proofs.UserLemmas.{program_name}
 use Rattle.law_run.specs.Parts.{IsPartOfRun}
+use Rattle.law_local.proofs.BehindLemmas.{with_first}
 
 -- ---- a value that fits has its procedure
 
@@ -138,7 +138,7 @@ forms-stay-whole own texts rs room place level depth t s h =
 -- ---- the body of a library or program
 
 module _ (own : LibName) (texts : List CodeNo) (rs : List CompiledLibrary) (x : Around own texts rs) (inner : Inside) (holds : Holds own texts rs inner) where
-  lines-go : (at : TopAt) (d : Taken) (s t : State) (ls : List (List ℕ × Label)) → Goes own texts rs s t → Sure (G own texts rs s) (after (finish_all inner 0 d.waiting t) (λ lines. give_record at ls lines))
+  lines-go : (at : TopAt) (d : Taken) (s t : State) (ls : List ImportedName) → Goes own texts rs s t → Sure (G own texts rs s) (after (finish_all inner 0 d.waiting t) (λ lines. give_record at ls lines))
   lines-go at d s t ls first =
       sure-less (G own texts rs t) (G own texts rs s) (after (finish_all inner 0 d.waiting t) (λ lines. give_record at ls lines))
       (go own texts rs t (finish_all inner 0 d.waiting t) (λ lines. give_record at ls lines) (lines-run own texts rs x inner holds 0 d.waiting t first.onward.0 first.safe)
@@ -187,7 +187,7 @@ module _ (prelude : Result Codes Fault) (read : AreRead prelude) where
         (all-behind s sound users p.derived p.first.stands p.first.behind p.so.others p.so.made f closed) no_text (texts-of table given))
       where
         same : needed_records records (true ∷ f.needs) ≡ Behind p.derived p.so.others f
-        same = ap (λ (rs : List CompiledLibrary). needed_records rs (true ∷ f.needs)) p.so.parts ∙ needed_behind p.derived p.so.others f.needs
+        same = ap (λ (rs : List CompiledLibrary). needed_records rs (true ∷ f.needs)) p.so.parts ∙ with_first p.derived p.so.others f.needs
 
   part-starts : (files : Paths) (roots : List (List ℕ)) (path : List ℕ) (s : Loading) (first : List (List ℕ × Found)) (file : List ℕ) (f : Found) (left : List (List ℕ × Found)) (records : List CompiledLibrary)
       → IsPartOfRun prelude files roots path s first ((file, f) ∷ left) records → StartsWhole prelude (needed_records records (true ∷ f.needs)) f.opened.form.name

@@ -3,9 +3,12 @@ use Rattle.std.proofs.Common.{◌≡◌, ℕ, zero, suc, ◌+◌, Bool, true, fa
 use Rattle.std.specs.Prelude.{nat_eq, nat_lt, codes}
 use Rattle.std.specs.Cmp.Lexicographic.{pointwise}
 use Rattle.std.proofs.lemmas.Bool.{and_from, and_parts}
+use Rattle.base_data.proofs.ElementLemmas.{among-map}
 use Rattle.base_data.specs.Act.{after, give, gather}
+use Rattle.base_data.specs.Elements.{Each, Among, Once}
 use Rattle.base_data.specs.Same.{texts_decides}
 use Rattle.base_data.specs.declared.fault.Fault.{Fault}
+use Rattle.base_data.specs.declared.imported_name.ImportedName.{ImportedName}
 use Rattle.base_data.specs.declared.library.LibName.{LibName}
 use Rattle.base_data.specs.declared.library.LibName.TheVariants as library
 use Rattle.base_data.specs.declared.name.FrameNo.{FrameNo}
@@ -21,7 +24,6 @@ use Rattle.stx_frames.specs.Scope.{rows_at, label_at, or_else}
 use Rattle.core_language.specs.declared.core_form.CoreForm.TheVariants as core_forms
 use Rattle.core_language.specs.declared.record.CompiledLibrary.{CompiledLibrary}
 use Rattle.core_language.specs.declared.record.Line.{Line}
-use Rattle.law_core.specs.Words.{Each, Among, Once}
 use Rattle.stx_scope.specs.Stands.{stands}
 use Rattle.core_shapes.specs.Forms.{define_syntax_shape, shaped, by_operands, or_bad, shape_of, shape}
 use Rattle.core_shapes.specs.Lists.{if_some, is_leaf, proper_elements}
@@ -63,7 +65,6 @@ use Rattle.law_expand.proofs.Acts.{Gave, gave-any, gave-after, gave-if, gave-bot
 use Rattle.law_expand.proofs.Changes.{inside-moves, took-none}
 use Rattle.law_expand.proofs.Items.{Takes}
 use Rattle.law_expand.proofs.Later.{but-self, but-then, keeps-self, keeps-then}
-use Rattle.law_text.proofs.Words.{among-map}
 
 -- the label of the core `define-syntax`
 abbrev pub defining : Label
@@ -332,7 +333,7 @@ top-bare at es forms start n mine keyed found are =
     (definitions-leave start.library [] (most_round + 1) place (λ e. refl) mine start (map (stamp at.frame) forms) n keyed found (definitions-stamped at.frame forms are))
     (λ d t k. finished-bare (inside [] full_room) at es d t k)
 
-pub no-lines : (own : LibName) (path : List ℕ) (imports : List (List ℕ × Label)) (version : List ℕ) (place : Span) (es : List (List ℕ × Tree)) (forms : List Tree) (codes : Codes) (r : CompiledLibrary)
+pub no-lines : (own : LibName) (path : List ℕ) (imports : List ImportedName) (version : List ℕ) (place : Span) (es : List (List ℕ × Tree)) (forms : List Tree) (codes : Codes) (r : CompiledLibrary)
     → label_at (started own [] imports codes).frames (first_frame own) word [] ≡ Some defining → (started own [] imports codes).names.library ≡ (started own [] imports codes).library → (started own [] imports codes).library ≡ own → AreKeyed own (started own [] imports codes).frames
     → Each (IsDefinition blank) forms
     → library_record (ready own path [] imports codes) [] version place es forms ≡ Ok r → r.run ≡ []

@@ -1,15 +1,16 @@
 -- Records that follow one another mention only what is known.
 use Rattle.std.proofs.Common.{List, [], ◌∷◌, ◌++◌, refl, inl, inr}
 use Rattle.std.specs.List.{flat_map}
+use Rattle.base_data.proofs.ElementLemmas.{each-at}
+use Rattle.base_data.specs.Elements.{Each, Among}
 use Rattle.core_language.specs.declared.record.CompiledLibrary.{CompiledLibrary}
 use Rattle.law_core.specs.Following.{AllFollow}
 use Rattle.law_core.specs.Follows.{names_of, export_labels, row_labels, keywords, IsKnown, Suits, Follows}
 use Rattle.law_core.specs.Records.{defined, LinesClosed}
 use Rattle.law_core.specs.Scope.{Closed}
-use Rattle.law_core.specs.Words.{Each, Among}
 use Rattle.law_core.proofs.FollowingLemmas.{closed_more, followers_closed}
 use Rattle.law_expand.specs.Behind.{IsKnownBefore}
-use Rattle.law_expand.proofs.Fresh.{each-map, each-at}
+use Rattle.law_expand.proofs.Fresh.{each-map}
 use Rattle.law_run.specs.Known.{MentionsTheKnown}
 use Rattle.law_run.specs.Following.{RunsMentionTheKnown}
 use Rattle.law_run.proofs.FollowLemmas.{records_follow_in_runs}

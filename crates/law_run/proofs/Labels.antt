@@ -1,12 +1,13 @@
 -- A record binds no label twice.
 use Rattle.std.proofs.Common.{◌≡◌, ℕ, zero, suc, ◌<◌, List, [], ◌∷◌, ◌++◌, map, Option, None, Some, refl, sym, ap, subst, arith}
+use Rattle.base_data.proofs.ElementLemmas.{each-at, each-append}
+use Rattle.base_data.specs.Elements.{Each, Once}
 use Rattle.base_data.specs.declared.name.Label.{Label}
 use Rattle.core_language.specs.Bindings.{bound_to}
 use Rattle.core_language.specs.declared.binding.Binding.{Binding}
-use Rattle.law_core.specs.Words.{Each, Once}
 use Rattle.expand_standing.specs.Own.{row_at, own_label, own_row, own_below, own_bindings}
 use Rattle.expand_standing.specs.State.{State}
-use Rattle.law_expand.proofs.Fresh.{each-append, each-map, each-at, once-append}
+use Rattle.law_expand.proofs.Fresh.{each-map, once-append}
 
 abbrev labels : List (Label × Binding) → List Label
 labels bs = map (λ (b : Label × Binding). b.0) bs

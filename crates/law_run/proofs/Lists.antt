@@ -2,17 +2,11 @@
 use Rattle.std.proofs.Common.{◌≡◌, Bool, true, false, List, [], ◌∷◌, map, Some, None, refl, sym, ◌∙◌, ap, subst, inl, inr, if◌then◌else◌}
 use Rattle.std.specs.Map.{lookup}
 use Rattle.indexmap.specs.IndexMap.{insert_entry}
+use Rattle.base_data.proofs.ElementLemmas.{among-map}
+use Rattle.base_data.specs.Elements.{Among, Once}
 use Rattle.base_data.specs.declared.name.Label.{Label}
 use Rattle.core_language.specs.Labels.{same_label}
-use Rattle.law_core.specs.Words.{Among, Once}
 use Rattle.law_core.proofs.Decisions.{label_decides}
-use Rattle.law_text.proofs.Words.{among-map, map-among}
-
--- what differs has different images, each once
-pub once-map : {A B : Type 0} (g : A → B) (xs : List A) → Once xs → ((x y : A) → Among xs x → Among xs y → g x ≡ g y → x ≡ y) → Once (map g xs)
-once-map g [] once same = tt
-once-map {A} g (x ∷ xs) once same =
-    ((λ a. let k = map-among g xs (g x) a in once.0 (subst (Among xs) (sym (same x k.0 (inl refl) (inr k.1) k.2)) k.1)), once-map g xs once.1 (λ y z a b e. same y z (inr a) (inr b) e))
 
 -- and images that stand once tell what they are of
 pub map-once : {A B : Type 0} (g : A → B) (xs : List A) (x y : A) → Once (map g xs) → Among xs x → Among xs y → g x ≡ g y → x ≡ y

@@ -1,11 +1,11 @@
 -- The names of records, and what a record does behind others of the same names.
 use Rattle.std.proofs.Common.{◌≡◌, ℕ, zero, suc, List, [], ◌∷◌, ◌++◌, Some, refl, sym, ap, subst, inl, inr, arith, append_assoc}
 use Rattle.std.specs.Prelude.{slice_get}
+use Rattle.base_data.specs.Elements.{Each, Among, Once}
 use Rattle.base_data.specs.declared.library.LibName.{LibName}
 use Rattle.base_data.specs.declared.name.Label.{Label}
 use Rattle.core_language.specs.declared.record.CompiledLibrary.{CompiledLibrary}
 use Rattle.law_core.specs.Follows.{names_of, export_labels}
-use Rattle.law_core.specs.Words.{Each, Among, Once}
 use Rattle.law_expand.proofs.Fresh.{each-map}
 use Rattle.law_expand.specs.Serves.{IsThere, IsLabelThere, AllServe}
 

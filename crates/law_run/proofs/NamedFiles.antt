@@ -1,7 +1,9 @@
 -- Each library that is loaded has a name of parts, where loading ends and where it stops.
 use Rattle.std.proofs.Common.{◌≡◌, ℕ, zero, suc, Bool, true, false, List, [], ◌∷◌, ◌++◌, length, Result, Ok, Err, Option, Some, None, refl, sym, subst}
 use Rattle.std.specs.Prelude.{is_some, slice_get, nat_le, codes, if◌then◌else◌}
+use Rattle.base_data.proofs.ElementLemmas.{each-append}
 use Rattle.base_data.specs.Datum.{PlainDatum, proper_elements}
+use Rattle.base_data.specs.Elements.{Each}
 use Rattle.base_data.specs.Gives.{◌>>=◌}
 use Rattle.base_data.specs.Same.{same_library}
 use Rattle.base_data.specs.declared.fault.Fault.{Fault}
@@ -9,8 +11,6 @@ use Rattle.base_data.specs.declared.fault.FaultKind.TheVariants as kind
 use Rattle.base_data.specs.declared.library.LibName.{LibName}
 use Rattle.base_data.specs.declared.library.LibName.TheVariants as library
 use Rattle.base_data.specs.declared.span.Span.{Span}
-use Rattle.law_core.specs.Words.{Each}
-use Rattle.law_expand.proofs.Fresh.{each-append}
 use Rattle.load_file_names.specs.File.{file_of}
 use Rattle.load_forms.specs.All.{given}
 use Rattle.load_forms.specs.Export.{exported}

@@ -2,14 +2,15 @@
 use Rattle.std.proofs.Common.{◌≡◌, List, [], ◌∷◌, ◌++◌, refl, subst, inl, inr}
 use Rattle.std.specs.Prelude.{◌⊎◌, map}
 use Rattle.std.specs.List.{flat_map}
+use Rattle.base_data.proofs.ElementLemmas.{each-at, among-parts}
+use Rattle.base_data.specs.Elements.{Each, Among, Once}
 use Rattle.base_data.specs.declared.library.LibName.{LibName}
 use Rattle.base_data.specs.declared.name.CodeNo.{CodeNo}
 use Rattle.base_data.specs.declared.name.Label.{Label}
 use Rattle.core_language.specs.declared.record.CompiledLibrary.{CompiledLibrary}
 use Rattle.law_core.specs.Following.{AllFollow}
 use Rattle.law_core.specs.Follows.{names_of, Key, key_of, export_names, bound_labels, all_binders, all_numbers, Follows}
-use Rattle.law_core.specs.Words.{Each, Among, Once}
-use Rattle.law_expand.proofs.Fresh.{each-at, among-parts, once-append}
+use Rattle.law_expand.proofs.Fresh.{once-append}
 use Rattle.law_run.proofs.NameLemmas.{names_first, names_second}
 use Rattle.stx_tree.specs.declared.frame_row.FrameRow.{FrameRow}
 use Rattle.law_run.specs.Once.{row_keys, NameOnce}

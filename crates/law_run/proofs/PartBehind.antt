@@ -1,11 +1,12 @@
 -- In a part of a run, as far as it came, the records that a library needs stand behind one another.
 use Rattle.std.proofs.Common.{◌≡◌, ℕ, zero, suc, ◌+◌, ◌<◌, Bool, true, false, List, [], ◌∷◌, ◌++◌, Option, Some, None, refl, sym, ap, subst, ◌∙◌, inl, inr, arith}
 use Rattle.std.specs.Prelude.{◌⊎◌, slice_get}
+use Rattle.base_data.proofs.ElementLemmas.{among-first, among-second, among-parts}
+use Rattle.base_data.specs.Elements.{Among}
 use Rattle.base_data.specs.declared.library.LibName.{LibName}
 use Rattle.base_data.specs.declared.library.LibName.TheVariants as library
 use Rattle.core_language.specs.declared.record.CompiledLibrary.{CompiledLibrary}
 use Rattle.law_core.specs.Follows.{names_of}
-use Rattle.law_core.specs.Words.{Among}
 use Rattle.law_expand.specs.Serves.{Serves, AllServe}
 use Rattle.law_expand.proofs.AllServe.{serves-names}
 use Rattle.load_file_names.specs.File.{file_of}
@@ -22,7 +23,6 @@ use Rattle.law_run.proofs.PlaceLemmas.{marked_from}
 use Rattle.law_run.proofs.BehindLemmas.{IsNew}
 use Rattle.law_stuck.specs.Behind.{IsBehind, AllBehind}
 use Rattle.law_steady.proofs.Standing.{more_before}
-use Rattle.law_whole.proofs.Among.{among_first, among_second, among_parts}
 use Rattle.law_run.proofs.NamedFiles.{IsUser, AllUsers}
 
 pub user-no-derived : (n : LibName) → IsUser n → n ≡ library.Derived → ⊥
@@ -95,17 +95,17 @@ module _ (s : Loading) (sound : IsSound s) (users : AllUsers s.done) (d : Compil
 
     has-new : (done : List CompiledLibrary) (k : ℕ) (r : CompiledLibrary) → Has done k → slice_get others k ≡ Some r → Has (done ++ r ∷ []) (suc k)
     has-new done k r has here = record {
-      derived = among_first done (r ∷ []) d has.derived;
+      derived = among-first done (r ∷ []) d has.derived;
       below = λ p x less need at. by p x (below-next p k less) need at;
-      only = λ x a. to x (among_parts done (r ∷ []) x a);
+      only = λ x a. to x (among-parts done (r ∷ []) x a);
     }
       where
         by : (p : ℕ) (x : CompiledLibrary) → (p < k) ⊎ (p ≡ k) → Needs f p → slice_get others p ≡ Some x → Among (done ++ r ∷ []) x
-        by p x (inl l) need at = among_first done (r ∷ []) x (has.below p x l need at)
+        by p x (inl l) need at = among-first done (r ∷ []) x (has.below p x l need at)
         by p x (inr e) need at =
             let there : slice_get others k ≡ Some x = subst (λ i. slice_get others i ≡ Some x) e at in
             let same : x ≡ r = cc in
-            among_second done (r ∷ []) x (inl same)
+            among-second done (r ∷ []) x (inl same)
 
         to : (x : CompiledLibrary) → Among done x ⊎ Among (r ∷ []) x → (x ≡ d) ⊎ IsBelow (suc k) x
         to x (inl a) = still-below k x (has.only x a)

@@ -1,16 +1,16 @@
 -- In a part of a run, as far as it came, the records fit, and the next expansion begins as it should.
 use Rattle.std.proofs.Common.{◌≡◌, ℕ, zero, suc, ◌+◌, ◌<◌, true, List, [], ◌∷◌, ◌++◌, length, Some, Result, Ok, Err, refl, sym, ap, subst, ◌∙◌, arith, append_assoc, append-nil}
 use Rattle.std.specs.Prelude.{slice_get}
+use Rattle.base_data.proofs.ElementLemmas.{each-append}
+use Rattle.base_data.specs.Elements.{Each}
 use Rattle.base_data.specs.Gives.{◌>>=◌}
 use Rattle.base_data.specs.declared.fault.Fault.{Fault}
 use Rattle.base_data.specs.declared.library.LibName.{LibName}
 use Rattle.base_data.specs.declared.library.LibName.TheVariants as library
 use Rattle.core_language.specs.declared.record.CompiledLibrary.{CompiledLibrary}
-use Rattle.law_core.specs.Words.{Each}
 use Rattle.run_derived.specs.Derived.{derived_record}
 use Rattle.run_derived.specs.Names as derived_library
 use Rattle.eval_code.specs.Codes.{Codes}
-use Rattle.law_expand.proofs.Fresh.{each-append}
 use Rattle.load_forms.specs.Form.{library_body}
 use Rattle.load_import.specs.Names.{Labelled}
 use Rattle.load_import.specs.Turns.{turns}
@@ -36,10 +36,10 @@ use Rattle.law_run.proofs.Derived.{derived-names-once}
 use Rattle.law_run.proofs.NamedFiles.{IsUser, AllUsers, users-all, users-until}
 use Rattle.law_run.proofs.PartBehind.{Behind, AllMadeBehind, user-no-derived, earlier-there, one-place, all-serve, all-behind, library-new}
 use Rattle.law_run.proofs.PartRows.{IsFirst, IsItsRecord, is-behind, no-text-derived, no-text-user, made-more, last-place}
-use Rattle.law_run.proofs.PlaceLemmas.{needed_behind}
-use Rattle.law_run.proofs.RunLemmas.{same_place}
 use Rattle.law_run.proofs.Runs.{OneFits, one-fits, library-once, derived-once, names-once, of-places, each-records}
 use Rattle.law_run.proofs.Starts.{IsApart, names-apart, begins}
+use Rattle.law_local.proofs.BehindLemmas.{with_first}
+use Rattle.law_local.proofs.Part.{same_place}
 
 -- ---- lists and places
 
@@ -129,7 +129,7 @@ module _ (s : Loading) (sound : IsSound s) (users : AllUsers s.done) (d : Compil
 
       stands : Stands (Behind d others f) f.opened.form.name r
       stands = library_stands (Behind d others f) (all-serve s sound users d first.stands first.behind others made f closed) f.opened.path f.opened.form new (library_body f.opened.«data») r prelude
-          (subst (λ (rs : List CompiledLibrary). expand_library prelude rs f.opened.path f.opened.form (library_body f.opened.«data») ≡ Ok r) (needed_behind d others f.needs) h)
+          (subst (λ (rs : List CompiledLibrary). expand_library prelude rs f.opened.path f.opened.form (library_body f.opened.«data») ≡ Ok r) (with_first d others f.needs) h)
 
       its : IsItsRecord s sound users d first others f r
       its = record {

@@ -2,13 +2,13 @@
 use Rattle.std.proofs.Common.{◌≡◌, ℕ, zero, suc, ◌+◌, List, [], ◌∷◌, ◌++◌, length, Some, Result, Ok, Err, refl, sym, ap, subst, ◌∙◌, inl, inr, arith, append_assoc}
 use Rattle.std.specs.Prelude.{◌⊎◌, slice_get}
 use Rattle.base_data.specs.Datum.{PlainDatum}
+use Rattle.base_data.specs.Elements.{Among}
 use Rattle.base_data.specs.Gives.{◌>>=◌}
 use Rattle.base_data.specs.declared.fault.Fault.{Fault}
 use Rattle.base_data.specs.declared.library.LibName.{LibName}
 use Rattle.base_data.specs.declared.library.LibName.TheVariants as library
 use Rattle.core_language.specs.declared.record.CompiledLibrary.{CompiledLibrary}
 use Rattle.law_core.specs.Follows.{names_of}
-use Rattle.law_core.specs.Words.{Among}
 use Rattle.run_derived.specs.Derived.{derived_record}
 use Rattle.eval_code.specs.Codes.{Codes}
 use Rattle.law_expand.specs.Serves.{AllServe}
@@ -22,7 +22,6 @@ use Rattle.law_load.specs.Laws.{IsAt, NeedsAreClosed}
 use Rattle.law_load.proofs.ReferLemmas.{IsSound}
 use Rattle.law_load.proofs.RowLemmas.{at_cases}
 use Rattle.law_run.specs.Run.{Stands}
-use Rattle.law_run.proofs.PlaceLemmas.{needed_behind}
 use Rattle.law_run.proofs.BehindLemmas.{IsNew, library_stands, derived_stands}
 use Rattle.law_kinds.specs.Kinds.{Tells}
 use Rattle.law_stuck.specs.Behind.{IsOfTexts, IsBehind, AllBehind}
@@ -31,6 +30,7 @@ use Rattle.law_run.specs.Stuck.{IsOther}
 use Rattle.law_run.proofs.NamedFiles.{IsUser, AllUsers}
 use Rattle.law_run.proofs.OtherFaults.{AreRead, library-other, derived-other}
 use Rattle.law_run.proofs.PartBehind.{Behind, IsMadeBehind, AllMadeBehind, all-serve, all-behind, library-new}
+use Rattle.law_local.proofs.BehindLemmas.{with_first}
 
 -- what a result gives, or it is at fault in another way
 abbrev pub Told : {A : Type 0} → (A → Type 0) → Result A Fault → Type 0
@@ -111,7 +111,7 @@ module _ (prelude : Result Codes Fault) (read : AreRead prelude) (s : Loading) (
   pub found-told : (others : List CompiledLibrary) → AllMadeBehind s d others → (f : Found) → NeedsAreClosed s.done f → IsNew (Behind d others f) f.opened.form.name
       → (IsOfTexts f.opened.form.name → ⊥) → (body : List PlainDatum) → Told (Its others f) (expand_found prelude (d ∷ others) f body)
   found-told others made f closed new no_text body =
-      subst (λ (rs : List CompiledLibrary). Told (Its others f) (expand_library prelude rs f.opened.path f.opened.form body)) (sym (needed_behind d others f.needs))
+      subst (λ (rs : List CompiledLibrary). Told (Its others f) (expand_library prelude rs f.opened.path f.opened.form body)) (sym (with_first d others f.needs))
       (told-with (Its others f) (expand_library prelude (Behind d others f) f.opened.path f.opened.form body)
       (library-other prelude read (Behind d others f) behind f.opened.form (record { new = new; earlier = serve }) no_text f.opened.path body)
       (λ r h. let st = library_stands (Behind d others f) serve f.opened.path f.opened.form new body r prelude h in

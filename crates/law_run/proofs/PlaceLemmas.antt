@@ -1,12 +1,11 @@
 -- The records at places that are marked.
 use Rattle.std.proofs.Common.{◌≡◌, ℕ, zero, suc, ◌+◌, ◌<◌, Bool, true, false, List, [], ◌∷◌, ◌++◌, length, Option, Some, None, refl, sym, ap, subst, ◌∙◌, inl, inr, arith}
 use Rattle.std.specs.Prelude.{slice_get}
+use Rattle.base_data.specs.Elements.{Among}
 use Rattle.core_language.specs.declared.record.CompiledLibrary.{CompiledLibrary}
-use Rattle.law_core.specs.Words.{Among}
 use Rattle.load_files.specs.Found.{places_from}
 use Rattle.expand_standing.specs.Start.{or_skip, records_at}
-use Rattle.run_library.specs.Records.{needed_records}
-use Rattle.run_library.proofs.PlaceLemmas.{places_behind}
+use Rattle.law_local.proofs.Rising.{first_get}
 
 -- the place of one of them
 pub record IsMarked (records : List CompiledLibrary) (k : ℕ) (ms : List Bool) (r : CompiledLibrary) : Type 0 where
@@ -34,12 +33,6 @@ marked_from records k (true ∷ ms) r a = by (slice_get records k) refl (λ b. m
         record { place = zero; marked = refl; there = subst (λ i. slice_get records i ≡ Some r) first (e ∙ ap Some (sym same)) }
     by (Some x) e later (inr a) = marked_behind records k true ms r (later a)
 
--- where all marked places are those of the first records, the others don't count
-first_get : (before after : List CompiledLibrary) (i : ℕ) → i < length before → slice_get (before ++ after) i ≡ slice_get before i
-first_get [] after i less = absurd (omega arith)
-first_get (r ∷ rs) after zero less = refl
-first_get (r ∷ rs) after (suc i) less = first_get rs after i (omega arith)
-
 module _ (before after : List CompiledLibrary) where
   pub first_records : (k : ℕ) (ms : List Bool) → ((p : ℕ) → slice_get ms p ≡ Some true → k + p < length before)
       → records_at (before ++ after) (places_from k ms) ≡ records_at before (places_from k ms)
@@ -50,11 +43,6 @@ module _ (before after : List CompiledLibrary) where
       let less : k < length before = let l = low zero refl in omega (arith, l) in
       ap (λ o. or_skip o (records_at (before ++ after) (places_from (suc k) ms))) (first_get before after k less)
       ∙ ap (or_skip (slice_get before k)) (first_records (suc k) ms (λ p h. let l = low (suc p) h in omega (arith, l)))
-
--- behind the record of the derived library, which is always marked
-pub needed_behind : (d : CompiledLibrary) (rs : List CompiledLibrary) (ms : List Bool) → needed_records (d ∷ rs) (true ∷ ms) ≡ d ∷ records_at rs (places_from zero ms)
-unfolding places_from
-needed_behind d rs ms = ap (λ (xs : List CompiledLibrary). d ∷ xs) (places_behind d rs zero ms)
 
 -- such a mark, too, is that of one of the first records
 pub low_behind : (n : ℕ) (ms : List Bool) → ((p : ℕ) → slice_get ms p ≡ Some true → suc p < n) → 0 < n → (p : ℕ) → slice_get (true ∷ ms) p ≡ Some true → zero + p < n

@@ -4,6 +4,8 @@ use Rattle.std.specs.Prelude.{◌⊎◌}
 use Rattle.std.specs.List.{flat_map}
 use Rattle.std.proofs.lemmas.Grind.{flat_map-append}
 use Rattle.std.proofs.lemmas.List.{map-append}
+use Rattle.base_data.proofs.ElementLemmas.{among-first, among-second, among-parts, among-map}
+use Rattle.base_data.specs.Elements.{Each, Among}
 use Rattle.base_data.specs.Gives.{◌>>=◌}
 use Rattle.base_data.specs.declared.name.Label.{Label}
 use Rattle.core_language.specs.Core.{PlainCore, quoted, variable, primitive, one_armed, two_armed, assignment, sequence, procedure, letrec, call, instance, matching}
@@ -15,11 +17,8 @@ use Rattle.law_core.specs.Follows.{line_variables}
 use Rattle.law_core.specs.Parts.{parts, all_parts, init_parts, case_parts, init_labels, case_labels, own_variables, bound_variables}
 use Rattle.law_core.specs.Records.{line_core, line_binders}
 use Rattle.law_core.specs.Scope.{Closed, AllClosed, InitsClosed, CasesClosed}
-use Rattle.law_core.specs.Words.{Each, Among}
 use Rattle.core_output.specs.CoreText.{VariableNames, name_of}
 use Rattle.core_output.specs.Syntax.{Checked, written, checked, all_checked, inits_checked, cases_checked, line_checked, lines_checked}
-use Rattle.law_expand.proofs.Fresh.{among-parts, among-first, among-second}
-use Rattle.law_text.proofs.Words.{among-map}
 use Rattle.law_run.specs.Names.{names_for, NamesClosed, AllNamesClosed, InitNamesClosed, CaseNamesClosed}
 
 -- where both have a text, each has

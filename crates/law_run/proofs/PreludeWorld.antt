@@ -1,33 +1,34 @@
 -- A world with the codes of the texts, as they are written out, is whole.
-use Rattle.std.proofs.Common.{◌≡◌, ◌==◌, ℕ, Bool, true, false, List, [], ◌∷◌, Option, Some, cond, map, refl, sym, subst, inl, inr}
-use Rattle.std.specs.Prelude.{IsTrue, is_some, ◌||◌}
+use Rattle.std.proofs.Common.{◌≡◌, ◌==◌, ℕ, Bool, true, false, List, [], ◌∷◌, map, refl, sym, subst, inl, inr}
+use Rattle.std.specs.Prelude.{IsTrue, ◌||◌}
 use Rattle.std.specs.Bool.{Decides}
 use Rattle.std.specs.List.{flat_map}
 use Rattle.std.proofs.lemmas.Bool.Decides.{Decides-or}
 use Rattle.std.specs.Cmp.{unsigned_Decides}
+use Rattle.base_data.proofs.ElementLemmas.{each-at}
+use Rattle.base_data.specs.Elements.{Each}
 use Rattle.base_data.specs.Same.{same_library, same_library_decides}
 use Rattle.base_data.specs.declared.library.LibName.TheVariants as library
 use Rattle.base_data.specs.declared.name.CodeNo.{CodeNo}
 use Rattle.base_data.specs.declared.op.names.TheConstants as names
 use Rattle.core_language.specs.Core.{PlainCore, PlainCode}
-use Rattle.law_core.specs.Words.{Each, Among}
 use Rattle.law_core.specs.Parts.{code_numbers}
 use Rattle.law_core.specs.Scope.{Closed, closed}
 use Rattle.law_core.specs.WellMade.{IsWellMade, is_well_made, same_code}
 use Rattle.law_core.proofs.Decisions.{code_decides, once_decides, each_decides}
 use Rattle.law_core.proofs.ScopeLemmas.{closed_decides}
 use Rattle.law_core.proofs.WellMadeLemmas.{well_made_decides}
-use Rattle.eval_code.specs.Codes.{Codes, code_at}
+use Rattle.eval_code.specs.Codes.{code_at}
 use Rattle.eval_code.specs.Procedures.{has_text}
 use Rattle.law_given.specs.Codes.{map_text, for_each_text, for_all_text, exists_text, filter_text, remp_text, find_text, memp_text, fold_left_text, fold_right_text}
 use Rattle.law_given.specs.Texts.{written_table}
 use Rattle.eval_value.specs.Cells.{is_found}
 use Rattle.law_whole.specs.Beginning.{text_code, HasText}
 use Rattle.law_whole.specs.WholeWorld.{WholeWorld}
-use Rattle.law_whole.proofs.Among.{each_at}
-use Rattle.law_whole.proofs.Beginnings.{first_worlds_whole}
+use Rattle.law_whole.proofs.Beginnings.{first_worlds_whole, by_test}
 use Rattle.law_stuck.specs.Behind.{IsOfTexts}
 use Rattle.law_steady.specs.Libraries.{AreTexts}
+use Rattle.law_steady.proofs.Libraries.{found_there}
 
 -- the texts, each as the procedure whose body it is
 abbrev texts : List PlainCore
@@ -36,10 +37,6 @@ texts =
     text_code names.REMP remp_text ∷ text_code names.FIND find_text ∷ text_code names.MEMP memp_text ∷ text_code names.FOLD_LEFT fold_left_text ∷ text_code names.FOLD_RIGHT fold_right_text ∷ []
 
 -- ---- the op of a text is one of ten
-
-by-test : (t : Bool) (x : List ℕ) (r : Option (List ℕ)) (X : Type 0) → (t ≡ true → X) → (is_some r ≡ true → X) → is_some (cond t (Some x) r) ≡ true → X
-by-test true x r X k j h = k refl
-by-test false x r X k j h = j h
 
 no-more : (X : Type 0) → false ≡ true → X
 no-more X e = absurd (cc)
@@ -50,16 +47,16 @@ is-op op k e a = subst (HasText texts) (sym ((unsigned_Decides op k).0 e)) a
 has-body : (op : ℕ) → has_text op ≡ true → HasText texts op
 unfolding has_text
 has-body op h =
-    by-test (op == names.FOR_EACH) _ _ (HasText texts op) (λ e. is-op op names.FOR_EACH e (record { body = for_each_text; among = inr (inl refl); gives = tt })) (λ h.
-    by-test (op == names.MAP) _ _ (HasText texts op) (λ e. is-op op names.MAP e (record { body = map_text; among = inl refl; gives = tt })) (λ h.
-    by-test (op == names.FIND) _ _ (HasText texts op) (λ e. is-op op names.FIND e (record { body = find_text; among = inr (inr (inr (inr (inr (inr (inl refl)))))); gives = refl })) (λ h.
-    by-test (op == names.FOR_ALL) _ _ (HasText texts op) (λ e. is-op op names.FOR_ALL e (record { body = for_all_text; among = inr (inr (inl refl)); gives = tt })) (λ h.
-    by-test (op == names.EXISTS) _ _ (HasText texts op) (λ e. is-op op names.EXISTS e (record { body = exists_text; among = inr (inr (inr (inl refl))); gives = tt })) (λ h.
-    by-test (op == names.FILTER) _ _ (HasText texts op) (λ e. is-op op names.FILTER e (record { body = filter_text; among = inr (inr (inr (inr (inl refl)))); gives = refl })) (λ h.
-    by-test (op == names.FOLD_LEFT) _ _ (HasText texts op) (λ e. is-op op names.FOLD_LEFT e (record { body = fold_left_text; among = inr (inr (inr (inr (inr (inr (inr (inr (inl refl)))))))); gives = tt })) (λ h.
-    by-test (op == names.FOLD_RIGHT) _ _ (HasText texts op) (λ e. is-op op names.FOLD_RIGHT e (record { body = fold_right_text; among = inr (inr (inr (inr (inr (inr (inr (inr (inr (inl refl))))))))); gives = tt })) (λ h.
-    by-test (op == names.REMP) _ _ (HasText texts op) (λ e. is-op op names.REMP e (record { body = remp_text; among = inr (inr (inr (inr (inr (inl refl))))); gives = tt })) (λ h.
-    by-test (op == names.MEMP) _ _ (HasText texts op) (λ e. is-op op names.MEMP e (record { body = memp_text; among = inr (inr (inr (inr (inr (inr (inr (inl refl))))))); gives = refl })) (λ h.
+    by_test (op == names.FOR_EACH) _ _ (HasText texts op) (λ e. is-op op names.FOR_EACH e (record { body = for_each_text; among = inr (inl refl); gives = tt })) (λ h.
+    by_test (op == names.MAP) _ _ (HasText texts op) (λ e. is-op op names.MAP e (record { body = map_text; among = inl refl; gives = tt })) (λ h.
+    by_test (op == names.FIND) _ _ (HasText texts op) (λ e. is-op op names.FIND e (record { body = find_text; among = inr (inr (inr (inr (inr (inr (inl refl)))))); gives = refl })) (λ h.
+    by_test (op == names.FOR_ALL) _ _ (HasText texts op) (λ e. is-op op names.FOR_ALL e (record { body = for_all_text; among = inr (inr (inl refl)); gives = tt })) (λ h.
+    by_test (op == names.EXISTS) _ _ (HasText texts op) (λ e. is-op op names.EXISTS e (record { body = exists_text; among = inr (inr (inr (inl refl))); gives = tt })) (λ h.
+    by_test (op == names.FILTER) _ _ (HasText texts op) (λ e. is-op op names.FILTER e (record { body = filter_text; among = inr (inr (inr (inr (inl refl)))); gives = refl })) (λ h.
+    by_test (op == names.FOLD_LEFT) _ _ (HasText texts op) (λ e. is-op op names.FOLD_LEFT e (record { body = fold_left_text; among = inr (inr (inr (inr (inr (inr (inr (inr (inl refl)))))))); gives = tt })) (λ h.
+    by_test (op == names.FOLD_RIGHT) _ _ (HasText texts op) (λ e. is-op op names.FOLD_RIGHT e (record { body = fold_right_text; among = inr (inr (inr (inr (inr (inr (inr (inr (inr (inl refl))))))))); gives = tt })) (λ h.
+    by_test (op == names.REMP) _ _ (HasText texts op) (λ e. is-op op names.REMP e (record { body = remp_text; among = inr (inr (inr (inr (inr (inl refl))))); gives = tt })) (λ h.
+    by_test (op == names.MEMP) _ _ (HasText texts op) (λ e. is-op op names.MEMP e (record { body = memp_text; among = inr (inr (inr (inr (inr (inr (inr (inl refl))))))); gives = refl })) (λ h.
     no-more (HasText texts op) h) h) h) h) h) h) h) h) h) h) h
 
 -- ---- each is closed and well made, and no two codes have one number
@@ -75,15 +72,6 @@ texts-whole = first_worlds_whole texts [] has-body all-closed all-made ((once_de
 
 -- ---- names
 
-found-there : (codes : Codes) (n : CodeNo) → IsTrue (is_found (code_at codes n)) → Among (map (λ (e : CodeNo × PlainCode). e.0) codes) n
-found-there [] n h = absurd (cc)
-found-there (e ∷ codes) n h = by (same_code n e.0) refl h (found-there codes n)
-  where
-    by : (b : Bool) → same_code n e.0 ≡ b → IsTrue (is_found (cond b (Some e.1) (code_at codes n))) → (IsTrue (is_found (code_at codes n)) → Among (map (λ (e : CodeNo × PlainCode). e.0) codes) n)
-        → Among (map (λ (e : CodeNo × PlainCode). e.0) (e ∷ codes)) n
-    by true is k rest = inl ((code_decides n e.0).0 is)
-    by false is k rest = inr (rest k)
-
 abbrev is_text : CodeNo → Bool
 is_text n = same_library n.0.library library.Core || same_library n.0.library library.Prelude
 
@@ -96,7 +84,7 @@ all-named = (each_decides is_text (λ (n : CodeNo). IsOfTexts n.0.library) text-
 
 texts-named : (n : CodeNo) → IsTrue (is_found (code_at written_table n)) → IsOfTexts n.0.library
 texts-named n h =
-    each_at (λ (m : CodeNo). IsOfTexts m.0.library) (map (λ (e : CodeNo × PlainCode). e.0) written_table) n all-named (found-there written_table n h)
+    each-at (λ (m : CodeNo). IsOfTexts m.0.library) (map (λ (e : CodeNo × PlainCode). e.0) written_table) n all-named (found_there written_table n h)
 
 pub written-texts : AreTexts written_table
 written-texts = record { whole = texts-whole; named = texts-named }

@@ -2,7 +2,9 @@
 use Rattle.std.proofs.Common.{◌≡◌, ℕ, zero, suc, Bool, true, false, List, [], ◌∷◌, ◌++◌, Option, Some, None, Result, Ok, Err, refl, if◌then◌else◌}
 use Rattle.std.specs.Prelude.{All, codes}
 use Rattle.std.proofs.lemmas.List.Elements.{All-head, All-tail}
+use Rattle.base_data.proofs.ElementLemmas.{each-and, each-dropped}
 use Rattle.base_data.specs.Datum.{PlainDatum, atom, symbol, pair, vector, elements, tail_of, is_nil, proper_elements}
+use Rattle.base_data.specs.Elements.{Each}
 use Rattle.base_data.specs.declared.atom.Atom.{Atom}
 use Rattle.base_data.specs.declared.atom.Atom.TheVariants as a
 use Rattle.base_data.specs.declared.fault.Bare.{Bare}
@@ -12,7 +14,6 @@ use Rattle.load_forms.specs.All.{given}
 use Rattle.load_forms.specs.Form.{behind_word, form_of, body_in, library_body, program_body}
 use Rattle.load_forms.specs.Words.{is_word}
 use Rattle.law_fresh.specs.Leaves.{OptionHolds}
-use Rattle.law_fresh.proofs.Eachs.{each_and, each_dropped}
 use Rattle.law_fresh.proofs.Trees.{OkHolds}
 use Rattle.run_library.specs.Library.{placed, tree_at, trees_at}
 use Rattle.read_reader.specs.Read.{data_of, file_nesting}
@@ -25,7 +26,6 @@ use Rattle.stx_tree.specs.Context.{blank}
 use Rattle.stx_tree.specs.Leaves.{tree_of}
 use Rattle.stx_tree.specs.Measures.{within}
 use Rattle.stx_tree.specs.Tree.{Tree}
-use Rattle.eval_value.specs.Cells.{Each}
 
 -- Data.
 
@@ -120,10 +120,10 @@ library-body (d ∷ ds) h = by (form_of (codes "library") d) (form-holds (codes 
   where
     by : (o : Option (List PlainDatum)) → OptionHolds Ds o → Ds (body_in o)
     by None k = tt
-    by (Some es) k = each_dropped ReadableDatum 3 es k
+    by (Some es) k = each-dropped ReadableDatum 3 es k
 
 pub program-body : (ds : List PlainDatum) → Ds ds → Ds (program_body ds)
-program-body ds h = each_dropped ReadableDatum 1 ds h
+program-body ds h = each-dropped ReadableDatum 1 ds h
 
 -- Trees.
 
@@ -152,4 +152,4 @@ tree-at-holds place d h = by (within (tree_of blank d)) (limited-holds d h)
 pub trees-hold : (place : Span) (done : List Tree) (ds : List PlainDatum) → Each ReadableTree done → Ds ds → OkHolds (Each ReadableTree) (trees_at place done ds)
 trees-hold place done [] h k = h
 trees-hold place done (d ∷ ds) h k =
-    then-holds ReadableTree (Each ReadableTree) (tree_at place d) (λ t. trees_at place (done ++ t ∷ []) ds) (tree-at-holds place d k.0) (λ t j. trees-hold place (done ++ t ∷ []) ds (each_and ReadableTree done t h j) k.1)
+    then-holds ReadableTree (Each ReadableTree) (tree_at place d) (λ t. trees_at place (done ++ t ∷ []) ds) (tree-at-holds place d k.0) (λ t j. trees-hold place (done ++ t ∷ []) ds (each-and ReadableTree done t h j) k.1)

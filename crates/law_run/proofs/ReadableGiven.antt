@@ -1,7 +1,9 @@
 -- The codes of texts, and the record of the derived library, can be written and read back: they are made of texts that are read.
 use Rattle.std.proofs.Common.{◌≡◌, ℕ, List, [], ◌∷◌, ◌++◌, Result, Ok, Err, refl, subst}
+use Rattle.base_data.proofs.ElementLemmas.{each-and}
 use Rattle.base_data.specs.Act.{give, each}
 use Rattle.base_data.specs.Datum.{PlainDatum}
+use Rattle.base_data.specs.Elements.{Each}
 use Rattle.base_data.specs.Gives.{◌>>=◌}
 use Rattle.base_data.specs.declared.fault.Bare.{Bare}
 use Rattle.base_data.specs.declared.fault.Fault.{Fault}
@@ -20,7 +22,7 @@ use Rattle.run_derived.specs.Names as derived_names
 use Rattle.eval_code.specs.Codes.{Codes, with_procedure, with_code}
 use Rattle.expand_forms.specs.Expanding.{ready, expression}
 use Rattle.expand_forms.specs.Site.{outermost}
-use Rattle.law_fresh.proofs.Eachs.{each_and}
+use Rattle.base_data.proofs.ElementLemmas.{each-and}
 use Rattle.law_fresh.proofs.Trees.{OkHolds}
 use Rattle.run_prelude.specs.Prelude.{procedures, names, path_of, text_place, text_of, at_place, first_tree, tree_in, procedure_of, expanded, text_code, without_state, prelude_codes, filled}
 use Rattle.read_reader.specs.Read.{data_of, file_nesting}
@@ -40,7 +42,6 @@ use Rattle.stx_tree.specs.Leaves.{tree_of}
 use Rattle.stx_tree.specs.Measures.{within}
 use Rattle.stx_tree.specs.Tree.{Tree}
 use Rattle.stx_tree.specs.declared.change.Change.TheVariants as change
-use Rattle.eval_value.specs.Cells.{Each}
 use Rattle.law_run.specs.Readable.{IsReadablePrelude, PreludeIsReadable}
 use Rattle.law_run.proofs.ReadableData.{Ds, text-data, limited-holds}
 
@@ -104,7 +105,7 @@ prelude-readable table e = by prelude_codes codes-hold e
 trees-hold : (done : List Tree) (ds : List PlainDatum) → Each ReadableTree done → Ds ds → OkHolds (Each ReadableTree) (of_derived.trees done ds)
 trees-hold done [] h k = h
 trees-hold done (d ∷ ds) h k =
-    then-holds ReadableTree (Each ReadableTree) (of_derived.tree_at d) (λ t. of_derived.trees (done ++ t ∷ []) ds) (placed-holds derived_names.start d k.0) (λ t j. trees-hold (done ++ t ∷ []) ds (each_and ReadableTree done t h j) k.1)
+    then-holds ReadableTree (Each ReadableTree) (of_derived.tree_at d) (λ t. of_derived.trees (done ++ t ∷ []) ds) (placed-holds derived_names.start d k.0) (λ t j. trees-hold (done ++ t ∷ []) ds (each-and ReadableTree done t h j) k.1)
 
 forms-hold : (text : List ℕ) → OkHolds (Each ReadableTree) (forms_of text)
 unfolding forms_of

@@ -2,7 +2,9 @@
 use Rattle.std.proofs.Common.{◌≡◌, ℕ, zero, suc, Bool, true, false, List, [], ◌∷◌, ◌++◌, map, Option, Some, None, Result, Ok, Err, refl, sym, subst, if◌then◌else◌}
 use Rattle.std.specs.Prelude.{slice_get}
 use Rattle.std.specs.List.{flat_map}
+use Rattle.base_data.proofs.ElementLemmas.{each-at, each-of, each-append, each-and}
 use Rattle.base_data.specs.Datum.{PlainDatum}
+use Rattle.base_data.specs.Elements.{Each}
 use Rattle.base_data.specs.Gives.{◌>>=◌}
 use Rattle.base_data.specs.Same.{same_library}
 use Rattle.base_data.specs.declared.fault.Fault.{Fault}
@@ -16,15 +18,14 @@ use Rattle.law_core_grammar.specs.Laws.{IsWrittenCoreText, CoreTextIsReadBack, C
 use Rattle.law_core_grammar.specs.Spellable.{CanBeRead, own_constant, constants}
 use Rattle.law_core.specs.Parts.{parts, all_parts, init_parts, case_parts, clause_parts}
 use Rattle.law_core.specs.Records.{line_core}
-use Rattle.law_core.specs.Words as words
+use Rattle.base_data.specs.Elements as elements
 use Rattle.run_derived.specs.Derived.{derived_record}
 use Rattle.eval_code.specs.Codes.{Codes}
 use Rattle.expand_forms.specs.Expanding.{library_record}
-use Rattle.law_expand.proofs.Fresh.{each-at, each-of, each-append}
 use Rattle.load_forms.specs.Form.{library_body, program_body, read_library, read_program}
 use Rattle.load_forms.specs.declared.form.LibraryForm.{LibraryForm}
 use Rattle.law_fresh.specs.Leaves.{OptionHolds}
-use Rattle.law_fresh.proofs.Eachs.{each_and, each_at}
+use Rattle.law_fresh.proofs.Eachs.{each_at}
 use Rattle.law_fresh.proofs.Trees.{OkHolds}
 use Rattle.load_import.specs.Names.{Labelled}
 use Rattle.load_import.specs.Turns.{turns}
@@ -52,7 +53,6 @@ use Rattle.expand_standing.specs.Start.{or_skip, records_at}
 use Rattle.law_text.specs.Text.{text_of}
 use Rattle.law_text.proofs.Closed.{text-known}
 use Rattle.stx_tree.specs.Tree.{Tree}
-use Rattle.eval_value.specs.Cells.{Each}
 use Rattle.law_run.specs.Readable.{IsReadablePrelude, RunsAreReadable, ConstantsAreRead, TextsAreReadBack, TextsTellTheirLines}
 use Rattle.law_run.specs.Spelled.{run_lines, GivesText, CanAllBeRead}
 use Rattle.law_run.proofs.ClosedLemmas.{all_standing}
@@ -172,7 +172,7 @@ module _ (prelude : Result Codes Fault) (given : IsReadablePrelude prelude) wher
     where
       by : ((more : List CompiledLibrary) → Rs more → turns (expand_next prelude) more rows ≡ Ok records → Rs records) → (x : Result CompiledLibrary Fault) → expand_found prelude done row.1 (library_body row.1.opened.«data») ≡ x
           → ((x >>= (λ r. Ok (done ++ r ∷ []))) >>= (λ more. turns (expand_next prelude) more rows)) ≡ Ok records → Rs records
-      by rest (Ok r) i e = rest (done ++ r ∷ []) (each_and ReadableRecord done r h (found-holds done row.1 (library_body row.1.opened.«data») r h (library-body row.1.opened.«data» k.0) i)) e
+      by rest (Ok r) i e = rest (done ++ r ∷ []) (each-and ReadableRecord done r h (found-holds done row.1 (library_body row.1.opened.«data») r h (library-body row.1.opened.«data» k.0) i)) e
       by rest (Err f) i e = absurd (cc)
 
   records-hold : (rows : List (List ℕ × Found)) (records : List CompiledLibrary) → Each RowHolds rows → all_records prelude rows ≡ Ok records → Rs records
@@ -182,7 +182,7 @@ module _ (prelude : Result Codes Fault) (given : IsReadablePrelude prelude) wher
       by (Ok d) i e = turns-hold (d ∷ []) rows records (derived-readable d prelude given i, tt) k e
       by (Err f) i e = absurd (cc)
 
-in-words : {A : Type 0} (P : A → Type 0) (xs : List A) → Each P xs → words.Each P xs
+in-words : {A : Type 0} (P : A → Type 0) (xs : List A) → Each P xs → elements.Each P xs
 in-words P [] h = tt
 in-words P (x ∷ xs) h = (h.0, in-words P xs h.1)
 
@@ -190,15 +190,15 @@ pub runs-readable : RunsAreReadable
 runs-readable files roots path found s records program run =
     let before = records-hold prelude_table prelude-readable s.done records (loaded-rows files roots path found s run.loaded) run.recorded in
     let last = found-holds prelude_table prelude-readable records found (program_body found.opened.«data») program before (program-body found.opened.«data» (loaded-program files roots path found s run.loaded)) run.expanded in
-    in-words ReadableRecord (records ++ program ∷ []) (each_and ReadableRecord records program before last)
+    in-words ReadableRecord (records ++ program ∷ []) (each-and ReadableRecord records program before last)
 
 -- Constants.
 
 abbrev OwnHolds : PlainCore → Type 0
-OwnHolds c = words.Each ReadableDatum (own_constant c)
+OwnHolds c = elements.Each ReadableDatum (own_constant c)
 
 abbrev All : List PlainCore → Type 0
-All cs = words.Each OwnHolds cs
+All cs = elements.Each OwnHolds cs
 
 both : (xs ys : List PlainCore) → All xs → All ys → All (xs ++ ys)
 both xs ys h k = each-append OwnHolds xs ys h k
@@ -235,23 +235,23 @@ mutual
   clauses-hold (clause p c cs) h = both (parts c) (clause_parts cs) (parts-hold c h.0) (clauses-hold cs h.1)
   clauses-hold (fended p f c cs) h = both (parts f) (parts c ++ clause_parts cs) (parts-hold f h.0) (both (parts c) (clause_parts cs) (parts-hold c h.1.0) (clauses-hold cs h.1.1))
 
-own-constants : (cs : List PlainCore) → All cs → words.Each ReadableDatum (flat_map own_constant cs)
+own-constants : (cs : List PlainCore) → All cs → elements.Each ReadableDatum (flat_map own_constant cs)
 own-constants [] h = tt
 own-constants (c ∷ cs) h = each-append ReadableDatum (own_constant c) (flat_map own_constant cs) h.0 (own-constants cs h.1)
 
 abbrev LineHolds : Line → Type 0
-LineHolds l = words.Each ReadableDatum (constants (line_core l))
+LineHolds l = elements.Each ReadableDatum (constants (line_core l))
 
-lines-hold : (ls : List Line) → ReadableLines ls → words.Each LineHolds ls
+lines-hold : (ls : List Line) → ReadableLines ls → elements.Each LineHolds ls
 lines-hold [] h = tt
 lines-hold (line.Define l c ∷ ls) h = (own-constants (parts c) (parts-hold c h.0), lines-hold ls h.1)
 lines-hold (line.Expr c ∷ ls) h = (own-constants (parts c) (parts-hold c h.0), lines-hold ls h.1)
 
-can-be-read : (ds : List PlainDatum) → words.Each ReadableDatum ds → words.Each CanBeRead ds
+can-be-read : (ds : List PlainDatum) → elements.Each ReadableDatum ds → elements.Each CanBeRead ds
 can-be-read [] h = tt
 can-be-read (d ∷ ds) h = (readables-read d h.0, can-be-read ds h.1)
 
-all-can : (ls : List Line) → words.Each LineHolds ls → CanAllBeRead ls
+all-can : (ls : List Line) → elements.Each LineHolds ls → CanAllBeRead ls
 all-can [] h = tt
 all-can (l ∷ ls) h = (can-be-read (constants (line_core l)) h.0, all-can ls h.1)
 
@@ -261,7 +261,7 @@ constants-read files roots path found s records program run =
     let standing = all_standing found s records program stand in
     let readable = runs-readable files roots path found s records program run in
     let lines = text-lines LineHolds records program
-    (each-of (λ r. words.Each LineHolds r.run) (text_of records program) (λ r a. lines-hold r.run (each-at ReadableRecord (records ++ program ∷ []) r readable (text-known records program standing r a)).run)) in
+    (each-of (λ r. elements.Each LineHolds r.run) (text_of records program) (λ r a. lines-hold r.run (each-at ReadableRecord (records ++ program ∷ []) r readable (text-known records program standing r a)).run)) in
     all-can (run_lines records program) lines
 
 is-text : (files : Paths) (roots : List (List ℕ)) (path : List ℕ) (found : Found) (s : Loading) (records : List CompiledLibrary) (program : CompiledLibrary) (text : List ℕ)

@@ -2,6 +2,7 @@
 use Rattle.std.proofs.Common.{◌≡◌, ◌≢◌, ℕ, Bool, true, false, List, [], ◌∷◌, ◌++◌, map, Option, None, Some, Ok, Err, refl, sym, ◌∙◌, ap, subst, cond, append_assoc, append-nil, if◌then◌else◌}
 use Rattle.std.specs.Prelude.{filter, is_some, nat_eq, ◌&&◌}
 use Rattle.std.specs.Cmp.Lexicographic.{pointwise}
+use Rattle.base_data.specs.Elements.{Each}
 use Rattle.base_data.specs.Same.{texts_decides}
 use Rattle.base_data.specs.declared.library.LibName.{LibName}
 use Rattle.base_data.specs.declared.name.FrameNo.{FrameNo}
@@ -16,7 +17,6 @@ use Rattle.stx_frames.proofs.FrameLaws.{same_frame-differs, rows_at-with_row, ro
 use Rattle.stx_frames.proofs.ListedLaws.{filter-rows_in, ordered_rows_in}
 use Rattle.stx_frames.proofs.MemoLemmas.{same_frame_is}
 use Rattle.stx_frames.proofs.ScopeLemmas.{same_frame-self}
-use Rattle.law_core.specs.Words.{Each}
 use Rattle.law_run.specs.Bound.{AreBound, Binds, no_more, one_more}
 
 -- no row has the symbol and the marks of one before it
@@ -135,10 +135,6 @@ has-none f fs (r ∷ rows) h e = has-none f (with_row fs r.frame (row_in r)) row
 pub rows-none : (f : FrameNo) (fs : Scope) (rows : List FrameRow) → AreElsewhere f rows → rows_at f (adopted fs rows) ≡ rows_at f fs
 rows-none f fs [] h = refl
 rows-none f fs (r ∷ rows) h = rows-none f (with_row fs r.frame (row_in r)) rows h.1 ∙ rows_at-other fs r.frame f (row_in r) h.0
-
-pub adopted-append : (fs : Scope) (xs ys : List FrameRow) → adopted fs (xs ++ ys) ≡ adopted (adopted fs xs) ys
-adopted-append fs [] ys = refl
-adopted-append fs (x ∷ xs) ys = adopted-append (with_row fs x.frame (row_in x)) xs ys
 
 -- what isn't there isn't there with a row of another symbol
 pub label-end : (rows : List Row) (r : Row) (s : List ℕ) (ms : List Mark) → label_in rows s ms ≡ None → is_of s ms r ≡ false → label_in (rows ++ r ∷ []) s ms ≡ None

@@ -1,12 +1,12 @@
 -- In a run each record stands behind those that its library needs.
 use Rattle.std.proofs.Common.{◌≡◌, ℕ, zero, suc, ◌+◌, ◌<◌, Bool, true, false, List, [], ◌∷◌, ◌++◌, length, Option, Some, None, Result, Ok, refl, sym, ap, subst, ◌∙◌, inl, inr, arith}
 use Rattle.std.specs.Prelude.{◌⊎◌, slice_get}
+use Rattle.base_data.specs.Elements.{Among, Once}
 use Rattle.base_data.specs.declared.fault.Fault.{Fault}
 use Rattle.base_data.specs.declared.library.LibName.{LibName}
 use Rattle.base_data.specs.declared.library.LibName.TheVariants as library
 use Rattle.core_language.specs.declared.record.CompiledLibrary.{CompiledLibrary}
 use Rattle.law_core.specs.Follows.{names_of}
-use Rattle.law_core.specs.Words.{Among, Once}
 use Rattle.eval_code.specs.Codes.{Codes}
 use Rattle.law_expand.specs.Serves.{Serves, AllServe}
 use Rattle.law_expand.proofs.AllServe.{serves-names}
@@ -25,22 +25,17 @@ use Rattle.expand_standing.specs.Start.{or_skip, records_at}
 use Rattle.law_run.specs.Run.{IsRun, Stands, AllStand, RecordsStand}
 use Rattle.law_run.proofs.NameLemmas.{names_first, names_second, IsNamed, named_among, named_at, once_named}
 use Rattle.law_run.proofs.UserLemmas.{IsUser, program_name, user_at}
-use Rattle.law_run.proofs.PlaceLemmas.{marked_from, first_records, needed_behind, low_behind}
+use Rattle.law_run.proofs.PlaceLemmas.{marked_from, first_records, low_behind}
 use Rattle.law_run.proofs.MadeLemmas.{IsMade, all_made}
 use Rattle.law_run.proofs.BehindLemmas.{IsNew, library_stands, derived_stands}
+use Rattle.law_local.proofs.BehindLemmas.{with_first}
+use Rattle.law_local.proofs.Part.{same_place}
 
 pub below_next : (p k : ℕ) → p < suc k → (p < k) ⊎ (p ≡ k)
 below_next zero zero h = inr refl
 below_next zero (suc k) h = inl (omega arith)
 below_next (suc p) zero h = absurd (omega (arith, h))
 below_next (suc p) (suc k) h = elim (below_next p k (omega (arith, h))) [ inl l ↦ inl (omega (arith, l)) | inr e ↦ inr (ap suc e) ]
-
--- in lists that are as long, what stands at a place of one has a place in the other
-pub same_place : {A B : Type 0} (xs : List A) (ys : List B) (i : ℕ) (x : A) → length xs ≡ length ys → slice_get xs i ≡ Some x → (y : B) × (slice_get ys i ≡ Some y)
-same_place [] ys i x e h = absurd (cc)
-same_place (a ∷ xs) [] i x e h = absurd (omega (arith, e))
-same_place (a ∷ xs) (b ∷ ys) zero x e h = (b, refl)
-same_place (a ∷ xs) (b ∷ ys) (suc i) x e h = same_place xs ys i x (omega (arith, e)) h
 
 user_no_program : (n : LibName) → IsUser n → n ≡ library.Program → ⊥
 user_no_program n u e = subst IsUser e u
@@ -199,7 +194,7 @@ module _ (prelude : Result Codes Fault) (files : Paths) (roots : List (List ℕ)
         let low : (p : ℕ) → slice_get (true ∷ f.needs) p ≡ Some true → zero + p < length x.before =
         low_behind (length x.before) f.needs (λ p h. let l = (closed p h).before in omega (arith, l, many, place)) (omega (arith, many)) in
         let same : needed_records x.before (true ∷ f.needs) ≡ Behind f =
-        sym (first_records x.before x.after zero (true ∷ f.needs) low) ∙ ap (λ (rs : List CompiledLibrary). needed_records rs (true ∷ f.needs)) (sym x.parts) ∙ needed_behind d others f.needs in
+        sym (first_records x.before x.after zero (true ∷ f.needs) low) ∙ ap (λ (rs : List CompiledLibrary). needed_records rs (true ∷ f.needs)) (sym x.parts) ∙ with_first d others f.needs in
         library_stands (Behind f) (all_serve f closed before) f.opened.path f.opened.form is_new (library_body f.opened.«data») r prelude
         (subst (λ (rs : List CompiledLibrary). expand_library prelude rs f.opened.path f.opened.form (library_body f.opened.«data») ≡ Ok r) same x.made)
 
@@ -225,7 +220,7 @@ module _ (prelude : Result Codes Fault) (files : Paths) (roots : List (List ℕ)
 
   program_stands : Stands (Behind found) library.Program program
   program_stands =
-      let same : needed_records records (true ∷ found.needs) ≡ Behind found = ap (λ (rs : List CompiledLibrary). needed_records rs (true ∷ found.needs)) m.parts ∙ needed_behind d others found.needs in
+      let same : needed_records records (true ∷ found.needs) ≡ Behind found = ap (λ (rs : List CompiledLibrary). needed_records rs (true ∷ found.needs)) m.parts ∙ with_first d others found.needs in
       subst (λ (n : LibName). Stands (Behind found) n program) program_is
       (library_stands (Behind found) (all_serve found whole.stands.closed (λ j less. stands_at j)) found.opened.path found.opened.form program_new (program_body found.opened.«data») program prelude
       (subst (λ (rs : List CompiledLibrary). expand_library prelude rs found.opened.path found.opened.form (program_body found.opened.«data») ≡ Ok program) same run.expanded))

@@ -2,6 +2,7 @@
 use Rattle.std.proofs.Common.{◌≡◌, ℕ, zero, suc, true, List, [], ◌∷◌, ◌++◌, map, length, Option, None, Some, Result, Ok, Err, refl, sym, ◌∙◌, ap, subst, inl, inr, arith, append_assoc}
 use Rattle.std.specs.Prelude.{slice_get}
 use Rattle.base_data.specs.Datum.{PlainDatum}
+use Rattle.base_data.specs.Elements.{Each, Among, Once}
 use Rattle.base_data.specs.Gives.{◌>>=◌}
 use Rattle.base_data.specs.declared.fault.Fault.{Fault}
 use Rattle.base_data.specs.declared.library.LibName.{LibName}
@@ -12,7 +13,6 @@ use Rattle.stx_tree.specs.Tree.{Tree}
 use Rattle.stx_tree.specs.declared.frame_row.FrameRow.{FrameRow}
 use Rattle.core_language.specs.declared.record.CompiledLibrary.{CompiledLibrary}
 use Rattle.law_core.specs.Follows.{names_of, bound_labels, IsOwn}
-use Rattle.law_core.specs.Words.{Each, Among, Once}
 use Rattle.run_derived.specs.Derived.{forms_of, record_of, derived_record}
 use Rattle.run_derived.specs.Names.{path, start, exports_of}
 use Rattle.run_derived.specs.Names as derived_library
@@ -37,13 +37,14 @@ use Rattle.expand_standing.specs.Start.{or_skip, records_at}
 use Rattle.law_run.specs.Run.{IsRun, Stands, AllStand}
 use Rattle.law_run.proofs.ImportLemmas.{turns_keep}
 use Rattle.law_run.proofs.MadeLemmas.{IsMade, all_made}
-use Rattle.law_run.proofs.RunLemmas.{same_place, all_records_stand}
+use Rattle.law_run.proofs.RunLemmas.{all_records_stand}
 use Rattle.law_run.proofs.UserLemmas.{IsUser, user_at}
 use Rattle.law_run.specs.Expansion.{IsOnceOver}
 use Rattle.law_run.specs.Fitting.{AllFit, RecordsFit, BeginsApart, ExpansionsBegin}
 use Rattle.law_run.proofs.Derived.{derived-names-once}
 use Rattle.law_run.proofs.Starts.{IsApart, names-apart, begins}
 use Rattle.law_run.proofs.Tops.{once-behind}
+use Rattle.law_local.proofs.Part.{same_place}
 
 -- Names of a form come once.
 

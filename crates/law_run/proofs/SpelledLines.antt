@@ -1,11 +1,11 @@
 -- The lines of a run, record by record.
 use Rattle.std.proofs.Common.{ℕ, List, [], ◌∷◌, ◌++◌, Option, None, Some}
 use Rattle.std.specs.Prelude.{slice_get}
+use Rattle.base_data.proofs.ElementLemmas.{each-append}
+use Rattle.base_data.specs.Elements.{Each}
 use Rattle.core_language.specs.declared.record.CompiledLibrary.{CompiledLibrary}
 use Rattle.core_language.specs.declared.record.Line.{Line}
 use Rattle.law_core_grammar.specs.Lines.{record_lines, all_lines}
-use Rattle.law_core.specs.Words.{Each}
-use Rattle.law_expand.proofs.Fresh.{each-append}
 use Rattle.core_plan.specs.Planned.{plan_of}
 use Rattle.expand_standing.specs.Start.{or_skip, records_at}
 use Rattle.law_text.specs.Text.{text_of}

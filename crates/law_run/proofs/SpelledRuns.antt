@@ -2,6 +2,8 @@
 use Rattle.std.proofs.Common.{◌≡◌, ℕ, ◌<◌, ◌∙◌, Bool, true, false, List, [], ◌∷◌, ◌++◌, Result, Some, refl, sym, subst}
 use Rattle.std.specs.Prelude.{slice_get}
 use Rattle.std.specs.List.{flat_map}
+use Rattle.base_data.proofs.ElementLemmas.{each-at, each-of, each-append, among-first, among-second, among-map, among-flat}
+use Rattle.base_data.specs.Elements.{Each, Among}
 use Rattle.base_data.specs.Op.{name_count, is_keyword}
 use Rattle.base_data.specs.declared.fault.Fault.{Fault}
 use Rattle.base_data.specs.declared.name.Label.{Label}
@@ -20,20 +22,19 @@ use Rattle.law_core.specs.Parts.{ops}
 use Rattle.law_core.specs.Records.{defined, line_core, line_labels, line_binders, run_binders, LinesClosed}
 use Rattle.law_core.specs.Scope.{Closed}
 use Rattle.law_core.specs.WellMade.{IsWellMade}
-use Rattle.law_core.specs.Words.{Each, Among, among}
+use Rattle.law_core.specs.Words.{among}
 use Rattle.law_core.proofs.GivenLemmas.{references_given}
 use Rattle.law_core.proofs.ScopeLemmas.{given_decides}
 use Rattle.core_output.specs.CoreText.{VariableNames}
 use Rattle.eval_code.specs.Codes.{Codes}
 use Rattle.law_expand.specs.Good.{IsGood}
-use Rattle.law_expand.proofs.Fresh.{each-at, each-of, each-append, among-first, among-second}
 use Rattle.load_files.specs.declared.found.Found.{Found}
 use Rattle.load_files.specs.declared.found.Loading.{Loading}
 use Rattle.base_outside.specs.Contents.{Paths}
 use Rattle.core_plan.specs.Planned.{plan_of}
 use Rattle.law_run.specs.Run.{AllStand}
 use Rattle.law_run.proofs.ClosedLemmas.{each_place, all_standing, runs_are_closed_once}
-use Rattle.law_run.proofs.RunLemmas.{same_place, all_records_stand}
+use Rattle.law_run.proofs.RunLemmas.{all_records_stand}
 use Rattle.law_run.proofs.UserLemmas.{user_at}
 use Rattle.law_run.specs.Spelled.{run_names, run_lines, GivesText, CanAllBeRead, RunsAreSpelled, RunsAreReadBack, RunsTellTheirLines}
 use Rattle.law_run.proofs.SpelledLines.{text-lines}
@@ -41,8 +42,9 @@ use Rattle.law_text.specs.Standing.{AreStanding}
 use Rattle.law_text.specs.Text.{text_of, IsClosedOnce}
 use Rattle.law_text.proofs.Closed.{text-known}
 use Rattle.law_expand.proofs.RunReferences.{free-referenced}
-use Rattle.law_text.proofs.Words.{among-map, among-flat, flat-among}
+use Rattle.law_text.proofs.Words.{flat-among}
 use Rattle.law_run.proofs.Written.{HasText, IsSound, all-sound, binder, first-bare, text-checked}
+use Rattle.law_local.proofs.Part.{same_place}
 
 -- What expansion promises of the lines of a record.
 

@@ -2,29 +2,30 @@
 use Rattle.std.proofs.Common.{◌≡◌, ◌≢◌, ℕ, Bool, true, false, List, [], ◌∷◌, ◌++◌, map, None, Some, refl, sym, ◌∙◌, ap, subst, cond, inl, inr, append_assoc}
 use Rattle.std.specs.Prelude.{is_some, nat_eq}
 use Rattle.std.specs.Cmp.Lexicographic.{pointwise}
+use Rattle.base_data.proofs.ElementLemmas.{each-append}
+use Rattle.base_data.specs.Elements.{Each, Among}
+use Rattle.base_data.specs.declared.imported_name.ImportedName.{ImportedName}
 use Rattle.base_data.specs.declared.library.LibName.{LibName}
 use Rattle.base_data.specs.declared.library.LibName.TheVariants as library
 use Rattle.base_data.specs.declared.name.FrameNo.{FrameNo}
-use Rattle.base_data.specs.declared.name.Label.{Label}
 use Rattle.stx_tree.specs.declared.frame_row.FrameRow.{FrameRow}
 use Rattle.stx_frames.specs.Rows.{label_in}
 use Rattle.stx_frames.specs.Scope.{Scope, has_frame, rows_at, label_at, with_row, row_in, adopted, are_new}
 use Rattle.stx_frames.proofs.FrameLaws.{rows_at-with_row}
 use Rattle.core_language.specs.declared.record.CompiledLibrary.{CompiledLibrary}
 use Rattle.law_core.specs.Follows.{names_of, IsOwn}
-use Rattle.law_core.specs.Words.{Each, Among}
 use Rattle.eval_code.specs.Codes.{Codes}
-use Rattle.load_import.specs.Names.{Labelled}
-use Rattle.load_import.specs.Table.{value_of}
+use Rattle.load_import.specs.Names.{Labelled, label_named}
 use Rattle.law_imports.specs.Algebra.{IsOnce}
 use Rattle.core_records.specs.Frame.{core_row, rows_for, introduced_numbers, record_frame}
 use Rattle.core_records.specs.Introduced.{core_frame}
 use Rattle.expand_standing.specs.Start.{rows_of, first_frame, import_row, started}
+use Rattle.expand_standing.proofs.Adopted.{adopted_append}
 use Rattle.law_expand.specs.Serves.{AllServe}
-use Rattle.law_expand.proofs.Fresh.{each-append, each-map}
+use Rattle.law_expand.proofs.Fresh.{each-map}
 use Rattle.law_run.specs.Bound.{AreBound}
 use Rattle.law_run.specs.Fitting.{BeginsApart}
-use Rattle.law_run.proofs.Rows.{OnceBehind, RowsOnce, is-bound, adopted-once, AreElsewhere, has-none, rows-none, adopted-append, label-end, other-symbol}
+use Rattle.law_run.proofs.Rows.{OnceBehind, RowsOnce, is-bound, adopted-once, AreElsewhere, has-none, rows-none, label-end, other-symbol}
 
 -- The rows of records and of what record forms introduce.
 
@@ -68,24 +69,24 @@ introduced-new fs h = by introduced_numbers
 
 -- a name that is none of these
 abbrev OtherNames : List ℕ → Labelled → Type 0
-OtherNames n names = Each (λ (e : List ℕ × Label). pointwise nat_eq n e.0 ≡ false) names
+OtherNames n names = Each (λ (e : ImportedName). pointwise nat_eq n e.name ≡ false) names
 
-none-other : (n : List ℕ) (names : Labelled) → is_some (value_of n names) ≡ false → OtherNames n names
+none-other : (n : List ℕ) (names : Labelled) → is_some (label_named n names) ≡ false → OtherNames n names
 none-other n [] h = tt
-none-other n (e ∷ names) h = by (pointwise nat_eq n e.0) refl h (λ k. none-other n names k)
+none-other n (e ∷ names) h = by (pointwise nat_eq n e.name) refl h (λ k. none-other n names k)
   where
-    by : (b : Bool) → pointwise nat_eq n e.0 ≡ b → is_some (cond b (Some e.1) (value_of n names)) ≡ false → (is_some (value_of n names) ≡ false → OtherNames n names) → OtherNames n (e ∷ names)
+    by : (b : Bool) → pointwise nat_eq n e.name ≡ b → is_some (cond b (Some e.label) (label_named n names)) ≡ false → (is_some (label_named n names) ≡ false → OtherNames n names) → OtherNames n (e ∷ names)
     by true is k rest = absurd (cc)
     by false is k rest = (is, rest k)
 
 -- no name has a label in a frame
 abbrev NewNames : FrameNo → Scope → Labelled → Type 0
-NewNames f fs names = Each (λ (e : List ℕ × Label). label_at fs f e.0 [] ≡ None) names
+NewNames f fs names = Each (λ (e : ImportedName). label_at fs f e.name [] ≡ None) names
 
-still-new : (f : FrameNo) (fs : Scope) (n : List ℕ × Label) (names : Labelled) → NewNames f fs names → OtherNames n.0 names → NewNames f (with_row fs f (row_in (import_row f n))) names
+still-new : (f : FrameNo) (fs : Scope) (n : ImportedName) (names : Labelled) → NewNames f fs names → OtherNames n.name names → NewNames f (with_row fs f (row_in (import_row f n))) names
 still-new f fs n [] h k = tt
 still-new f fs n (e ∷ names) h k = (
-  ap (λ rows. label_in rows e.0 []) (rows_at-with_row fs f (row_in (import_row f n))) ∙ label-end (rows_at f fs) (row_in (import_row f n)) e.0 [] h.0 (other-symbol e.0 n.0 [] n.1 k.0),
+  ap (λ rows. label_in rows e.name []) (rows_at-with_row fs f (row_in (import_row f n))) ∙ label-end (rows_at f fs) (row_in (import_row f n)) e.name [] h.0 (other-symbol e.name n.name [] n.label k.0),
   still-new f fs n names h.1 k.1,
 )
 
@@ -93,12 +94,12 @@ imports-bound : (f : FrameNo) (fs : Scope) (names : Labelled) → NewNames f fs 
 imports-bound f fs [] h o = tt
 imports-bound f fs (n ∷ names) h o = (
   is-bound fs f (row_in (import_row f n)) h.0,
-  imports-bound f (with_row fs f (row_in (import_row f n))) names (still-new f fs n names h.1 (none-other n.0 names o.0)) o.1,
+  imports-bound f (with_row fs f (row_in (import_row f n))) names (still-new f fs n names h.1 (none-other n.name names o.0)) o.1,
 )
 
 all-new : (f : FrameNo) (fs : Scope) (names : Labelled) → rows_at f fs ≡ [] → NewNames f fs names
 all-new f fs [] h = tt
-all-new f fs (n ∷ names) h = (ap (λ rows. label_in rows n.0 []) h, all-new f fs names h)
+all-new f fs (n ∷ names) h = (ap (λ rows. label_in rows n.name []) h, all-new f fs names h)
 
 -- The beginning.
 
@@ -128,5 +129,5 @@ module _ (name : LibName) (records : List CompiledLibrary) (apart : Each (IsApar
   unfolding started
   once-started names codes o =
       subst (RowsOnce name) (ap (adopted []) (append_assoc (rows_of records) record_frame (map (import_row (first_frame name)) names)))
-      (subst (RowsOnce name) (sym (adopted-append [] (rows_of records ++ record_frame) (map (import_row (first_frame name)) names)))
+      (subst (RowsOnce name) (sym (adopted_append [] (rows_of records ++ record_frame) (map (import_row (first_frame name)) names)))
       (adopted-once name before (map (import_row (first_frame name)) names) (λ f mine. subst (λ rows. OnceBehind [] rows) (sym (own-none f mine)) tt) (names-bound names o)))

@@ -3,7 +3,7 @@ use Rattle.std.proofs.Common.{◌≡◌, ℕ, zero, suc, Bool, true, false, List
 use Rattle.std.specs.Prelude.{All}
 use Rattle.std.proofs.lemmas.List.Elements.{All-nil, All-cons, All-head, All-tail}
 use Rattle.base_data.specs.Datum.{PlainDatum, atom, symbol, pair, vector, elements, tail_of, is_nil, proper_elements}
-use Rattle.law_core.specs.Words.{Each}
+use Rattle.base_data.specs.Elements.{Each}
 use Rattle.load_forms.specs.All.{given}
 use Rattle.load_forms.specs.Form.{behind_word, form_of}
 use Rattle.load_forms.specs.Name.{leading}

@@ -3,6 +3,8 @@
 use Rattle.std.proofs.Common.{◌≡◌, ℕ, List, [], ◌∷◌, ◌++◌, map, Option, Some, None, refl, sym, ◌∙◌, ap, subst, inl, inr}
 use Rattle.std.specs.Prelude.{slice_get}
 use Rattle.std.specs.Map.{lookup}
+use Rattle.base_data.proofs.ElementLemmas.{each-at, among-map}
+use Rattle.base_data.specs.Elements.{Each, Among, Once}
 use Rattle.base_data.specs.declared.name.Label.{Label}
 use Rattle.core_language.specs.Labels.{same_label}
 use Rattle.core_language.specs.declared.binding.Binding.{Binding}
@@ -10,16 +12,13 @@ use Rattle.core_language.specs.declared.binding.Binding.TheVariants as binding
 use Rattle.core_language.specs.declared.binding.VarInfo.{VarInfo}
 use Rattle.core_language.specs.declared.record.CompiledLibrary.{CompiledLibrary}
 use Rattle.law_core.specs.Follows.{names_of, bound_labels, IsOwn}
-use Rattle.law_core.specs.Words.{Each, Among, Once}
 use Rattle.core_output.specs.CoreText.{VariableNames}
 use Rattle.core_output.specs.Naming.{with_index, with_name, with_names}
 use Rattle.core_output.specs.Whole.{named_by, plan_names, all_names}
 use Rattle.core_naming.specs.Generated.{generated_name}
-use Rattle.law_expand.proofs.Fresh.{each-at}
 use Rattle.core_plan.specs.Planned.{plan_of}
 use Rattle.expand_standing.specs.Start.{or_skip, records_at}
 use Rattle.law_text.specs.Text.{text_of}
-use Rattle.law_text.proofs.Words.{among-map}
 use Rattle.law_run.proofs.Lists.{found-put, found-kept}
 
 abbrev label_of : Label × Binding → Label

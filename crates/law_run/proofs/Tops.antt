@@ -1,7 +1,8 @@
 -- A library or program: what its expansion leaves came by binds, and so its rows can be bound again.
-use Rattle.std.proofs.Common.{◌≡◌, ℕ, ◌<◌, List, [], map, Option, None, Some, Result, Ok, Err, refl, sym, ◌∙◌, ap, subst, arith}
+use Rattle.std.proofs.Common.{◌≡◌, ℕ, ◌<◌, List, [], map, Option, None, Some, Ok, refl, sym, ◌∙◌, ap, subst, arith}
 use Rattle.base_data.specs.Act.{after}
-use Rattle.base_data.specs.declared.fault.Fault.{Fault}
+use Rattle.base_data.specs.Elements.{Each, Once}
+use Rattle.base_data.specs.declared.imported_name.ImportedName.{ImportedName}
 use Rattle.base_data.specs.declared.library.LibName.{LibName}
 use Rattle.base_data.specs.declared.library.LibName.TheVariants as library
 use Rattle.base_data.specs.declared.name.Label.{Label}
@@ -12,7 +13,6 @@ use Rattle.stx_frames.specs.Listed.{rows_in}
 use Rattle.core_language.specs.Bindings.{bound_to}
 use Rattle.core_language.specs.declared.binding.Binding.{Binding}
 use Rattle.core_language.specs.declared.record.CompiledLibrary.{CompiledLibrary}
-use Rattle.law_core.specs.Words.{Each, Once}
 use Rattle.eval_code.specs.Codes.{Codes}
 use Rattle.law_imports.specs.Algebra.{IsOnce}
 use Rattle.expand_standing.specs.Own.{own_bindings}
@@ -24,13 +24,13 @@ use Rattle.expand_forms.specs.Body.{splice, finish_all}
 use Rattle.expand_forms.specs.Expanding.{ready, body_of, library_record}
 use Rattle.expand_forms.specs.Expression.{inside, full_room}
 use Rattle.expand_forms.specs.Inside.{Inside}
-use Rattle.expand_forms.specs.Top.{record_in, give_record, exports, body_at, second_pass, first_pass, top}
+use Rattle.expand_forms.specs.Top.{give_record, exports, body_at, second_pass, first_pass, top}
 use Rattle.expand_forms.specs.declared.top.TopAt.{TopAt}
 use Rattle.expand_forms.specs.Site.{site_at}
 use Rattle.law_expand.specs.States.{IsNumbered, Later}
 use Rattle.law_expand.proofs.Acts.{Gave, gave-after, told}
 use Rattle.law_expand.proofs.Changes.{form-later}
-use Rattle.law_expand.proofs.Records.{records-good}
+use Rattle.law_expand.proofs.Records.{records-good, in-record}
 use Rattle.law_expand.proofs.Started.{started-sound}
 use Rattle.law_expand.proofs.Top.{SameScope, AreShown, same-exports}
 use Rattle.law_run.specs.Bound.{AreBound, Binds}
@@ -71,7 +71,7 @@ record Ends (own : LibName) (start : State) (r : CompiledLibrary) : Type 0 where
   pub bindings : r.bindings ≡ own_bindings ended
 
 module _ (own : LibName) (go : Inside) (inner : Inner own go) (at : TopAt) (mine : at.frame.0.library ≡ own) (start : State) where
-  ends-record : (es : List (List ℕ × Label)) (d : Taken) (s : State) → Steps own start s → Gave (λ r v. Ends own start r) (after (finish_all go 0 d.waiting s) (λ lines. give_record at es lines))
+  ends-record : (es : List ImportedName) (d : Taken) (s : State) → Steps own start s → Gave (λ r v. Ends own start r) (after (finish_all go 0 d.waiting s) (λ lines. give_record at es lines))
   ends-record es d s h = gave-after (St own s) (λ r v. Ends own start r) (finish_all go 0 d.waiting s) (λ lines. give_record at es lines) (b-lines own go inner 0 d.waiting s h.next)
       (λ xs v k. record { ended = v; binds = (steps-then own start s v h k).binds; frames = refl; bindings = refl })
 
@@ -85,16 +85,12 @@ module _ (own : LibName) (go : Inside) (inner : Inner own go) (at : TopAt) (mine
   ends-top es forms n = gave-after (St own start) (λ r v. Ends own start r) (splice go (body_at at start.library) 0 begun (map (stamp at.frame) forms) start) (second_pass go at es)
       (b-splice own go inner (body_at at start.library) 0 begun (map (stamp at.frame) forms) start mine n) (λ d t k. ends-finished es d t k)
 
-in-record : (P : CompiledLibrary → Type 0) (x : Result (CompiledLibrary × State) Fault) (r : CompiledLibrary) → Gave (λ y v. P y) x → record_in x ≡ Ok r → P r
-in-record P (Ok p) r h e = let is : p.0 ≡ r = cc in subst P is h
-in-record P (Err f) r h e = absurd (cc)
-
-started-names : (own : LibName) (records : List CompiledLibrary) (imports : List (List ℕ × Label)) (codes : Codes) → (started own records imports codes).names.library ≡ own
+started-names : (own : LibName) (records : List CompiledLibrary) (imports : List ImportedName) (codes : Codes) → (started own records imports codes).names.library ≡ own
 unfolding started
 started-names own records imports codes = refl
 
 -- behind records of other libraries
-pub once-behind : (own : LibName) (path : List ℕ) (records : List CompiledLibrary) (imports : List (List ℕ × Label)) (version : List ℕ) (place : Span) (exports : List (List ℕ × Tree)) (forms : List Tree) (codes : Codes) (r : CompiledLibrary)
+pub once-behind : (own : LibName) (path : List ℕ) (records : List CompiledLibrary) (imports : List ImportedName) (version : List ℕ) (place : Span) (exports : List (List ℕ × Tree)) (forms : List Tree) (codes : Codes) (r : CompiledLibrary)
     → Each (IsApart own) records → (own ≡ library.Core → ⊥) → IsOnce imports → library_record (ready own path records imports codes) records version place exports forms ≡ Ok r → r.name ≡ own → IsOnceOver r
 once-behind own path records imports version place exports forms codes r h other o e named =
     let start = started own records imports codes in

@@ -2,15 +2,16 @@
 use Rattle.std.proofs.Common.{List, [], ◌∷◌, ◌++◌, refl, subst, inl, inr}
 use Rattle.std.specs.Prelude.{◌⊎◌}
 use Rattle.std.specs.List.{flat_map}
+use Rattle.base_data.proofs.ElementLemmas.{among-first, among-second, among-parts}
+use Rattle.base_data.specs.Elements.{Among}
 use Rattle.base_data.specs.declared.library.LibName.{LibName}
 use Rattle.base_data.specs.declared.name.Label.{Label}
 use Rattle.core_language.specs.Core.{PlainCore}
 use Rattle.core_language.specs.declared.record.CompiledLibrary.{CompiledLibrary}
 use Rattle.law_core.specs.Follows.{names_of, export_labels, row_labels, bound_labels, line_cores, keywords, IsKnown, Suits, Follows}
 use Rattle.law_core.specs.Records.{defined}
-use Rattle.law_core.specs.Words.{Among}
 use Rattle.law_core.proofs.FollowingLemmas.{closed_more}
-use Rattle.law_expand.proofs.Fresh.{each-map, among-parts, among-first, among-second}
+use Rattle.law_expand.proofs.Fresh.{each-map}
 use Rattle.law_run.proofs.NameLemmas.{name_among, named_among}
 
 -- each of the first is one of the second

@@ -1,8 +1,10 @@
 -- The text that a run writes is closed and bound once by the names in it.
-use Rattle.std.proofs.Common.{◌≡◌, ℕ, List, [], ◌∷◌, ◌++◌, map, Option, Some, None, Result, Ok, Err, refl, sym, ◌∙◌, ap, subst, inl, inr}
+use Rattle.std.proofs.Common.{◌≡◌, ℕ, List, [], ◌∷◌, ◌++◌, Option, Some, None, Result, Ok, Err, refl, sym, ◌∙◌, ap, subst, inl, inr}
 use Rattle.std.specs.Prelude.{◌⊎◌, slice_get, unwrap_or}
 use Rattle.std.specs.List.{flat_map}
 use Rattle.std.specs.Map.{lookup}
+use Rattle.base_data.proofs.ElementLemmas.{each-at, each-of, each-append, among-map}
+use Rattle.base_data.specs.Elements.{Each, Among, Once}
 use Rattle.base_data.specs.Gives.{◌>>=◌}
 use Rattle.base_data.specs.declared.fault.Fault.{Fault}
 use Rattle.base_data.specs.declared.library.LibName.{LibName}
@@ -16,14 +18,14 @@ use Rattle.core_language.specs.declared.record.CompiledLibrary.{CompiledLibrary}
 use Rattle.core_language.specs.declared.record.Line.{Line}
 use Rattle.law_core.specs.Follows.{names_of, bound_labels, index_in, index_of, indices, run_variables, IsThere, IsOwn}
 use Rattle.law_core.specs.Records.{defined, line_core, line_binders, run_binders, LinesClosed}
-use Rattle.law_core.specs.Words.{Each, Among, Once}
 use Rattle.core_output.specs.CoreText.{VariableNames, name_of}
 use Rattle.core_output.specs.Syntax.{Checked, written, lines_checked}
 use Rattle.core_output.specs.Whole.{record_checked, plan_checked, all_names, all_text, core_text}
 use Rattle.eval_code.specs.Codes.{Codes}
 use Rattle.core_naming.specs.Generated.{generated_name}
 use Rattle.law_expand.specs.Variables.{HasIndices}
-use Rattle.law_expand.proofs.Fresh.{each-at, each-of, each-append}
+use Rattle.law_expand.proofs.Behind.{each-mapped}
+use Rattle.law_expand.proofs.Variables.{once-map}
 use Rattle.run_library.specs.Loaded.{all_records}
 use Rattle.load_files.specs.declared.found.Found.{Found}
 use Rattle.load_files.specs.declared.found.Loading.{Loading}
@@ -34,21 +36,22 @@ use Rattle.expand_standing.specs.Start.{or_skip, records_at}
 use Rattle.law_run.specs.Run.{AllStand}
 use Rattle.law_run.proofs.ClosedLemmas.{each_place, all_standing, runs_are_closed_once}
 use Rattle.law_run.proofs.MadeLemmas.{all_made}
-use Rattle.law_run.proofs.RunLemmas.{same_place, all_records_stand}
+use Rattle.law_run.proofs.RunLemmas.{all_records_stand}
 use Rattle.law_run.proofs.UserLemmas.{IsUser, user_at}
 use Rattle.law_text.specs.Standing.{AreStanding}
 use Rattle.law_text.specs.Text.{text_of, IsClosedOnce}
 use Rattle.law_text.proofs.BoundOnce.{text-names-once}
 use Rattle.law_text.proofs.Closed.{text-known}
 use Rattle.law_text.proofs.Names.{same-record}
-use Rattle.law_text.proofs.Words.{among-map, flat-among}
+use Rattle.law_text.proofs.Words.{flat-among}
 use Rattle.law_run.specs.Names.{names_for, NamesClosed, IsWrittenName, IsWrittenOnce}
 use Rattle.law_run.specs.Written.{RunsAreWrittenOnce}
 use Rattle.law_run.proofs.DerivedLines.{derived-bare}
-use Rattle.law_run.proofs.Lists.{once-map, map-once, found-among}
+use Rattle.law_run.proofs.Lists.{map-once, found-among}
 use Rattle.law_run.proofs.NameText.{name_written}
 use Rattle.law_run.proofs.Plain.{lines-plain, lines-closed}
 use Rattle.law_run.proofs.Table.{names-of-text, name-in}
+use Rattle.law_local.proofs.Part.{same_place}
 
 -- What was checked.
 
@@ -101,10 +104,6 @@ all-sound found s records program users h bare =
         let x = same_place h.others s.done i r h.as_many e in
         let st = h.each i x.0.0 x.0.1 r x.1 e in
         record { indices = st.indices; own = st.serves.own_bindings; named = inr (subst IsNamed (sym st.named) (user-named x.0.1.opened.form.name (users i x.0.0 x.0.1 x.1))) }
-
-each-mapped : {A B : Type 0} (P : B → Type 0) (g : A → B) (xs : List A) → Each (λ x. P (g x)) xs → Each P (map g xs)
-each-mapped P g [] h = tt
-each-mapped P g (x ∷ xs) h = (h.0, each-mapped P g xs h.1)
 
 -- a variable of a record, with its index
 pub record IsIndexedIn (r : CompiledLibrary) (l : Label) : Type 0 where

@@ -1,15 +1,15 @@
 -- Expansion binds in frames of its library alone, and never twice.
 use Rattle.std.specs.Prelude.{◌≡◌, ℕ, List, [], None, Ok}
+use Rattle.base_data.specs.Elements.{Once}
+use Rattle.base_data.specs.declared.imported_name.ImportedName.{ImportedName}
 use Rattle.base_data.specs.declared.library.LibName.{LibName}
 use Rattle.base_data.specs.declared.library.LibName.TheVariants as library
-use Rattle.base_data.specs.declared.name.Label.{Label}
 use Rattle.base_data.specs.declared.span.Span.{Span}
 use Rattle.stx_tree.specs.Tree.{Tree}
 use Rattle.core_language.specs.Bindings.{bound_to}
 use Rattle.core_language.specs.Core.{PlainCore}
 use Rattle.core_language.specs.declared.record.CompiledLibrary.{CompiledLibrary}
 use Rattle.law_core.specs.Follows.{bound_labels}
-use Rattle.law_core.specs.Words.{Once}
 use Rattle.eval_code.specs.Codes.{Codes}
 use Rattle.expand_forms.specs.Expanding.{ready, library_record}
 use Rattle.expand_forms.specs.Expression.{inside}
@@ -35,7 +35,7 @@ NewLabelsAreUnbound = (records : List CompiledLibrary) (room : ℕ) (place : Spa
 
 -- so it is where the expansion of a library begins
 abbrev pub StartsAreNumbered : Type 0
-StartsAreNumbered = (own : LibName) (records : List CompiledLibrary) (imports : List (List ℕ × Label)) (codes : Codes)
+StartsAreNumbered = (own : LibName) (records : List CompiledLibrary) (imports : List ImportedName) (codes : Codes)
     → IsReady own records → IsNumbered own (started own records imports codes)
 
 -- So a record that expansion gives binds no label twice, and where no name is imported twice, no two of its rows have one frame,
@@ -45,7 +45,7 @@ pub record IsOnceOver (r : CompiledLibrary) : Type 0 where
   pub labels : Once (bound_labels r)
 
 abbrev pub RecordsAreOnceOver : Type 0
-RecordsAreOnceOver = (own : LibName) (path : List ℕ) (records : List CompiledLibrary) (imports : List (List ℕ × Label)) (version : List ℕ) (place : Span)
+RecordsAreOnceOver = (own : LibName) (path : List ℕ) (records : List CompiledLibrary) (imports : List ImportedName) (version : List ℕ) (place : Span)
     (exports : List (List ℕ × Tree)) (forms : List Tree) (codes : Codes) (r : CompiledLibrary)
     → IsReady own records → (own ≡ library.Core → ⊥) → IsOnce imports
     → library_record (ready own path records imports codes) records version place exports forms ≡ Ok r → IsOnceOver r

@@ -1,5 +1,6 @@
 -- What a run meets where its records are put into tables, and where the expansion of a library begins.
 use Rattle.std.specs.Prelude.{◌≡◌, ℕ, suc, false, true, List, [], ◌∷◌, ◌++◌, length, map, Ok, Result}
+use Rattle.base_data.specs.Elements.{Each, Among, Once}
 use Rattle.base_data.specs.declared.fault.Fault.{Fault}
 use Rattle.base_data.specs.declared.library.LibName.{LibName}
 use Rattle.base_data.specs.declared.library.LibName.TheVariants as library
@@ -7,7 +8,6 @@ use Rattle.stx_tree.specs.declared.frame_row.FrameRow.{FrameRow}
 use Rattle.stx_frames.specs.Scope.{has_frame, adopted, are_new}
 use Rattle.core_language.specs.declared.record.CompiledLibrary.{CompiledLibrary}
 use Rattle.law_core.specs.Follows.{names_of, bound_labels, IsOwn}
-use Rattle.law_core.specs.Words.{Each, Among, Once}
 use Rattle.eval_code.specs.Codes.{Codes}
 use Rattle.load_import.specs.Names.{Labelled}
 use Rattle.run_library.specs.Imports.{form_names}

@@ -1,10 +1,10 @@
 -- A run: its records follow one another.
 use Rattle.std.specs.Prelude.{◌≡◌, ℕ, List, [], ◌∷◌, ◌++◌, length, Some, slice_get, Result}
+use Rattle.base_data.specs.Elements.{Each}
 use Rattle.base_data.specs.declared.fault.Fault.{Fault}
 use Rattle.core_language.specs.declared.record.CompiledLibrary.{CompiledLibrary}
 use Rattle.law_core.specs.Following.{AllFollow}
 use Rattle.law_core.specs.Follows.{Follows}
-use Rattle.law_core.specs.Words.{Each}
 use Rattle.eval_code.specs.Codes.{Codes}
 use Rattle.load_files.specs.Found.{needed}
 use Rattle.load_files.specs.declared.found.Found.{Found}

@@ -1,6 +1,7 @@
 -- Every record of a run is hygienic.
 use Rattle.std.specs.Prelude.{◌≡◌, ℕ, List, [], ◌∷◌, map, length, Some, Result, Ok, slice_get}
 use Rattle.base_data.specs.Datum.{PlainDatum}
+use Rattle.base_data.specs.Elements.{Each}
 use Rattle.base_data.specs.declared.fault.Fault.{Fault}
 use Rattle.base_data.specs.declared.library.LibName.TheVariants as library
 use Rattle.base_data.specs.declared.span.Span.{Span}
@@ -29,7 +30,6 @@ use Rattle.law_references.specs.Records.{RunIsRight}
 use Rattle.expand_standing.specs.Start.{started, records_at}
 use Rattle.stx_tree.specs.Context.{LeafContext}
 use Rattle.stx_tree.specs.Tree.{Tree}
-use Rattle.eval_value.specs.Cells.{Each}
 use Rattle.law_run.specs.Parts.{IsPartOfRun}
 use Rattle.law_run.specs.Run.{IsRun}
 

@@ -1,11 +1,11 @@
 -- What records mention.
 use Rattle.std.specs.Prelude.{List}
 use Rattle.std.specs.List.{flat_map}
+use Rattle.base_data.specs.Elements.{Each, Among}
 use Rattle.core_language.specs.declared.record.CompiledLibrary.{CompiledLibrary}
 use Rattle.law_core.specs.Follows.{names_of, export_labels, row_labels, keywords}
 use Rattle.law_core.specs.Records.{defined, LinesClosed}
 use Rattle.law_core.specs.Scope.{Closed}
-use Rattle.law_core.specs.Words.{Each, Among}
 use Rattle.law_expand.specs.Behind.{IsKnownBefore}
 
 -- Each label that it exports or that its frames give is bound in one of these records, or given with the implementation. Its lines, and the

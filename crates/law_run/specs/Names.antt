@@ -1,6 +1,7 @@
 -- Core code that is closed by the names in it.
 use Rattle.std.specs.Prelude.{◌≡◌, ℕ, List, ◌∷◌, ◌++◌, map}
 use Rattle.std.specs.List.{flat_map}
+use Rattle.base_data.specs.Elements.{Each, Among, Once}
 use Rattle.base_data.specs.declared.name.Label.{Label}
 use Rattle.core_language.specs.Core.{PlainCore, quoted, variable, primitive, one_armed, two_armed, assignment, sequence, procedure, letrec, call, instance, matching}
 use Rattle.core_language.specs.Core.{PlainCores, none, more, PlainInits, no_init, init, PlainCases, no_case, case}
@@ -8,7 +9,6 @@ use Rattle.core_language.specs.References.{formals_labels}
 use Rattle.core_language.specs.declared.record.CompiledLibrary.{CompiledLibrary}
 use Rattle.law_core.specs.Parts.{init_labels}
 use Rattle.law_core.specs.Records.{defined, line_core, run_binders}
-use Rattle.law_core.specs.Words.{Each, Among, Once}
 use Rattle.core_output.specs.CoreText.{VariableNames, name_of}
 use Rattle.law_names.specs.Apart.{IsReadAsSymbol}
 

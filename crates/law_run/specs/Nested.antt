@@ -1,5 +1,6 @@
 -- Where a form is begun inside another, the state is whole, also where the other is at fault later.
 use Rattle.std.specs.Prelude.{◌≡◌, ◌<◌, ℕ, Bool, true, List, [], ◌∷◌, ◌&&◌, Err, if◌then◌else◌}
+use Rattle.base_data.specs.Elements.{Each}
 use Rattle.base_data.specs.Same.{same_library}
 use Rattle.base_data.specs.declared.library.LibName.{LibName}
 use Rattle.base_data.specs.declared.name.CodeNo.{CodeNo}
@@ -8,7 +9,6 @@ use Rattle.base_data.specs.declared.span.Span.{Span}
 use Rattle.stx_tree.specs.Tree.{Tree}
 use Rattle.core_language.specs.Core.{PlainCore}
 use Rattle.core_language.specs.declared.record.CompiledLibrary.{CompiledLibrary}
-use Rattle.law_core.specs.Words.{Each}
 use Rattle.expand_forms.specs.Body.{item}
 use Rattle.expand_forms.specs.Expression.{form_at, lambda_case, inside}
 use Rattle.expand_forms.specs.Inside.{Inside}

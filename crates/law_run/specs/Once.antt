@@ -1,9 +1,9 @@
 -- What records name once.
 use Rattle.std.specs.Prelude.{List, map}
 use Rattle.std.specs.List.{flat_map}
+use Rattle.base_data.specs.Elements.{Each, Once}
 use Rattle.core_language.specs.declared.record.CompiledLibrary.{CompiledLibrary}
 use Rattle.law_core.specs.Follows.{Key, key_of, export_names, bound_labels, all_binders, all_numbers}
-use Rattle.law_core.specs.Words.{Each, Once}
 
 abbrev pub row_keys : CompiledLibrary → List Key
 row_keys r = map key_of r.frames

@@ -1,12 +1,12 @@
 -- The constants of whole runs can be written and read back.
 use Rattle.std.specs.Prelude.{◌≡◌, ℕ, List, [], ◌∷◌, ◌++◌, map, Result, Ok}
+use Rattle.base_data.specs.Elements.{Each}
 use Rattle.base_data.specs.declared.fault.Fault.{Fault}
 use Rattle.core_language.specs.declared.record.CompiledLibrary.{CompiledLibrary}
 use Rattle.law_core_grammar.specs.ReadBack.{IsTextReadBack}
 use Rattle.law_core_grammar.specs.SameCode.{line_by_names}
 use Rattle.law_core_grammar.specs.Spellable.{CanBeRead, constants}
 use Rattle.law_core.specs.Records.{line_core}
-use Rattle.law_core.specs.Words.{Each}
 use Rattle.eval_code.specs.Codes.{Codes}
 use Rattle.load_files.specs.declared.found.Found.{Found}
 use Rattle.load_files.specs.declared.found.Loading.{Loading}

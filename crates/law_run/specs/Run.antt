@@ -1,11 +1,11 @@
 -- A run: how its records stand behind one another, and what holds of its text.
 use Rattle.std.specs.Prelude.{◌≡◌, ℕ, List, [], ◌∷◌, ◌++◌, length, Some, slice_get, Result, Ok}
+use Rattle.base_data.specs.Elements.{Each, Once}
 use Rattle.base_data.specs.declared.fault.Fault.{Fault}
 use Rattle.base_data.specs.declared.library.LibName.{LibName}
 use Rattle.base_data.specs.declared.library.LibName.TheVariants as library
 use Rattle.core_language.specs.declared.record.CompiledLibrary.{CompiledLibrary}
 use Rattle.law_core.specs.Follows.{names_of, all_cores}
-use Rattle.law_core.specs.Words.{Each, Once}
 use Rattle.eval_code.specs.Codes.{Codes}
 use Rattle.law_expand.specs.Good.{IsGood}
 use Rattle.law_expand.specs.Keywords.{HasGoodKeywords}

@@ -1,6 +1,7 @@
 -- The core text of a run: how it is spelled, and what it is read as.
 use Rattle.std.specs.Prelude.{◌≡◌, ℕ, List, map, Result, Ok}
 use Rattle.base_data.specs.Datum.{PlainDatum}
+use Rattle.base_data.specs.Elements.{Each}
 use Rattle.base_data.specs.declared.fault.Fault.{Fault}
 use Rattle.core_language.specs.declared.record.CompiledLibrary.{CompiledLibrary}
 use Rattle.core_language.specs.declared.record.Line.{Line}
@@ -10,7 +11,6 @@ use Rattle.law_core_grammar.specs.ReadBack.{IsTextReadBack}
 use Rattle.law_core_grammar.specs.SameCode.{line_by_names}
 use Rattle.law_core_grammar.specs.Spellable.{IsLineSpellable, CanBeRead, constants}
 use Rattle.law_core.specs.Records.{line_core}
-use Rattle.law_core.specs.Words.{Each}
 use Rattle.core_output.specs.CoreText.{VariableNames}
 use Rattle.core_output.specs.Whole.{all_names, core_text}
 use Rattle.eval_code.specs.Codes.{Codes}

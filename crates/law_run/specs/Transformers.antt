@@ -1,6 +1,7 @@
 -- The transformers that are kept have their procedures: that of a variable transformer lies in its cell.
 use Rattle.std.specs.Prelude.{◌≡◌, ℕ, true, List, [], ◌∷◌, map, Option, None, Some, Result, Ok, Err}
 use Rattle.base_data.specs.declared.fault.Fault.{Fault}
+use Rattle.base_data.specs.declared.imported_name.ImportedName.{ImportedName}
 use Rattle.base_data.specs.declared.library.LibName.{LibName}
 use Rattle.base_data.specs.declared.library.LibName.TheVariants as library
 use Rattle.base_data.specs.declared.name.CodeNo.{CodeNo}
@@ -90,7 +91,7 @@ numbers_in codes = map (λ (e : CodeNo × PlainCode). e.0) codes
 
 -- the expansion of a library with a new name begins so, behind records that stand behind one another, whatever it imports
 abbrev pub StartsAreWhole : Type 0
-StartsAreWhole = (own : LibName) (records : List CompiledLibrary) (imports : List (List ℕ × Label)) (codes : Codes) → IsReady own records
+StartsAreWhole = (own : LibName) (records : List CompiledLibrary) (imports : List ImportedName) (codes : Codes) → IsReady own records
     → AllBehind [] records → (IsOfTexts own → ⊥) → AreTexts codes
     → IsWholeState own (numbers_in codes) records (started own records imports codes)
 

@@ -2,6 +2,7 @@
 use Rattle.std.proofs.Common.{◌≡◌, ℕ, zero, suc, ◌+◌, ◌≤◌, max, List, [], ◌∷◌, ◌++◌, sym, subst, arith}
 use Rattle.std.proofs.Math.Nat.{max-le, le-max_left, le-max_right}
 use Rattle.std.specs.List.{flat_map}
+use Rattle.base_data.proofs.ElementLemmas.{each-append}
 use Rattle.base_data.specs.Datum.{PlainDatum}
 use Rattle.base_data.specs.declared.atom.Atom.TheVariants as a
 use Rattle.core_language.specs.Core.{PlainCore, quoted, variable, primitive, one_armed, two_armed, assignment, sequence, procedure, letrec, call, instance, matching}
@@ -11,8 +12,7 @@ use Rattle.core_language.specs.declared.record.Line.TheVariants as line
 use Rattle.law_core_grammar.specs.Spellable.{CanBeRead, own_constant, constants}
 use Rattle.law_core.specs.Parts.{parts, all_parts, init_parts, case_parts, clause_parts}
 use Rattle.law_core.specs.Records.{line_core}
-use Rattle.law_core.specs.Words as words
-use Rattle.law_expand.proofs.Fresh.{each-append}
+use Rattle.base_data.specs.Elements as elements
 use Rattle.law_limits.specs.Holds.{DatumHolds, CoreHolds, CoresHold, InitsHold, CasesHold, ClausesHold, LinesHold}
 use Rattle.law_nesting.specs.Texts.{nested, nested_behind}
 use Rattle.law_round.specs.Readable.{IsReadable, IsRest, AreElements}
@@ -88,10 +88,10 @@ datum-low d read (t, h) = by d read h.1
 -- Constants of core code.
 
 abbrev OwnHolds : PlainCore → Type 0
-OwnHolds c = words.Each (DatumHolds Fits) (own_constant c)
+OwnHolds c = elements.Each (DatumHolds Fits) (own_constant c)
 
 abbrev All : List PlainCore → Type 0
-All cs = words.Each OwnHolds cs
+All cs = elements.Each OwnHolds cs
 
 each-both : (xs ys : List PlainCore) → All xs → All ys → All (xs ++ ys)
 each-both xs ys h k = each-append OwnHolds xs ys h k
@@ -128,18 +128,18 @@ mutual
   clauses-hold (clause p c cs) h = each-both (parts c) (clause_parts cs) (parts-hold c h.0) (clauses-hold cs h.1)
   clauses-hold (fended p f c cs) h = each-both (parts f) (parts c ++ clause_parts cs) (parts-hold f h.0) (each-both (parts c) (clause_parts cs) (parts-hold c h.1.0) (clauses-hold cs h.1.1))
 
-own-constants : (cs : List PlainCore) → All cs → words.Each (DatumHolds Fits) (flat_map own_constant cs)
+own-constants : (cs : List PlainCore) → All cs → elements.Each (DatumHolds Fits) (flat_map own_constant cs)
 own-constants [] h = tt
 own-constants (c ∷ cs) h = each-append (DatumHolds Fits) (own_constant c) (flat_map own_constant cs) h.0 (own-constants cs h.1)
 
 abbrev pub ConstantsFit : Line → Type 0
-ConstantsFit l = words.Each (DatumHolds Fits) (constants (line_core l))
+ConstantsFit l = elements.Each (DatumHolds Fits) (constants (line_core l))
 
-pub lines-fit : (ls : List Line) → LinesHold Fits ls → words.Each ConstantsFit ls
+pub lines-fit : (ls : List Line) → LinesHold Fits ls → elements.Each ConstantsFit ls
 lines-fit [] h = tt
 lines-fit (line.Define l c ∷ ls) h = (own-constants (parts c) (parts-hold c h.0), lines-fit ls h.1)
 lines-fit (line.Expr c ∷ ls) h = (own-constants (parts c) (parts-hold c h.0), lines-fit ls h.1)
 
-pub all-low : (ds : List PlainDatum) → words.Each CanBeRead ds → words.Each (DatumHolds Fits) ds → words.Each (λ d. nested d ≤ max_height) ds
+pub all-low : (ds : List PlainDatum) → elements.Each CanBeRead ds → elements.Each (DatumHolds Fits) ds → elements.Each (λ d. nested d ≤ max_height) ds
 all-low [] h k = tt
 all-low (d ∷ ds) h k = (datum-low d h.0 k.0, all-low ds h.1 k.1)

@@ -6,7 +6,9 @@ use Rattle.std.proofs.lemmas.Str.{IsUtf8-from_ascii}
 use Rattle.std.specs.List.{list_all}
 use Rattle.std.specs.Prelude.{nat_lt, codes}
 use Rattle.std.specs.Str.{IsAscii}
+use Rattle.base_data.proofs.ElementLemmas.{each-at, each-of}
 use Rattle.base_data.specs.Datum.{PlainDatum}
+use Rattle.base_data.specs.Elements.{Each}
 use Rattle.core_language.specs.Core.{assignment}
 use Rattle.core_language.specs.declared.record.Line.{Line}
 use Rattle.law_core_grammar.specs.Laws.{SpellingsCanBeRead}
@@ -16,9 +18,7 @@ use Rattle.law_core_grammar.specs.Spells as s
 use Rattle.law_core_grammar.specs.Spells.{word, form, two}
 use Rattle.law_core_grammar.specs.Spellable.{CanBeRead, constants}
 use Rattle.law_core.specs.Records.{line_core}
-use Rattle.law_core.specs.Words.{Each}
 use Rattle.core_output.specs.CoreText.{VariableNames}
-use Rattle.law_expand.proofs.Fresh.{each-at, each-of}
 use Rattle.law_nesting.proofs.Texts.{read-where-nested, line-spellings-nest}
 use Rattle.law_nesting.specs.Heights.{in_text, height_with}
 use Rattle.law_nesting.specs.Nesting.{deepest}

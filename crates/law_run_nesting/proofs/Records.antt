@@ -1,18 +1,20 @@
 -- The records of a run, and what stands in their lines.
 use Rattle.std.proofs.Common.{◌≡◌, ◌≤◌, ℕ, true, List, [], ◌∷◌, ◌++◌, map, Option, Some, None, Result, Ok, Err, refl, subst}
 use Rattle.std.specs.Prelude.{slice_get}
+use Rattle.base_data.proofs.ElementLemmas.{each-and}
 use Rattle.base_data.specs.Datum.{PlainDatum}
+use Rattle.base_data.specs.Elements.{Each}
 use Rattle.base_data.specs.Gives.{◌>>=◌}
 use Rattle.base_data.specs.declared.fault.Fault.{Fault}
 use Rattle.core_language.specs.declared.record.CompiledLibrary.{CompiledLibrary}
 use Rattle.law_core.specs.Records.{line_core}
-use Rattle.law_core.specs.Words as words
+use Rattle.base_data.specs.Elements as elements
 use Rattle.run_derived.specs.Derived.{derived_record}
 use Rattle.eval_code.specs.Codes.{Codes}
 use Rattle.expand_forms.specs.Expanding.{library_record}
 use Rattle.load_forms.specs.Form.{library_body, program_body}
 use Rattle.load_forms.specs.declared.form.LibraryForm.{LibraryForm}
-use Rattle.law_fresh.proofs.Eachs.{each_and, each_at}
+use Rattle.law_fresh.proofs.Eachs.{each_at}
 use Rattle.law_fresh.proofs.Trees.{OkHolds}
 use Rattle.law_fresh.specs.Leaves.{OptionHolds}
 use Rattle.load_import.specs.Names.{Labelled}
@@ -40,7 +42,6 @@ use Rattle.law_run_nesting.specs.Nesting.{RunsNest}
 use Rattle.expand_standing.specs.Start.{or_skip, records_at}
 use Rattle.stx_tree.specs.Measures.{Fits}
 use Rattle.stx_tree.specs.Tree.{Tree}
-use Rattle.eval_value.specs.Cells.{Each}
 
 abbrev Rs : List CompiledLibrary → Type 0
 Rs rs = Each IsShallow rs
@@ -90,7 +91,7 @@ module _ (prelude : Result Codes Fault) (given : (table : Codes) → prelude ≡
     where
       by : ((more : List CompiledLibrary) → Rs more → turns (expand_next prelude) more rows ≡ Ok records → Rs records) → (x : Result CompiledLibrary Fault) → expand_found prelude done row.1 (library_body row.1.opened.«data») ≡ x
           → ((x >>= (λ r. Ok (done ++ r ∷ []))) >>= (λ more. turns (expand_next prelude) more rows)) ≡ Ok records → Rs records
-      by rest (Ok r) i e = rest (done ++ r ∷ []) (each_and IsShallow done r h (found-shallow done row.1 (library_body row.1.opened.«data») r h i)) e
+      by rest (Ok r) i e = rest (done ++ r ∷ []) (each-and IsShallow done r h (found-shallow done row.1 (library_body row.1.opened.«data») r h i)) e
       by rest (Err f) i e = absurd (cc)
 
   records-shallow : (rows : List (List ℕ × Found)) (records : List CompiledLibrary) → all_records prelude rows ≡ Ok records → Rs records
@@ -104,14 +105,14 @@ module _ (files : Paths) (roots : List (List ℕ)) (path : List ℕ) (found : Fo
   all-shallow : Rs (records ++ program ∷ [])
   all-shallow =
       let before = records-shallow prelude_table prelude-fits s.done records run.recorded in
-      each_and IsShallow records program before (found-shallow prelude_table prelude-fits records found (program_body found.opened.«data») program before run.expanded)
+      each-and IsShallow records program before (found-shallow prelude_table prelude-fits records found (program_body found.opened.«data») program before run.expanded)
 
-in-words : {A : Type 0} (P Q : A → Type 0) → ((x : A) → P x → Q x) → (xs : List A) → Each P xs → words.Each Q xs
+in-words : {A : Type 0} (P Q : A → Type 0) → ((x : A) → P x → Q x) → (xs : List A) → Each P xs → elements.Each Q xs
 in-words P Q f [] h = tt
 in-words P Q f (x ∷ xs) h = (f x h.0, in-words P Q f xs h.1)
 
 pub runs-shallow : (files : Paths) (roots : List (List ℕ)) (path : List ℕ) (found : Found) (s : Loading) (records : List CompiledLibrary) (program : CompiledLibrary)
-    → IsRun prelude_table files roots path found s records program → words.Each IsShallow (records ++ program ∷ [])
+    → IsRun prelude_table files roots path found s records program → elements.Each IsShallow (records ++ program ∷ [])
 runs-shallow files roots path found s records program run = in-words IsShallow IsShallow (λ r h. h) (records ++ program ∷ []) (all-shallow files roots path found s records program run)
 
 pub runs-within : RunsStayWithin
@@ -119,4 +120,4 @@ runs-within files roots path found s records program run = in-words IsShallow (R
 
 pub runs-nest : RunsNest
 runs-nest files roots path found s records program run =
-    in-words IsShallow (λ r. words.Each (λ l. height_with in_text (line_core l) ≤ deepest) r.run) (λ r h. h.nests) (records ++ program ∷ []) (all-shallow files roots path found s records program run)
+    in-words IsShallow (λ r. elements.Each (λ l. height_with in_text (line_core l) ≤ deepest) r.run) (λ r h. h.nests) (records ++ program ∷ []) (all-shallow files roots path found s records program run)

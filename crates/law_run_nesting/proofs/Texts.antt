@@ -1,8 +1,10 @@
 -- Trees, the codes of texts and the record of the derived library are within the limits: each tree that is read is.
 use Rattle.std.proofs.Common.{◌≡◌, ◌≤◌, ℕ, List, [], ◌∷◌, ◌++◌, Result, Ok, Err, refl, subst, arith}
 use Rattle.std.specs.Prelude.{codes}
+use Rattle.base_data.proofs.ElementLemmas.{each-and}
 use Rattle.base_data.specs.Act.{give, each}
 use Rattle.base_data.specs.Datum.{PlainDatum}
+use Rattle.base_data.specs.Elements.{Each}
 use Rattle.base_data.specs.Gives.{◌>>=◌}
 use Rattle.base_data.specs.declared.fault.Bare.{Bare}
 use Rattle.base_data.specs.declared.fault.Fault.{Fault}
@@ -14,7 +16,7 @@ use Rattle.load_builtin.specs.declared.derived.TheConstants.{DERIVED_SOURCE}
 use Rattle.core_language.specs.Core.{PlainCode}
 use Rattle.core_language.specs.declared.record.CompiledLibrary.{CompiledLibrary}
 use Rattle.law_core.specs.Records.{line_core}
-use Rattle.law_core.specs.Words as words
+use Rattle.base_data.specs.Elements as elements
 use Rattle.run_derived.specs.Derived.{forms_of, record_of, derived_record}
 use Rattle.run_derived.specs.Derived as of_derived
 use Rattle.run_derived.specs.Names as derived_names
@@ -22,7 +24,7 @@ use Rattle.eval_code.specs.Codes.{Codes, with_procedure, with_code}
 use Rattle.expand_forms.specs.Expanding.{ready, expression}
 use Rattle.expand_forms.specs.Expression.{full_room}
 use Rattle.expand_forms.specs.Site.{outermost}
-use Rattle.law_fresh.proofs.Eachs.{each_and}
+use Rattle.base_data.proofs.ElementLemmas.{each-and}
 use Rattle.law_fresh.proofs.Trees.{OkHolds}
 use Rattle.run_library.specs.Library.{placed, tree_at, trees_at}
 use Rattle.law_limit_expansion.proofs.Recorded.{started-holds, records-stay}
@@ -49,7 +51,6 @@ use Rattle.stx_tree.specs.Leaves.{tree_of}
 use Rattle.stx_tree.specs.Measures.{Fits, within}
 use Rattle.stx_tree.specs.Tree.{Tree}
 use Rattle.stx_tree.specs.declared.change.Change.TheVariants as change
-use Rattle.eval_value.specs.Cells.{Each}
 
 -- Trees.
 
@@ -73,14 +74,14 @@ tree-at-fits place d = by (within (tree_of blank d)) (limited (tree_of blank d))
 pub trees-fit : (place : Span) (done : List Tree) (ds : List PlainDatum) → Each Fits done → OkHolds (Each Fits) (trees_at place done ds)
 trees-fit place done [] h = h
 trees-fit place done (d ∷ ds) h =
-    then-holds Fits fits-lawful Fits (Each Fits) (tree_at place d) (λ t. trees_at place (done ++ t ∷ []) ds) (tree-at-fits place d) (λ t j. trees-fit place (done ++ t ∷ []) ds (each_and Fits done t h j))
+    then-holds Fits fits-lawful Fits (Each Fits) (tree_at place d) (λ t. trees_at place (done ++ t ∷ []) ds) (tree-at-fits place d) (λ t j. trees-fit place (done ++ t ∷ []) ds (each-and Fits done t h j))
 
 -- What stands in a record that expansion gives.
 
 -- its trees are within the limits, and its lines nest no deeper than such lines do
 pub record IsShallow (r : CompiledLibrary) : Type 0 where
   pub within : RecordHolds Fits r
-  pub nests : words.Each (λ l. height_with in_text (line_core l) ≤ deepest) r.run
+  pub nests : elements.Each (λ l. height_with in_text (line_core l) ≤ deepest) r.run
 
 pub at-most-text : IsAtMostText in_text
 at-most-text = record { init = omega arith; case = omega arith }
@@ -147,7 +148,7 @@ prelude-fits table e = by prelude_codes codes-fit e
 derived-trees-fit : (done : List Tree) (ds : List PlainDatum) → Each Fits done → OkHolds (Each Fits) (of_derived.trees done ds)
 derived-trees-fit done [] h = h
 derived-trees-fit done (d ∷ ds) h =
-    then-holds Fits fits-lawful Fits (Each Fits) (of_derived.tree_at d) (λ t. of_derived.trees (done ++ t ∷ []) ds) (placed-fits derived_names.start d) (λ t j. derived-trees-fit (done ++ t ∷ []) ds (each_and Fits done t h j))
+    then-holds Fits fits-lawful Fits (Each Fits) (of_derived.tree_at d) (λ t. of_derived.trees (done ++ t ∷ []) ds) (placed-fits derived_names.start d) (λ t j. derived-trees-fit (done ++ t ∷ []) ds (each-and Fits done t h j))
 
 forms-fit : (text : List ℕ) → OkHolds (Each Fits) (forms_of text)
 unfolding forms_of

@@ -1,7 +1,7 @@
 -- All trees of a run stay within their limits.
 use Rattle.std.specs.Prelude.{◌≡◌, ℕ, List, [], ◌∷◌, ◌++◌, Ok}
+use Rattle.base_data.specs.Elements.{Each}
 use Rattle.core_language.specs.declared.record.CompiledLibrary.{CompiledLibrary}
-use Rattle.law_core.specs.Words.{Each}
 use Rattle.eval_code.specs.Codes.{Codes}
 use Rattle.law_limit_expansion.specs.Records.{RecordHolds}
 use Rattle.law_limits.specs.Holds.{CodesHold}

@@ -1,10 +1,10 @@
 -- How deep the text of a run nests.
 use Rattle.std.specs.Prelude.{ℕ, ◌≤◌, ◌+◌, List, [], ◌∷◌, ◌++◌}
 use Rattle.base_data.specs.Datum.{PlainDatum}
+use Rattle.base_data.specs.Elements.{Each}
 use Rattle.core_language.specs.declared.record.CompiledLibrary.{CompiledLibrary}
 use Rattle.law_core_grammar.specs.Lines.{SpellLines}
 use Rattle.law_core.specs.Records.{line_core}
-use Rattle.law_core.specs.Words.{Each}
 use Rattle.load_files.specs.declared.found.Found.{Found}
 use Rattle.load_files.specs.declared.found.Loading.{Loading}
 use Rattle.law_nesting.specs.Heights.{in_text, height_with}

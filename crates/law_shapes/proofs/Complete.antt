@@ -19,11 +19,11 @@ is-id _ g.id = refl
 
 -- Lists.
 
-list-ends : {xs : List Tree} {t : Tree} → IsList xs t → is_nil (tail_of t) ≡ true
+pub list-ends : {xs : List Tree} {t : Tree} → IsList xs t → is_nil (tail_of t) ≡ true
 list-ends g.end = refl
 list-ends (g.next h) = list-ends h
 
-list-elements : {xs : List Tree} {t : Tree} → IsList xs t → elements t ≡ xs
+pub list-elements : {xs : List Tree} {t : Tree} → IsList xs t → elements t ≡ xs
 list-elements g.end = refl
 list-elements (g.next {x = x} h) = ap (λ ys. x ∷ ys) (list-elements h)
 

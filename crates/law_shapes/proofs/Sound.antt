@@ -48,7 +48,7 @@ the-end : (s : Option Span) (a : Atom) → is_nil_atom a ≡ true → IsList [] 
 the-end s atoms.Nil h = g.end
 the-end s _ h = absurd (cc)
 
-a-list : (t : Tree) → is_nil (tail_of t) ≡ true → IsList (elements t) t
+pub a-list : (t : Tree) → is_nil (tail_of t) ≡ true → IsList (elements t) t
 a-list (atom s a) h = the-end s a h
 a-list (leaf s x c) h = absurd (cc)
 a-list (pair s a d) h = g.next (a-list d h)

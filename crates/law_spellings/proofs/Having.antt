@@ -4,7 +4,7 @@ use Rattle.std.specs.Prelude.{◌&&◌}
 use Rattle.std.specs.List.{list_all, flat_map}
 use Rattle.base_data.specs.declared.name.Label.{Label}
 use Rattle.base_bytes.specs.Codec.{u32, u64, bool, text, ◌then◌, optional, listed}
-use Rattle.base_bytes.specs.Names.{library, label}
+use Rattle.base_bytes.specs.Names.{library, label, imported_name}
 use Rattle.core_codec.specs.Code.{core}
 use Rattle.core_codec.specs.Contexts.{frame_row}
 use Rattle.core_codec.specs.Records.{line, variable, binding, bindings_rise, rows_rise, lib_record, has_spelling}
@@ -16,12 +16,11 @@ use Rattle.core_language.specs.declared.binding.VarInfo.{VarInfo}
 use Rattle.core_language.specs.declared.record.CompiledLibrary.{CompiledLibrary}
 use Rattle.core_language.specs.declared.record.Line.{Line}
 use Rattle.core_language.specs.declared.record.Line.TheVariants as l
-use Rattle.eval_value.specs.Cells.{Each}
+use Rattle.base_data.specs.Elements.{Each}
 use Rattle.law_core.specs.Follows.{keyword_of, keywords, line_cores, IsRecorded}
 use Rattle.law_core.specs.Parts.{parts}
 use Rattle.law_core.specs.Records.{line_core}
 use Rattle.law_core.specs.WellMade.{IsWellMade}
-use Rattle.law_core.specs.Words as words
 use Rattle.law_expand.specs.Shallow.{deepest, IsShallow}
 use Rattle.law_expand.proofs.GoodKeywords.{keywords-good}
 use Rattle.law_expand.proofs.Records.{records-good}
@@ -45,7 +44,7 @@ record IsMade (x : PlainCore) : Type 0 where
 low-enough : (n : ℕ) → n ≤ deepest → n ≤ 8193
 low-enough n h = omega (arith, h)
 
-made-of : (xs : List PlainCore) → words.Each (IsWellMade []) xs → words.Each IsShallow xs → words.Each IsMade xs
+made-of : (xs : List PlainCore) → Each (IsWellMade []) xs → Each IsShallow xs → Each IsMade xs
 made-of [] h k = tt
 made-of (x ∷ xs) h k = (record { own = own-of (parts x) h.0.forms h.0.named_ops; low = low-enough (height x) k.0 }, made-of xs h.1 k.1)
 
@@ -54,7 +53,7 @@ unfolding line
 line-fits (l.Define x y) h m k = both-true (label.fits x) ((core 8193).fits y) k.0 (core-fits 8193 y m.low h m.own k.1)
 line-fits (l.Expr y) h m k = core-fits 8193 y m.low h m.own k
 
-lines-fit : (xs : List Line) → LinesHold spelled xs → words.Each IsMade (map line_core xs) → Each LineFits xs → list_all line.fits xs ≡ true
+lines-fit : (xs : List Line) → LinesHold spelled xs → Each IsMade (map line_core xs) → Each LineFits xs → list_all line.fits xs ≡ true
 lines-fit [] h m k = refl
 lines-fit (x ∷ xs) h m k = both-true (line.fits x) (list_all line.fits xs) (line-fits x h.0 m.0 k.0) (lines-fit xs h.1 m.1 k.1)
 
@@ -68,7 +67,7 @@ variable-fits v h short index level =
 abbrev One : Label × Binding → Bool
 One x = label.fits x.0 && binding.fits x.1
 
-binding-fits : (x : Label × Binding) → BindingHolds spelled x.1 → IsRecorded x → words.Each IsMade (keyword_of x) → BindingFits x → One x ≡ true
+binding-fits : (x : Label × Binding) → BindingHolds spelled x.1 → IsRecorded x → Each IsMade (keyword_of x) → BindingFits x → One x ≡ true
 unfolding binding
 binding-fits (x, b.Variable v) h i m k = both-true (label.fits x) (variable.fits v) k.0 (variable-fits v h k.1.0 k.1.1.0 k.1.1.1)
 binding-fits (x, b.PatternVariable level depth) h i m k = both-true (label.fits x) (u32.fits level && u32.fits depth) k.0 (both-true (u32.fits level) (u32.fits depth) k.1.0 k.1.1)
@@ -78,13 +77,13 @@ binding-fits (x, b.Macro level (Some y)) h i m k =
 binding-fits (x, b.Core f) h i m k = absurd (i)
 binding-fits (x, b.Primitive o) h i m k = absurd (i)
 
-bindings-fit : (bs : List (Label × Binding)) → BindingsHold spelled bs → words.Each IsRecorded bs → words.Each IsMade (flat_map keyword_of bs) → Each BindingFits bs → list_all One bs ≡ true
+bindings-fit : (bs : List (Label × Binding)) → BindingsHold spelled bs → Each IsRecorded bs → Each IsMade (flat_map keyword_of bs) → Each BindingFits bs → list_all One bs ≡ true
 bindings-fit [] h i m k = refl
 bindings-fit (x ∷ bs) h i m k =
     both-true (One x) (list_all One bs) (binding-fits x h.0 i.0 (before IsMade (keyword_of x) (flat_map keyword_of bs) m) k.0)
     (bindings-fit bs h.1 i.1 (behind IsMade (keyword_of x) (flat_map keyword_of bs) m) k.1)
 
-record-fits : (r : CompiledLibrary) → SpelledRecord r → Rises r → words.Each IsRecorded r.bindings → words.Each IsMade (line_cores r) → words.Each IsMade (keywords r) → NumbersFit r → has_spelling r ≡ true
+record-fits : (r : CompiledLibrary) → SpelledRecord r → Rises r → Each IsRecorded r.bindings → Each IsMade (line_cores r) → Each IsMade (keywords r) → NumbersFit r → has_spelling r ≡ true
 unfolding lib_record
 record-fits r h rises kinds lines defined n =
     let bindings = both-true ((listed (label then binding)).fits r.bindings) (bindings_rise r.bindings) (both-true (u64.fits (length r.bindings)) (list_all One r.bindings) n.bindings.0 (bindings-fit r.bindings h.bindings kinds defined n.bindings.1)) rises.bindings in
@@ -93,10 +92,10 @@ record-fits r h rises kinds lines defined n =
     let five = both-true ((listed line).fits r.run) ((listed library).fits r.refs) run n.refs in
     let four = both-true ((listed frame_row).fits r.frames && rows_rise r.frames) ((listed line).fits r.run && (listed library).fits r.refs) rows five in
     let three = both-true ((listed (label then binding)).fits r.bindings && bindings_rise r.bindings) ((((listed frame_row).fits r.frames && rows_rise r.frames)) && ((listed line).fits r.run && (listed library).fits r.refs)) bindings four in
-    let two = both-true ((listed (text then label)).fits r.exports) (((listed (label then binding)).fits r.bindings && bindings_rise r.bindings) && (((listed frame_row).fits r.frames && rows_rise r.frames) && ((listed line).fits r.run && (listed library).fits r.refs))) n.exports three in
-    let one = both-true ((listed u64).fits r.version) ((listed (text then label)).fits r.exports && (((listed (label then binding)).fits r.bindings && bindings_rise r.bindings) && (((listed frame_row).fits r.frames && rows_rise r.frames) && ((listed line).fits r.run && (listed library).fits r.refs)))) n.version two in
-    both-true (text.fits r.path) (library.fits r.name && ((listed u64).fits r.version && ((listed (text then label)).fits r.exports && (((listed (label then binding)).fits r.bindings && bindings_rise r.bindings) && (((listed frame_row).fits r.frames && rows_rise r.frames) && ((listed line).fits r.run && (listed library).fits r.refs)))))) n.path
-    (both-true (library.fits r.name) ((listed u64).fits r.version && ((listed (text then label)).fits r.exports && (((listed (label then binding)).fits r.bindings && bindings_rise r.bindings) && (((listed frame_row).fits r.frames && rows_rise r.frames) && ((listed line).fits r.run && (listed library).fits r.refs))))) n.name one)
+    let two = both-true ((listed imported_name).fits r.exports) (((listed (label then binding)).fits r.bindings && bindings_rise r.bindings) && (((listed frame_row).fits r.frames && rows_rise r.frames) && ((listed line).fits r.run && (listed library).fits r.refs))) n.exports three in
+    let one = both-true ((listed u64).fits r.version) ((listed imported_name).fits r.exports && (((listed (label then binding)).fits r.bindings && bindings_rise r.bindings) && (((listed frame_row).fits r.frames && rows_rise r.frames) && ((listed line).fits r.run && (listed library).fits r.refs)))) n.version two in
+    both-true (text.fits r.path) (library.fits r.name && ((listed u64).fits r.version && ((listed imported_name).fits r.exports && (((listed (label then binding)).fits r.bindings && bindings_rise r.bindings) && (((listed frame_row).fits r.frames && rows_rise r.frames) && ((listed line).fits r.run && (listed library).fits r.refs)))))) n.path
+    (both-true (library.fits r.name) ((listed u64).fits r.version && ((listed imported_name).fits r.exports && (((listed (label then binding)).fits r.bindings && bindings_rise r.bindings) && (((listed frame_row).fits r.frames && rows_rise r.frames) && ((listed line).fits r.run && (listed library).fits r.refs))))) n.name one)
 
 pub have : RecordsHaveSpellings
 have own path records imports version place exports forms codes r is behind-these texts read e n =

@@ -2,7 +2,7 @@
 use Rattle.std.proofs.Common.{◌≡◌, ◌≤◌, ℕ, ◌+◌, max, false, List, ◌∷◌, arith}
 use Rattle.stx_tree.specs.Measures.{joint, height}
 use Rattle.stx_tree.specs.Tree.{Tree, atom, leaf, pair, vector, is_pair}
-use Rattle.eval_value.specs.Cells.{Each}
+use Rattle.base_data.specs.Elements.{Each}
 use Rattle.law_patterns.specs.Patterns as p
 use Rattle.law_patterns.specs.Patterns.{IsChain}
 use Rattle.law_shapes.specs.Grammar as g

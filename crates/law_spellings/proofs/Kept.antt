@@ -9,11 +9,11 @@ use Rattle.stx_tree.specs.Measures.{size, height, max_height, max_size, too_deep
 use Rattle.stx_tree.specs.Tree.{Tree, atom, pair, vector, rest_of, list_of, vector_of}
 use Rattle.core_language.specs.Pattern.{PlainPattern}
 use Rattle.core_records.specs.Names.{record_uid}
-use Rattle.eval_value.specs.Cells.{Each}
+use Rattle.base_data.specs.Elements.{Each}
 use Rattle.law_invariants.specs.Closed.{IsClosed}
 use Rattle.law_invariants.specs.Invariant.{DatumHolds}
 use Rattle.law_invariants.specs.Steady.{IsSteady}
-use Rattle.law_invariants.proofs.Eachs.{each_mapped}
+use Rattle.base_data.proofs.ElementLemmas.{each-implied}
 use Rattle.law_invariant_expansion.specs.Kept.{IsBuilt, IsPattern, IsKeptByExpansion}
 use Rattle.law_invariant_expansion.proofs.RecordForms.{Introduces, record-holds}
 use Rattle.law_limits.proofs.Limits.{fits-lawful}
@@ -58,10 +58,10 @@ made-plain : (t u : Tree) → HasPlainRests t → within t ≡ Ok u → HasPlain
 made-plain t u h e = subst HasPlainRests (same-tree t u e) h
 
 readable-each : (ts : List Tree) → Each SpelledTree ts → Each ReadableTree ts
-readable-each ts h = each_mapped SpelledTree ReadableTree (λ t k. k.1.0) ts h
+readable-each ts h = each-implied SpelledTree ReadableTree (λ t k. k.1.0) ts h
 
 plain-each : (ts : List Tree) → Each SpelledTree ts → Each HasPlainRests ts
-plain-each ts h = each_mapped SpelledTree HasPlainRests (λ t k. k.1.1) ts h
+plain-each ts h = each-implied SpelledTree HasPlainRests (λ t k. k.1.1) ts h
 
 pair-plain : (t u : Tree) → HasPlainRests t → HasPlainRests u → HasPlainRests (pair None t (rest_of u))
 pair-plain t u h k = let r = rest-plain u k in (r.1, (h, r.0))

@@ -11,7 +11,7 @@ use Rattle.core_language.specs.Pattern.{PlainPattern, PlainPatterns, patterns}
 use Rattle.eval_pattern.specs.Compile.{PatternScope, compiled}
 use Rattle.eval_pattern.specs.declared.compile.Compiled.{Compiled}
 use Rattle.eval_pattern.specs.declared.compile.PatternVariable.{PatternVariable}
-use Rattle.eval_value.specs.Cells.{Each}
+use Rattle.base_data.specs.Elements.{Each}
 use Rattle.expand_quasi.specs.Inserted.{pattern_under, insert_pattern, inserts_pattern}
 use Rattle.law_core.specs.WellMade.{IsLeaf}
 use Rattle.law_levels.specs.Levels.{pattern_levels, patterns_levels}

@@ -1,6 +1,7 @@
 -- The record of a library is spelled, and its patterns and templates have few levels.
 use Rattle.std.proofs.Common.{◌≤◌, ◌+◌, List, [], ◌∷◌, ◌++◌, map, None, Some}
 use Rattle.std.specs.List.{flat_map}
+use Rattle.base_data.specs.Elements.{Each}
 use Rattle.base_data.specs.declared.name.Label.{Label}
 use Rattle.core_language.specs.Core.{PlainCore, PlainCores, PlainInits, PlainCases, PlainClauses, quoted, one_armed, two_armed, assignment, sequence, procedure, letrec, call, instance, matching}
 use Rattle.core_language.specs.Core as c
@@ -11,7 +12,6 @@ use Rattle.core_language.specs.declared.record.Line.TheVariants as l
 use Rattle.law_core.specs.Follows.{keyword_of, keywords, line_cores}
 use Rattle.law_core.specs.Parts.{parts, all_parts, init_parts, case_parts, clause_parts, clause_patterns}
 use Rattle.law_core.specs.Records.{line_core}
-use Rattle.law_core.specs.Words as words
 use Rattle.law_invariants.specs.Holds.{CoreHolds, CoresHold, InitsHold, CasesHold, ClausesHold, LinesHold}
 use Rattle.law_invariant_expansion.specs.States.{BindingsHold}
 use Rattle.law_invariant_expansion.proofs.Recorded as recorded
@@ -37,13 +37,13 @@ abbrev Low : PlainCore → Type 0
 Low x = HasLevels max_height x
 
 abbrev AllLow : List PlainCore → Type 0
-AllLow xs = words.Each Low xs
+AllLow xs = Each Low xs
 
 both : (xs ys : List PlainCore) → AllLow xs → AllLow ys → AllLow (xs ++ ys)
 both [] ys h k = k
 both (x ∷ xs) ys h k = (h.0, both xs ys h.1 k)
 
-patterns-low : (xs : PlainClauses) → ClausesHold spelled xs → words.Each (λ p. pattern_levels p ≤ max_height) (clause_patterns xs)
+patterns-low : (xs : PlainClauses) → ClausesHold spelled xs → Each (λ p. pattern_levels p ≤ max_height) (clause_patterns xs)
 patterns-low c.no_clause h = tt
 patterns-low (c.clause p x xs) h = (h.0.0, patterns-low xs h.1.1)
 patterns-low (c.fended p f x xs) h = (h.0.0, patterns-low xs h.1.1.1)
@@ -81,7 +81,7 @@ mutual
   clauses-low (c.fended p f x xs) h = both (parts f) (parts x ++ clause_parts xs) (core-low f h.1.0) (both (parts x) (clause_parts xs) (core-low x h.1.1.0) (clauses-low xs h.1.1.1))
 
 abbrev Lows : List PlainCore → Type 0
-Lows xs = words.Each (λ x. AllLow (parts x)) xs
+Lows xs = Each (λ x. AllLow (parts x)) xs
 
 append-low : (xs ys : List PlainCore) → Lows xs → Lows ys → Lows (xs ++ ys)
 append-low [] ys h k = k

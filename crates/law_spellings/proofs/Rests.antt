@@ -5,7 +5,7 @@ use Rattle.base_data.specs.declared.atom.Atom.{Atom}
 use Rattle.base_data.specs.declared.atom.Atom.TheVariants as a
 use Rattle.base_data.specs.declared.span.Span.{Span}
 use Rattle.core_codec.specs.Trees.{is_datum_rest, are_datum_elements, is_tail, is_rest, are_elements}
-use Rattle.eval_value.specs.Cells.{Each}
+use Rattle.base_data.specs.Elements.{Each}
 use Rattle.stx_tree.specs.Changes.{changed}
 use Rattle.stx_tree.specs.Leaves.{strip}
 use Rattle.stx_tree.specs.Tree.{Tree, atom, leaf, pair, vector, nil, chain, spanned, unspanned, rest_of, list_of, vector_of}

@@ -19,7 +19,7 @@ use Rattle.core_language.specs.Bindings.{bound_to}
 use Rattle.core_language.specs.declared.binding.Binding.{Binding}
 use Rattle.core_language.specs.declared.record.CompiledLibrary.{CompiledLibrary}
 use Rattle.core_language.specs.declared.record.Line.{Line}
-use Rattle.eval_value.specs.Cells.{Each}
+use Rattle.base_data.specs.Elements.{Each}
 use Rattle.expand_heads.specs.declared.taken.Taken.{Taken}
 use Rattle.expand_forms.specs.Body.{finish_all}
 use Rattle.expand_forms.specs.Expanding.{ready, body_of}
@@ -30,7 +30,8 @@ use Rattle.expand_forms.specs.declared.top.TopAt.{TopAt}
 use Rattle.expand_standing.specs.Own.{completed, row_at, own_label, own_row, own_below, own_bindings}
 use Rattle.expand_standing.specs.Start.{started}
 use Rattle.expand_standing.specs.State.{State, Does}
-use Rattle.law_invariants.proofs.Eachs.{each_both}
+use Rattle.base_data.proofs.ElementLemmas.{each-append}
+use Rattle.base_data.specs.declared.imported_name.ImportedName.{ImportedName}
 use Rattle.stx_frames.specs.Listed.{rows_in, AreOrdered}
 use Rattle.stx_frames.proofs.ListedLaws.{ordered_rows_in}
 use Rattle.stx_tree.specs.Tree.{Tree}
@@ -53,7 +54,7 @@ of-record P r (Ok p) h e =
     let is : p.0 ≡ r = cc in
     subst P is h
 
-module _ (P : CompiledLibrary → Type 0) (built : (at : TopAt) (es : List (List ℕ × Label)) (lines : List Line) (s : State) → P (record_of at es lines s)) where
+module _ (P : CompiledLibrary → Type 0) (built : (at : TopAt) (es : List ImportedName) (lines : List Line) (s : State) → P (record_of at es lines s)) where
   of-second : (go : Inside) (at : TopAt) (es : List (List ℕ × Tree)) (taken : Taken) (s : State) → Of P (second_pass go at es taken s)
   unfolding second_pass
   of-second go at es taken s =
@@ -116,7 +117,7 @@ row-before s n m (Some b) h = (less s.names.library n m h, tt)
 below-before : (s : State) (n m : ℕ) → n ≤ m → Each (Before (own_label s m)) (own_below s n)
 below-before s zero m h = tt
 below-before s (suc n) m h =
-    each_both (Before (own_label s m)) (own_below s n) (own_row s n) (below-before s n m (omega (arith, h))) (row-before s n m (bound_to s.bindings (own_label s n)) (omega (arith, h)))
+    each-append (Before (own_label s m)) (own_below s n) (own_row s n) (below-before s n m (omega (arith, h))) (row-before s n m (bound_to s.bindings (own_label s n)) (omega (arith, h)))
 
 below-rise : (s : State) (n : ℕ) → bindings_rise (own_below s n) ≡ true
 below-rise s zero = refl

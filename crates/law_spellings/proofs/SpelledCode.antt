@@ -18,10 +18,9 @@ use Rattle.core_language.specs.Pattern as pattern
 use Rattle.core_language.specs.Pattern.{PlainPattern, PlainPatterns}
 use Rattle.core_language.specs.Template as template_of
 use Rattle.core_language.specs.Template.{PlainTemplate, PlainItems}
-use Rattle.eval_value.specs.Cells.{Each}
+use Rattle.base_data.specs.Elements.{Each}
 use Rattle.law_core.specs.Parts.{parts, all_parts, init_parts, case_parts, clause_parts, core_count, case_count, own_op}
 use Rattle.law_core.specs.WellMade.{IsLeaf, HasForm}
-use Rattle.law_core.specs.Words as words
 use Rattle.law_invariants.specs.Holds.{TemplateHolds, ItemsHold, CoreHolds, CoresHold, InitsHold, CasesHold, ClausesHold}
 use Rattle.law_invariants.specs.Invariant.{OptionHolds}
 use Rattle.law_levels.specs.Levels.{pattern_levels, patterns_levels, template_levels, items_levels}
@@ -141,20 +140,20 @@ mutual
 
 -- of an expression alone: its form, and its op
 abbrev pub Own : PlainCore → Type 0
-Own x = HasForm x × words.Each (λ (o : ℕ). o < name_count) (own_op x)
+Own x = HasForm x × Each (λ (o : ℕ). o < name_count) (own_op x)
 
 abbrev pub AllOwn : List PlainCore → Type 0
-AllOwn xs = words.Each Own xs
+AllOwn xs = Each Own xs
 
-pub before : {A : Type 0} (P : A → Type 0) (xs ys : List A) → words.Each P (xs ++ ys) → words.Each P xs
+pub before : {A : Type 0} (P : A → Type 0) (xs ys : List A) → Each P (xs ++ ys) → Each P xs
 before P [] ys h = tt
 before P (x ∷ xs) ys h = (h.0, before P xs ys h.1)
 
-pub behind : {A : Type 0} (P : A → Type 0) (xs ys : List A) → words.Each P (xs ++ ys) → words.Each P ys
+pub behind : {A : Type 0} (P : A → Type 0) (xs ys : List A) → Each P (xs ++ ys) → Each P ys
 behind P [] ys h = h
 behind P (x ∷ xs) ys h = behind P xs ys h.1
 
-pub own-of : (xs : List PlainCore) → words.Each HasForm xs → words.Each (λ (o : ℕ). o < name_count) (flat_map own_op xs) → AllOwn xs
+pub own-of : (xs : List PlainCore) → Each HasForm xs → Each (λ (o : ℕ). o < name_count) (flat_map own_op xs) → AllOwn xs
 own-of [] h k = tt
 own-of (x ∷ xs) h k = ((h.0, before (λ (o : ℕ). o < name_count) (own_op x) (flat_map own_op xs) k), own-of xs h.1 (behind (λ (o : ℕ). o < name_count) (own_op x) (flat_map own_op xs) k))
 

@@ -15,7 +15,7 @@ use Rattle.base_bytes.specs.Names.{span, atom}
 use Rattle.core_codec.specs.Contexts.{context}
 use Rattle.core_codec.specs.Trees.{is_datum_rest, are_datum_elements, datum_node_codec, datum_level, elements, tail_of, is_tail, is_rest, are_elements, tree_node_codec, tree_level, tree}
 use Rattle.core_codec.specs.Trees as codecs
-use Rattle.eval_value.specs.Cells.{Each}
+use Rattle.base_data.specs.Elements.{Each}
 use Rattle.law_patterns.specs.Patterns as p
 use Rattle.law_patterns.specs.Patterns.{IsChain}
 use Rattle.law_readable.specs.Readable.{ReadableAtom}

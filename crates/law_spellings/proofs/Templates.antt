@@ -8,7 +8,7 @@ use Rattle.core_language.specs.Template as template
 use Rattle.core_language.specs.Template.{PlainTemplate, PlainItems}
 use Rattle.core_shapes.specs.Lists.{elements}
 use Rattle.eval_template.specs.Compile.{TemplateScope, compiled}
-use Rattle.eval_value.specs.Cells.{Each}
+use Rattle.base_data.specs.Elements.{Each}
 use Rattle.law_compiled.specs.Templates as m
 use Rattle.law_compiled.specs.Templates.{AreDotted, constants, list_by, vector_by, IsTemplate, AreSubtemplates, HoldsLists, IsMade}
 use Rattle.law_compiled.proofs.Templates.{others-are-bad-templates}

@@ -3,8 +3,8 @@ use Rattle.std.specs.Prelude.{◌≡◌, ◌≤◌, ℕ, zero, suc, List, [], No
 use Rattle.base_data.specs.Named.{Named}
 use Rattle.base_data.specs.declared.atom.Atom.TheVariants.{Nil}
 use Rattle.base_data.specs.declared.library.LibName.{LibName}
-use Rattle.base_data.specs.declared.name.Label.{Label}
 use Rattle.base_data.specs.declared.span.Span.{Span}
+use Rattle.base_data.specs.declared.imported_name.ImportedName.{ImportedName}
 use Rattle.stx_tree.specs.Measures.{max_height, height}
 use Rattle.stx_tree.specs.Tree.{Tree, atom, pair, nil}
 use Rattle.stx_frames.specs.Scope.{Scope}
@@ -21,7 +21,7 @@ use Rattle.expand_forms.specs.Expanding.{ready, library_record}
 use Rattle.law_compiled.specs.Templates.{HoldsLists}
 use Rattle.law_core.specs.Follows.{all_cores}
 use Rattle.law_core.specs.Parts.{parts, clause_patterns}
-use Rattle.law_core.specs.Words.{Each}
+use Rattle.base_data.specs.Elements.{Each}
 use Rattle.law_invariants.specs.Holds.{CodesHold}
 use Rattle.law_levels.specs.Levels.{pattern_levels, template_levels}
 use Rattle.law_spellings.specs.Spelled.{SpelledTree, SpelledRecord, spelled}
@@ -57,7 +57,7 @@ HasLevels n (matching c cs s) = Each (λ p. pattern_levels p ≤ n) (clause_patt
 
 -- So each pattern and each template in a record, in its lines and in the expressions of its keywords, has at most 1,000 levels.
 abbrev pub LevelsStayWithin : Type 0
-LevelsStayWithin = (own : LibName) (path : List ℕ) (records : List CompiledLibrary) (imports : List (List ℕ × Label))
+LevelsStayWithin = (own : LibName) (path : List ℕ) (records : List CompiledLibrary) (imports : List ImportedName)
     (version : List ℕ) (place : Span) (exports : List (List ℕ × Tree)) (forms : List Tree) (codes : Codes) (r : CompiledLibrary)
     → cells.Each SpelledRecord records → CodesHold spelled codes → cells.Each SpelledTree forms
     → library_record (ready own path records imports codes) records version place exports forms ≡ Ok r

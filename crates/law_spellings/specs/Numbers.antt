@@ -6,8 +6,8 @@ use Rattle.base_data.specs.Datum.{PlainDatum}
 use Rattle.base_data.specs.declared.atom.Atom.{Atom}
 use Rattle.base_data.specs.declared.atom.Atom.TheVariants as a
 use Rattle.base_data.specs.declared.name.Label.{Label}
-use Rattle.base_bytes.specs.Codec.{Codec, u32, u64, text, ◌then◌, optional, listed}
-use Rattle.base_bytes.specs.Names.{span, library, label, code_number}
+use Rattle.base_bytes.specs.Codec.{Codec, u32, u64, text, optional, listed}
+use Rattle.base_bytes.specs.Names.{span, library, label, imported_name, code_number}
 use Rattle.core_codec.specs.Code.{formals, split, item_list, core_list, init_list, case_list, clause_list}
 use Rattle.core_codec.specs.Contexts.{context, frame_row}
 use Rattle.core_language.specs.Core as c
@@ -21,7 +21,7 @@ use Rattle.core_language.specs.declared.binding.Binding.TheVariants as b
 use Rattle.core_language.specs.declared.record.CompiledLibrary.{CompiledLibrary}
 use Rattle.core_language.specs.declared.record.Line.{Line}
 use Rattle.core_language.specs.declared.record.Line.TheVariants as l
-use Rattle.eval_value.specs.Cells.{Each}
+use Rattle.base_data.specs.Elements.{Each}
 use Rattle.stx_tree.specs.Tree as t
 use Rattle.stx_tree.specs.Tree.{Tree}
 
@@ -135,7 +135,7 @@ pub record NumbersFit (r : CompiledLibrary) : Type 0 where
   pub path : Has text r.path
   pub name : Has library r.name
   pub version : Has (listed u64) r.version
-  pub exports : Has (listed (text then label)) r.exports
+  pub exports : Has (listed imported_name) r.exports
   pub bindings : IsShort r.bindings × Each BindingFits r.bindings
   pub rows : Has (listed frame_row) r.frames
   pub lines : IsShort r.run × Each LineFits r.run

@@ -1,8 +1,8 @@
 -- The order of what a record binds, and of the rows of its frames.
 use Rattle.std.specs.Prelude.{◌≡◌, ℕ, List, Ok, true}
 use Rattle.base_data.specs.declared.library.LibName.{LibName}
-use Rattle.base_data.specs.declared.name.Label.{Label}
 use Rattle.base_data.specs.declared.span.Span.{Span}
+use Rattle.base_data.specs.declared.imported_name.ImportedName.{ImportedName}
 use Rattle.core_codec.specs.Records.{bindings_rise, rows_rise}
 use Rattle.core_language.specs.declared.record.CompiledLibrary.{CompiledLibrary}
 use Rattle.eval_code.specs.Codes.{Codes}
@@ -15,6 +15,6 @@ pub record Rises (r : CompiledLibrary) : Type 0 where
   pub rows : rows_rise r.frames ≡ true
 
 abbrev pub RecordsRise : Type 0
-RecordsRise = (own : LibName) (path : List ℕ) (records : List CompiledLibrary) (imports : List (List ℕ × Label))
+RecordsRise = (own : LibName) (path : List ℕ) (records : List CompiledLibrary) (imports : List ImportedName)
     (version : List ℕ) (place : Span) (exports : List (List ℕ × Tree)) (forms : List Tree) (codes : Codes) (r : CompiledLibrary)
     → library_record (ready own path records imports codes) records version place exports forms ≡ Ok r → Rises r

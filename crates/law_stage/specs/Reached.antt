@@ -1,10 +1,10 @@
 -- Which libraries are evaluated before an expression.
 use Rattle.std.specs.Prelude.{◌≡◌, ◌&&◌, not, true, false, List, [], ◌∷◌, ◌++◌, Ok, if◌then◌else◌}
+use Rattle.base_data.specs.Elements.{Among}
 use Rattle.base_data.specs.declared.library.LibName.{LibName}
 use Rattle.base_data.specs.declared.span.Span.{Span}
 use Rattle.core_language.specs.Core.{PlainCore}
 use Rattle.core_language.specs.declared.record.CompiledLibrary.{CompiledLibrary}
-use Rattle.law_core.specs.Words.{Among}
 use Rattle.eval_stage.specs.Libraries.{has_library, has_all, libraries_of, wanted}
 use Rattle.eval_stage.specs.Running.{need}
 use Rattle.eval_stage.specs.Stage.{PlainStage}

@@ -2,7 +2,9 @@
 use Rattle.std.proofs.Common.{◌≡◌, ◌≤◌, ◌<◌, ℕ, ◌+◌, Bool, true, false, List, [], ◌∷◌, map, Option, Some, None, refl, sym, ap, subst, ◌∙◌, arith, inl, inr}
 use Rattle.std.specs.Prelude.{◌⊎◌}
 use Rattle.std.specs.List.{flat_map}
+use Rattle.base_data.proofs.ElementLemmas.{each-of}
 use Rattle.base_data.specs.Act.{after, give, gather}
+use Rattle.base_data.specs.Elements.{Each, Among, Once}
 use Rattle.base_data.specs.declared.library.LibName.{LibName}
 use Rattle.base_data.specs.declared.name.CodeNo.{CodeNo}
 use Rattle.base_data.specs.declared.name.FrameNo.{FrameNo}
@@ -13,12 +15,10 @@ use Rattle.stx_tree.specs.Tree.{Tree}
 use Rattle.core_language.specs.Core.{PlainCore}
 use Rattle.core_language.specs.References.{binders}
 use Rattle.core_language.specs.declared.record.CompiledLibrary.{CompiledLibrary}
-use Rattle.law_core.specs.Words.{Each, Among, Once}
 use Rattle.law_core.specs.Follows.{names_of}
 use Rattle.law_core.specs.Parts.{code_numbers}
 use Rattle.law_core.specs.Records.{defined}
 use Rattle.eval_value.specs.declared.value.Value.{Value}
-use Rattle.law_whole.proofs.Among.{each_of}
 use Rattle.core_shapes.specs.At.{place_of}
 use Rattle.core_shapes.specs.declared.shape.BindingSpec.{BindingSpec}
 use Rattle.core_shapes.specs.declared.shape.FormalIds.{FormalIds}
@@ -93,15 +93,15 @@ module _ (own : LibName) (texts : List CodeNo) (rs : List CompiledLibrary) (x : 
   good-expression s w c e = record {
     closed = e.1.1.closed;
     well_made = good-well-made own w.bindings [] (given own texts rs) s.names.number w.names.number c tt e.1.1;
-    apart = each_of (λ l. Among (given own texts rs) l → ⊥) (binders c) (λ l a b. foreign l (has-made own (given own texts rs) inner holds.spares w s.names.number w.names.number c l.0 e.1.1 (inl a)).library b);
+    apart = each-of (λ l. Among (given own texts rs) l → ⊥) (binders c) (λ l a b. foreign l (has-made own (given own texts rs) inner holds.spares w s.names.number w.names.number c l.0 e.1.1 (inl a)).library b);
   }
 
   codes-here : (s w : State) (c : PlainCore) → E s c w → Each (λ (n : CodeNo). n.0.library ≡ own) (code_numbers c)
-  codes-here s w c e = each_of (λ (n : CodeNo). n.0.library ≡ own) (code_numbers c) (λ n a. (has-made own (given own texts rs) inner holds.spares w s.names.number w.names.number c n.0 e.1.1 (inr a)).library)
+  codes-here s w c e = each-of (λ (n : CodeNo). n.0.library ≡ own) (code_numbers c) (λ n a. (has-made own (given own texts rs) inner holds.spares w s.names.number w.names.number c n.0 e.1.1 (inr a)).library)
 
   codes-apart : (s w : State) (c : PlainCore) → E s c w → Each (λ n. OwnHasCode own w.keywords n → ⊥) (code_numbers c)
   codes-apart s w c e =
-      each_of (λ n. OwnHasCode own w.keywords n → ⊥) (code_numbers c)
+      each-of (λ n. OwnHasCode own w.keywords n → ⊥) (code_numbers c)
       (λ n a y. (away-has own w c n.0 e.1.0.0 (inr a)).1 (y.label, (y.expression, (y.label_here, (ap expression_in y.kept, inr y.among)))))
 
   -- The expression of a keyword is expanded with nothing in scope.

@@ -2,8 +2,11 @@
 use Rattle.std.proofs.Common.{◌≡◌, ℕ, Bool, true, false, List, [], ◌∷◌, map, Option, Some, None, Result, Ok, Err, cond, refl, sym, inl, inr}
 use Rattle.std.specs.Prelude.{◌⊎◌, IsTrue}
 use Rattle.std.specs.List.{flat_map}
+use Rattle.base_data.proofs.ElementLemmas.{each-of, among-parts}
 use Rattle.base_data.specs.Act.{after, give}
+use Rattle.base_data.specs.Elements.{Each, Among}
 use Rattle.base_data.specs.declared.fault.Fault.{Fault}
+use Rattle.base_data.specs.declared.imported_name.ImportedName.{ImportedName}
 use Rattle.base_data.specs.declared.library.LibName.{LibName}
 use Rattle.base_data.specs.declared.name.CodeNo.{CodeNo}
 use Rattle.base_data.specs.declared.name.Label.{Label}
@@ -16,13 +19,11 @@ use Rattle.core_language.specs.Labels.{same_label}
 use Rattle.core_language.specs.declared.binding.Binding.{Binding}
 use Rattle.core_language.specs.declared.binding.Binding.TheVariants as binding
 use Rattle.core_language.specs.declared.record.CompiledLibrary.{CompiledLibrary}
-use Rattle.law_core.specs.Words.{Each, Among}
 use Rattle.law_core.specs.Records.{defined}
 use Rattle.law_core.specs.WellMade.{same_code}
 use Rattle.law_core.proofs.Decisions.{label_decides, code_decides}
 use Rattle.eval_value.specs.Cells.{is_found}
 use Rattle.eval_code.specs.Codes.{Codes, code_at}
-use Rattle.law_whole.proofs.Among.{each_of, among_parts}
 use Rattle.law_whole.proofs.Evaluations.{with_codes_whole}
 use Rattle.expand_standing.specs.Own.{export_labels, labels_with}
 use Rattle.expand_standing.specs.Start.{bindings_of, started}
@@ -50,7 +51,7 @@ use Rattle.law_steady.proofs.Safe.{Safe, safe-rest, Light, light-self, B, G}
 
 -- Texts.
 
-found_there : (codes : Codes) (n : CodeNo) → IsTrue (is_found (code_at codes n)) → Among (map (λ (e : CodeNo × PlainCode). e.0) codes) n
+pub found_there : (codes : Codes) (n : CodeNo) → IsTrue (is_found (code_at codes n)) → Among (map (λ (e : CodeNo × PlainCode). e.0) codes) n
 found_there [] n h = absurd (cc)
 found_there (e ∷ codes) n h = by (same_code n e.0) refl h (found_there codes n)
   where
@@ -81,7 +82,7 @@ bound_there (e ∷ bs) l b h = by (same_label l e.0) refl h (bound_there bs l b)
 
 expand_transformer_in : (rs : List CompiledLibrary) (l : Label) (level : ℕ) (c : PlainCore) → Among (bindings_of rs) (l, binding.Macro level (Some c)) → IsKeywordOf rs l c
 expand_transformer_in [] l level c a = absurd a
-expand_transformer_in (r ∷ rs) l level c a = by (among_parts r.bindings (bindings_of rs) (l, binding.Macro level (Some c)) a) (expand_transformer_in rs l level c)
+expand_transformer_in (r ∷ rs) l level c a = by (among-parts r.bindings (bindings_of rs) (l, binding.Macro level (Some c)) a) (expand_transformer_in rs l level c)
   where
     by : Among r.bindings (l, binding.Macro level (Some c)) ⊎ Among (bindings_of rs) (l, binding.Macro level (Some c)) → (Among (bindings_of rs) (l, binding.Macro level (Some c)) → IsKeywordOf rs l c) → IsKeywordOf (r ∷ rs) l c
     by (inl b) rest = record { keeper = r; among = inl refl; level = level; bound = b }
@@ -92,9 +93,9 @@ module _ (own : LibName) (records : List CompiledLibrary) (codes : Codes) (texts
   numbers = map (λ (e : CodeNo × PlainCode). e.0) codes
 
   pub texts_only : Each (λ (n : CodeNo). IsOfTexts n.0.library) numbers
-  texts_only = each_of (λ (n : CodeNo). IsOfTexts n.0.library) numbers (λ n a. texts.named n (there_found codes n a))
+  texts_only = each-of (λ (n : CodeNo). IsOfTexts n.0.library) numbers (λ n a. texts.named n (there_found codes n a))
 
-  pub started-safe : (imports : List (List ℕ × Label)) → Safe own numbers records (started own records imports codes)
+  pub started-safe : (imports : List ImportedName) → Safe own numbers records (started own records imports codes)
   unfolding started
   started-safe imports = record {
     stage = record {

@@ -3,6 +3,7 @@ use Rattle.std.proofs.Common.{◌≡◌, ◌≤◌, ◌<◌, ℕ, ◌+◌, Bool,
 use Rattle.std.specs.Prelude.{◌⊎◌, is_some}
 use Rattle.indexmap.specs.IndexMap.{insert_entry}
 use Rattle.base_data.specs.Act.{after, give, each}
+use Rattle.base_data.specs.Elements.{Each, Among, Once}
 use Rattle.base_data.specs.declared.fault.Fault.{Fault}
 use Rattle.base_data.specs.declared.fault.FaultKind.TheVariants as kind
 use Rattle.base_data.specs.declared.library.LibName.{LibName}
@@ -23,7 +24,6 @@ use Rattle.core_language.specs.declared.binding.Binding.{Binding}
 use Rattle.core_language.specs.declared.binding.Binding.TheVariants as binding
 use Rattle.core_language.specs.declared.core_form.CoreForm.{CoreForm}
 use Rattle.core_language.specs.declared.record.CompiledLibrary.{CompiledLibrary}
-use Rattle.law_core.specs.Words.{Each, Among, Once}
 use Rattle.law_core.specs.Follows.{names_of}
 use Rattle.law_core.specs.Parts.{code_numbers}
 use Rattle.core_records.specs.Forms.{record_forms}

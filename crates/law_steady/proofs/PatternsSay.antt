@@ -1,5 +1,6 @@
 -- No pattern is refused for cells that don't fit.
 use Rattle.std.proofs.Common.{ℕ, ◌+◌, Bool, true, false, List, [], ◌∷◌, Option, None, Some, Result, Ok, Err}
+use Rattle.base_data.specs.Elements.{Each}
 use Rattle.base_data.specs.Named.{Named}
 use Rattle.base_data.specs.declared.fault.Fault.{Fault}
 use Rattle.base_data.specs.declared.span.Span.{Span}
@@ -9,7 +10,6 @@ use Rattle.stx_frames.specs.Scope.{Scope}
 use Rattle.stx_scope.specs.Stands.{stands}
 use Rattle.core_language.specs.Pattern.{PlainPattern}
 use Rattle.core_language.specs.declared.core_form.CoreForm.TheVariants as form
-use Rattle.law_core.specs.Words.{Each}
 use Rattle.eval_pattern.specs.Compile.{PatternScope, Taken, may_be_literal, literals_checked, is_literal, is_known, new_variable, leaf_pattern, no_parts, with_repeated, Element, next_ellipsis, repeated_part, element, step, walked, vector_with, pattern, element_patterns, tail_pattern, with_variables, compiled}
 use Rattle.eval_pattern.specs.Keywords.{is_form}
 use Rattle.law_steady.proofs.Says.{Says, says-if, says-then, says-after}

@@ -1,12 +1,13 @@
 -- No `quasiquote` and no `quasisyntax` form is refused for cells that don't fit.
-use Rattle.std.proofs.Common.{ℕ, zero, suc, ◌-◌, List, [], ◌∷◌, length, take, drop, Option, None, Some, Result, Ok, Err}
+use Rattle.std.proofs.Common.{ℕ, ◌-◌, List, [], ◌∷◌, length, take, drop, Option, None, Some, Result, Ok, Err}
 use Rattle.std.specs.Prelude.{◌||◌}
+use Rattle.base_data.proofs.ElementLemmas.{each-taken, each-dropped}
+use Rattle.base_data.specs.Elements.{Each}
 use Rattle.base_data.specs.declared.fault.Bare.{Bare}
 use Rattle.base_data.specs.declared.span.Span.{Span}
 use Rattle.stx_tree.specs.Tree as tree
 use Rattle.stx_tree.specs.Tree.{Tree, span_of, spanned, list_of, vector_of}
 use Rattle.stx_tree.specs.Measures.{within}
-use Rattle.law_core.specs.Words.{Each}
 use Rattle.core_shapes.specs.Lists.{is_nil, tail_of}
 use Rattle.core_quasi.specs.Parts.{rest_at, splits, taken_at, first_word, operand_of}
 use Rattle.core_quasi.specs.Quasi as quote
@@ -26,16 +27,6 @@ use Rattle.core_quasi.specs.declared.word.Reach.{Reach}
 use Rattle.core_quasi.specs.declared.word.Reach.TheVariants as reached
 use Rattle.law_stuck.proofs.Refusals.{Tells, tells-if, tells-then, tells-within}
 use Rattle.law_steady.proofs.Says.{Says, says-then}
-
-each-take : {A : Type 0} (P : A → Type 0) (n : ℕ) (xs : List A) → Each P xs → Each P (take n xs)
-each-take P zero xs h = tt
-each-take P (suc n) [] h = tt
-each-take P (suc n) (x ∷ xs) h = (h.0, each-take P n xs h.1)
-
-each-drop : {A : Type 0} (P : A → Type 0) (n : ℕ) (xs : List A) → Each P xs → Each P (drop n xs)
-each-drop P zero xs h = h
-each-drop P (suc n) [] h = tt
-each-drop P (suc n) (x ∷ xs) h = each-drop P n xs h.1
 
 pub says-form : {A : Type 0} (form : Tree) (place : Span) (r : Result A Bare) → Tells r → Says (quote.at_form form place r)
 says-form form place (Ok x) h = tt
@@ -78,8 +69,8 @@ module _ (w : Words) where
   quote-list : (t : Tree) (xs : List quote.Element) (tail : quote.Tail) (n : ℕ) → Each Quiet xs → ((m : ℕ) → Tells (tail.made m)) → Tells (quote.list_made w t xs tail n)
   quote-list t xs tail n h k =
       tells-if (splits w tail.ends (quote.forms xs)) _ _
-      (quote-flat t (take (length xs - 2) xs) (quote.split_tail w t xs tail) n (each-take Quiet (length xs - 2) xs h)
-      (λ m. quote-flat (rest_at (length xs - 2) t) (drop (length xs - 2) xs) tail m (each-drop Quiet (length xs - 2) xs h) k))
+      (quote-flat t (take (length xs - 2) xs) (quote.split_tail w t xs tail) n (each-taken Quiet (length xs - 2) xs h)
+      (λ m. quote-flat (rest_at (length xs - 2) t) (drop (length xs - 2) xs) tail m (each-dropped Quiet (length xs - 2) xs h) k))
       (quote-flat t xs tail n h k)
 
   quote-vector : (t : Tree) (xs : List quote.Element) (n : ℕ) → Each Quiet xs → Tells (quote.vector_made w t xs n)
@@ -167,8 +158,8 @@ module _ (w : Looked) where
   syntax-list t xs tail n is h k =
       tells-if (syntaxes.escapes (first_word w.words (syntaxes.forms xs)) tail.ends (syntaxes.forms xs)) _ _ tt
       (tells-if (splits w.words tail.ends (syntaxes.forms xs)) _ _
-      (syntax-flat t (take (length xs - 2) xs) (syntaxes.split_tail w t xs tail) n is (each-take QuietSyntax (length xs - 2) xs h)
-      (λ m js. syntax-flat (rest_at (length xs - 2) t) (drop (length xs - 2) xs) tail m js (each-drop QuietSyntax (length xs - 2) xs h) k))
+      (syntax-flat t (take (length xs - 2) xs) (syntaxes.split_tail w t xs tail) n is (each-taken QuietSyntax (length xs - 2) xs h)
+      (λ m js. syntax-flat (rest_at (length xs - 2) t) (drop (length xs - 2) xs) tail m js (each-dropped QuietSyntax (length xs - 2) xs h) k))
       (syntax-flat t xs tail n is h k))
 
   syntax-vector : (t : Tree) (xs : List syntaxes.Element) (n : ℕ) (is : List Insert) → Each QuietSyntax xs → Tells (syntaxes.vector_made w t xs n is)

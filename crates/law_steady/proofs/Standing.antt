@@ -2,6 +2,8 @@
 use Rattle.std.proofs.Common.{◌≡◌, Bool, true, false, List, [], ◌∷◌, ◌++◌, map, refl, sym, ap, subst, ◌∙◌, inl, inr, if◌then◌else◌}
 use Rattle.std.specs.Prelude.{◌⊎◌}
 use Rattle.std.specs.List.{flat_map}
+use Rattle.base_data.proofs.ElementLemmas.{each-at, each-of, among-first, among-second, among-parts, among-flat}
+use Rattle.base_data.specs.Elements.{Each, Among}
 use Rattle.base_data.specs.Same.{same_library, same_library_decides}
 use Rattle.base_data.specs.declared.library.LibName.{LibName}
 use Rattle.base_data.specs.declared.name.Label.{Label}
@@ -11,14 +13,13 @@ use Rattle.core_language.specs.References.{references, binders, variables, forma
 use Rattle.core_language.specs.declared.record.CompiledLibrary.{CompiledLibrary}
 use Rattle.core_language.specs.declared.record.Line.{Line}
 use Rattle.core_language.specs.declared.record.Line.TheVariants as line
-use Rattle.law_core.specs.Words.{Each, Among}
 use Rattle.law_core.specs.Parts.{init_labels}
 use Rattle.law_core.specs.Scope.{Closed, AllClosed, InitsClosed, CasesClosed, ClausesClosed}
 use Rattle.law_core.specs.WellMade.{IsWellMade}
 use Rattle.law_core.specs.Records.{line_core, line_labels, line_binders, defined, run_binders}
 use Rattle.law_core.specs.Follows.{names_of, keywords, line_cores, IsOwn}
 use Rattle.law_core.proofs.GivenLemmas.{references_given}
-use Rattle.law_whole.proofs.Among.{among_first, among_second, among_parts, among_flat, each_of, each_at}
+use Rattle.base_data.proofs.ElementLemmas.{among-first, among-second, among-parts, among-flat, each-of, each-at}
 use Rattle.eval_stage.specs.Libraries.{has_library, with_library}
 use Rattle.expand_forms.specs.Top.{code_of, with_label_of, with_labels_of, with_lines_of, refs_of}
 use Rattle.law_expand.specs.Good.{IsGood}
@@ -40,11 +41,11 @@ abbrev Within : List Label → List Label → Type 0
 Within ls ms = (l : Label) → Among ls l → Among ms l
 
 within-more : (xs ls ms : List Label) → Within ls ms → Within (xs ++ ls) (xs ++ ms)
-within-more xs ls ms w l a = by (among_parts xs ls l a)
+within-more xs ls ms w l a = by (among-parts xs ls l a)
   where
     by : Among xs l ⊎ Among ls l → Among (xs ++ ms) l
-    by (inl b) = among_first xs ms l b
-    by (inr b) = among_second xs ms l (w l b)
+    by (inl b) = among-first xs ms l b
+    by (inr b) = among-second xs ms l (w l b)
 
 each-within : (ls ms : List Label) → Within ls ms → (xs : List Label) → Each (Among ls) xs → Each (Among ms) xs
 each-within ls ms w [] h = tt
@@ -88,15 +89,15 @@ mutual
 -- What more records define.
 
 defines-more : (few many : List CompiledLibrary) → ((q : CompiledLibrary) → Among few q → Among many q) → Within (flat_map defined few) (flat_map defined many)
-defines-more few many w l a = let d = defined_in few l a in among_flat defined many d.definer l (w d.definer d.among) d.defines
+defines-more few many w l a = let d = defined_in few l a in among-flat defined many d.definer l (w d.definer d.among) d.defines
 
 -- what is before others, too
 first-more : (ls ms xs : List Label) → Within ls ms → Within (ls ++ xs) (ms ++ xs)
-first-more ls ms xs w l a = by (among_parts ls xs l a)
+first-more ls ms xs w l a = by (among-parts ls xs l a)
   where
     by : Among ls l ⊎ Among xs l → Among (ms ++ xs) l
-    by (inl b) = among_first ms xs l (w l b)
-    by (inr b) = among_second ms xs l b
+    by (inl b) = among-first ms xs l (w l b)
+    by (inr b) = among-second ms xs l b
 
 names-more : (few many : List CompiledLibrary) → ((q : CompiledLibrary) → Among few q → Among many q) → (k : LibName) → Among (names_of few) k → Among (names_of many) k
 names-more few many w k a = by few a (λ q b. b)
@@ -112,8 +113,8 @@ more_before few many r w new h = record {
   no_text = h.no_text;
   bindings_here = h.bindings_here;
   lines = lines r.run h.lines;
-  transformers = each_of (Closed (flat_map defined many)) (keywords r)
-      (λ c a. closed-more (flat_map defined few) (flat_map defined many) (defines-more few many w) c (each_at (Closed (flat_map defined few)) (keywords r) c h.transformers a));
+  transformers = each-of (Closed (flat_map defined many)) (keywords r)
+      (λ c a. closed-more (flat_map defined few) (flat_map defined many) (defines-more few many w) c (each-at (Closed (flat_map defined few)) (keywords r) c h.transformers a));
   well_made = h.well_made;
   bound_here = h.bound_here;
   numbered_once = h.numbered_once;
@@ -130,7 +131,7 @@ more_before few many r w new h = record {
 -- References are libraries of labels that lines mention.
 
 module _ (own : LibName) where
-  label-first : (ls : List Label) (ks : List LibName) (k : LibName) → has_library ks k ≡ true → has_library (with_labels_of own ks ls) k ≡ true
+  pub label-first : (ls : List Label) (ks : List LibName) (k : LibName) → has_library ks k ≡ true → has_library (with_labels_of own ks ls) k ≡ true
   label-first [] ks k h = h
   label-first (l ∷ ls) ks k h = label-first ls (with_label_of own ks l) k (by (same_library l.0.library own))
     where
@@ -138,7 +139,7 @@ module _ (own : LibName) where
       by true = h
       by false = has_with ks l.0.library k h
 
-  label-there : (ls : List Label) (ks : List LibName) (l : Label) → Among ls l → (l.0.library ≡ own) ⊎ (has_library (with_labels_of own ks ls) l.0.library ≡ true)
+  pub label-there : (ls : List Label) (ks : List LibName) (l : Label) → Among ls l → (l.0.library ≡ own) ⊎ (has_library (with_labels_of own ks ls) l.0.library ≡ true)
   label-there [] ks l a = absurd a
   label-there (m ∷ ls) ks l (inr a) = label-there ls (with_label_of own ks m) l a
   label-there (m ∷ ls) ks l (inl e) = subst (λ (x : Label). (x.0.library ≡ own) ⊎ (has_library (with_labels_of own ks (m ∷ ls)) x.0.library ≡ true)) (sym e) (by (same_library m.0.library own) refl)
@@ -147,7 +148,7 @@ module _ (own : LibName) where
       by true is = inl ((same_library_decides m.0.library own).0 is)
       by false is = inr (label-first ls (with_library ks m.0.library) m.0.library (with_has ks m.0.library))
 
-  line-first : (xs : List Line) (ks : List LibName) (k : LibName) → has_library ks k ≡ true → has_library (with_lines_of own ks xs) k ≡ true
+  pub line-first : (xs : List Line) (ks : List LibName) (k : LibName) → has_library ks k ≡ true → has_library (with_lines_of own ks xs) k ≡ true
   line-first [] ks k h = h
   line-first (x ∷ xs) ks k h = line-first xs (with_labels_of own ks (references (code_of x))) k (label-first (references (code_of x)) ks k h)
 
@@ -214,7 +215,7 @@ module _ (records : List CompiledLibrary) (r : CompiledLibrary) (all : AllBehind
   cores-of (x ∷ xs) c (inr a) = let k = cores-of xs c a in (k.0, (inr k.1.0, k.1.1))
 
   referred : Each (λ c. Each (IsReferred r) (references c)) (line_cores r)
-  referred = each_of (λ c. Each (IsReferred r) (references c)) (line_cores r) (λ c a. each_of (IsReferred r) (references c) (λ l b. by l (cores-of r.run c a) b))
+  referred = each-of (λ c. Each (IsReferred r) (references c)) (line_cores r) (λ c a. each-of (IsReferred r) (references c) (λ l b. by l (cores-of r.run c a) b))
     where
       by : (l : Label) {c : PlainCore} → ((x : Line) × (Among r.run x × (c ≡ line_core x))) → Among (references c) l → IsReferred r l
       by l k b = to (line-there r.name r.run [] k.0 l k.1.0 (subst (λ d. Among (references d) l) k.1.1 b))
@@ -231,25 +232,25 @@ module _ (records : List CompiledLibrary) (r : CompiledLibrary) (all : AllBehind
     where
       label-bound : (xs : List Line) (l : Label) → Among (flat_map line_labels xs) l → Among (flat_map line_binders xs) l
       label-bound [] l a = absurd a
-      label-bound (x ∷ xs) l a = to (among_parts (line_labels x) (flat_map line_labels xs) l a) (label-bound xs l)
+      label-bound (x ∷ xs) l a = to (among-parts (line_labels x) (flat_map line_labels xs) l a) (label-bound xs l)
         where
           to : Among (line_labels x) l ⊎ Among (flat_map line_labels xs) l → (Among (flat_map line_labels xs) l → Among (flat_map line_binders xs) l) → Among (line_binders x ++ flat_map line_binders xs) l
-          to (inl b) rest = among_first (line_binders x) (flat_map line_binders xs) l (among_first (line_labels x) (binders (line_core x)) l b)
-          to (inr b) rest = among_second (line_binders x) (flat_map line_binders xs) l (rest b)
+          to (inl b) rest = among-first (line_binders x) (flat_map line_binders xs) l (among-first (line_labels x) (binders (line_core x)) l b)
+          to (inr b) rest = among-second (line_binders x) (flat_map line_binders xs) l (rest b)
 
       by : (false ≡ true) ⊎ FromLine r.name r.run k → Among (names_of records) k
       by (inl bad) = absurd (cc)
       by (inr f) =
           let l = f.from.label in
-          let closed = each_at (λ x. Closed given (line_core x)) r.run f.at good.closed f.among in
-          to l f.from.is f.from.foreign (among_parts (flat_map defined records) (defined r) l (each_at (Among given) (references (line_core f.at)) l (references_given given (line_core f.at) closed) f.from.among))
+          let closed = each-at (λ x. Closed given (line_core x)) r.run f.at good.closed f.among in
+          to l f.from.is f.from.foreign (among-parts (flat_map defined records) (defined r) l (each-at (Among given) (references (line_core f.at)) l (references_given given (line_core f.at) closed) f.from.among))
         where
           to : (l : Label) → l.0.library ≡ k → (l.0.library ≡ r.name → ⊥) → Among (flat_map defined records) l ⊎ Among (defined r) l → Among (names_of records) k
           to l is foreign (inl a) =
               let d = defined_in records l a in
               let st = stands [] records d.definer all d.among in
               subst (Among (names_of records)) (sym (defined_here st.earlier d.definer st.behind l d.defines) ∙ is) (name_of records d.definer d.among)
-          to l is foreign (inr a) = absurd (foreign (each_at (λ (m : Label). IsOwn r m.0) (run_binders r) l good.bound_here (label-bound r.run l a)))
+          to l is foreign (inr a) = absurd (foreign (each-at (λ (m : Label). IsOwn r m.0) (run_binders r) l good.bound_here (label-bound r.run l a)))
 
   pub stands-behind : (Among (names_of records) r.name → ⊥) → (IsOfTexts r.name → ⊥) → IsBehind records r
   stands-behind new no_text = record {

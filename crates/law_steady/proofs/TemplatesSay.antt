@@ -1,5 +1,6 @@
 -- No template is refused for cells that don't fit.
 use Rattle.std.proofs.Common.{◌≡◌, ℕ, zero, suc, ◌+◌, nat_lt, nat_eq, Bool, true, false, List, [], ◌∷◌, ◌++◌, length, Option, None, Some, Result, Ok, Err, if◌then◌else◌, refl, sym, subst, arith}
+use Rattle.base_data.specs.Elements.{Each}
 use Rattle.base_data.specs.Gives.{◌>>=◌}
 use Rattle.base_data.specs.declared.fault.Bare.{Bare}
 use Rattle.base_data.specs.declared.fault.Fault.{Fault}
@@ -16,7 +17,6 @@ use Rattle.core_language.specs.declared.binding.Binding.TheVariants as binding
 use Rattle.core_shapes.specs.Lists.{is_nil, tail_of}
 use Rattle.eval_pattern.specs.Keywords.{is_ellipsis}
 use Rattle.eval_template.specs.Compile.{TemplateScope, fault_of, reach, items_of, variable_made, bound_made, label_made, is_special, leaf_made, TemplateElement, dots_behind, with_ellipses, fitted, item_made, step, walked, placed, rebuilt, fixed_list, list_joined, fixed_vector, vector_joined, escape_of, unescaped, list_parts, list_made, vector_made, template, elements_made, tail_made, template_of, compiled}
-use Rattle.law_core.specs.Words.{Each}
 use Rattle.law_stuck.specs.Kinds.{NotStuck}
 use Rattle.law_steady.proofs.Says.{Says, says-if, says-then}
 

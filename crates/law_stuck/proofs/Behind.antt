@@ -2,6 +2,8 @@
 use Rattle.std.proofs.Common.{◌≡◌, ℕ, Bool, true, false, List, [], ◌∷◌, ◌++◌, map, Some, refl, sym, ap, subst, ◌∙◌, inl, inr}
 use Rattle.std.specs.Prelude.{◌⊎◌}
 use Rattle.std.specs.List.{flat_map}
+use Rattle.base_data.proofs.ElementLemmas.{each-at, among-first, among-second, among-parts, among-flat, once-second}
+use Rattle.base_data.specs.Elements.{Among, Once}
 use Rattle.base_data.specs.declared.library.LibName.{LibName}
 use Rattle.base_data.specs.declared.name.CodeNo.{CodeNo}
 use Rattle.base_data.specs.declared.name.Label.{Label}
@@ -11,7 +13,6 @@ use Rattle.core_language.specs.declared.binding.Binding.{Binding}
 use Rattle.core_language.specs.declared.binding.Binding.TheVariants as binding
 use Rattle.core_language.specs.declared.record.CompiledLibrary.{CompiledLibrary}
 use Rattle.core_language.specs.declared.record.Line.{Line}
-use Rattle.law_core.specs.Words.{Among, Once}
 use Rattle.law_core.specs.Parts.{code_numbers}
 use Rattle.law_core.specs.Scope.{Closed}
 use Rattle.law_core.specs.WellMade.{IsWellMade}
@@ -19,7 +20,7 @@ use Rattle.law_core.specs.Records.{line_core, line_labels, line_binders, defined
 use Rattle.law_core.specs.Follows.{names_of, bound_labels, keyword_of, keywords, line_cores, all_cores, all_binders, all_numbers, IsOwn}
 use Rattle.eval_stage.specs.Libraries.{has_library}
 use Rattle.law_stage.specs.Reached.{RefersBack}
-use Rattle.law_whole.proofs.Among.{among_first, among_second, among_parts, among_flat, each_at, once_second, once_apart}
+use Rattle.law_whole.proofs.Among.{once_apart}
 use Rattle.law_stuck.specs.Behind.{IsBehind, AllBehind, IsKeywordOf, IsKeywordExpression}
 
 -- Lists.
@@ -32,7 +33,7 @@ pub record In {A B : Type 0} (f : A → List B) (xs : List A) (y : B) : Type 0 w
 
 pub in_flat : {A B : Type 0} (f : A → List B) (xs : List A) (y : B) → Among (flat_map f xs) y → In f xs y
 in_flat f [] y a = absurd a
-in_flat f (x ∷ xs) y a = by (among_parts (f x) (flat_map f xs) y a) (in_flat f xs y)
+in_flat f (x ∷ xs) y a = by (among-parts (f x) (flat_map f xs) y a) (in_flat f xs y)
   where
     by : Among (f x) y ⊎ Among (flat_map f xs) y → (Among (flat_map f xs) y → In f xs y) → In f (x ∷ xs) y
     by (inl b) rest = record { at = x; among = inl refl; there = b }
@@ -43,10 +44,10 @@ pub one_place : {A B : Type 0} (f : A → List B) (xs : List A) (x z : A) (y : B
 one_place f [] x z y h a b p q = absurd a
 one_place f (w ∷ xs) x z y h (inl e) (inl d) p q = e ∙ sym d
 one_place f (w ∷ xs) x z y h (inl e) (inr b) p q =
-    absurd (once_apart (f w) (flat_map f xs) y h (subst (λ v. Among (f v) y) e p) (among_flat f xs z y b q))
+    absurd (once_apart (f w) (flat_map f xs) y h (subst (λ v. Among (f v) y) e p) (among-flat f xs z y b q))
 one_place f (w ∷ xs) x z y h (inr a) (inl d) p q =
-    absurd (once_apart (f w) (flat_map f xs) y h (subst (λ v. Among (f v) y) d q) (among_flat f xs x y a p))
-one_place f (w ∷ xs) x z y h (inr a) (inr b) p q = one_place f xs x z y (once_second (f w) (flat_map f xs) h) a b p q
+    absurd (once_apart (f w) (flat_map f xs) y h (subst (λ v. Among (f v) y) d q) (among-flat f xs x y a p))
+one_place f (w ∷ xs) x z y h (inr a) (inr b) p q = one_place f xs x z y (once-second (f w) (flat_map f xs) h) a b p q
 
 -- Names of records.
 
@@ -108,7 +109,7 @@ stands before (x ∷ rs) r h (inr a) =
     last q (inr (inr b)) = absurd b
 
     by : (q : CompiledLibrary) → Among (before ++ x ∷ []) q ⊎ Among rs q → Among before q ⊎ Among (x ∷ rs) q
-    by q (inl b) = last q (among_parts before (x ∷ []) q b)
+    by q (inl b) = last q (among-parts before (x ∷ []) q b)
     by q (inr b) = inr (inr b)
 
 -- Labels and codes of one record.
@@ -116,38 +117,38 @@ stands before (x ∷ rs) r h (inr a) =
 module _ (earlier : List CompiledLibrary) (r : CompiledLibrary) (h : IsBehind earlier r) where
   label_bound : (xs : List Line) (l : Label) → Among (flat_map line_labels xs) l → Among (flat_map line_binders xs) l
   label_bound [] l a = absurd a
-  label_bound (x ∷ xs) l a = by (among_parts (line_labels x) (flat_map line_labels xs) l a) (label_bound xs l)
+  label_bound (x ∷ xs) l a = by (among-parts (line_labels x) (flat_map line_labels xs) l a) (label_bound xs l)
     where
       by : Among (line_labels x) l ⊎ Among (flat_map line_labels xs) l → (Among (flat_map line_labels xs) l → Among (flat_map line_binders xs) l) → Among (line_binders x ++ flat_map line_binders xs) l
-      by (inl b) rest = among_first (line_binders x) (flat_map line_binders xs) l (among_first (line_labels x) (binders (line_core x)) l b)
-      by (inr b) rest = among_second (line_binders x) (flat_map line_binders xs) l (rest b)
+      by (inl b) rest = among-first (line_binders x) (flat_map line_binders xs) l (among-first (line_labels x) (binders (line_core x)) l b)
+      by (inr b) rest = among-second (line_binders x) (flat_map line_binders xs) l (rest b)
 
   -- what it defines is named by its library
   pub defined_here : (l : Label) → Among (defined r) l → IsOwn r l.0
   defined_here l a =
-      each_at (λ (m : Label). IsOwn r m.0) (all_binders r) l h.bound_here (among_first (run_binders r) (flat_map binders (keywords r)) l (label_bound r.run l a))
+      each-at (λ (m : Label). IsOwn r m.0) (all_binders r) l h.bound_here (among-first (run_binders r) (flat_map binders (keywords r)) l (label_bound r.run l a))
 
   -- so is what a line binds
   pub line_bound : (x : Line) (l : Label) → Among r.run x → Among (binders (line_core x)) l → IsOwn r l.0
   line_bound x l a b =
-      each_at (λ (m : Label). IsOwn r m.0) (all_binders r) l h.bound_here
-      (among_first (run_binders r) (flat_map binders (keywords r)) l (among_flat line_binders r.run x l a (among_second (line_labels x) (binders (line_core x)) l b)))
+      each-at (λ (m : Label). IsOwn r m.0) (all_binders r) l h.bound_here
+      (among-first (run_binders r) (flat_map binders (keywords r)) l (among-flat line_binders r.run x l a (among-second (line_labels x) (binders (line_core x)) l b)))
 
   -- and what a keyword binds
   pub keyword_bound : (c : PlainCore) (l : Label) → Among (keywords r) c → Among (binders c) l → IsOwn r l.0
   keyword_bound c l a b =
-      each_at (λ (m : Label). IsOwn r m.0) (all_binders r) l h.bound_here (among_second (run_binders r) (flat_map binders (keywords r)) l (among_flat binders (keywords r) c l a b))
+      each-at (λ (m : Label). IsOwn r m.0) (all_binders r) l h.bound_here (among-second (run_binders r) (flat_map binders (keywords r)) l (among-flat binders (keywords r) c l a b))
 
   -- each of its codes is named by its library
   pub numbered_here : (c : PlainCore) (n : CodeNo) → Among (all_cores r) c → Among (code_numbers c) n → IsOwn r n.0
-  numbered_here c n a b = each_at (λ (m : CodeNo). IsOwn r m.0) (all_numbers r) n h.numbered_here (among_flat code_numbers (all_cores r) c n a b)
+  numbered_here c n a b = each-at (λ (m : CodeNo). IsOwn r m.0) (all_numbers r) n h.numbered_here (among-flat code_numbers (all_cores r) c n a b)
 
 -- the expression of a keyword is among them
 pub keyword_there : (r : CompiledLibrary) (l : Label) (level : ℕ) (c : PlainCore) → Among r.bindings (l, binding.Macro level (Some c)) → Among (keywords r) c
-keyword_there r l level c a = among_flat keyword_of r.bindings (l, binding.Macro level (Some c)) c a (inl refl)
+keyword_there r l level c a = among-flat keyword_of r.bindings (l, binding.Macro level (Some c)) c a (inl refl)
 
 pub core_there : (r : CompiledLibrary) (c : PlainCore) → Among (keywords r) c → Among (all_cores r) c
-core_there r c a = among_second (line_cores r) (keywords r) c a
+core_there r c a = among-second (line_cores r) (keywords r) c a
 
 -- What records define.
 
@@ -173,7 +174,7 @@ expression_free rs c h = record {
   from = defined_in rs;
   closed = h.closed;
   well_made = h.well_made;
-  apart = λ l a b. each_at (λ (m : Label). Among (flat_map defined rs) m → ⊥) (binders c) l h.apart b a;
+  apart = λ l a b. each-at (λ (m : Label). Among (flat_map defined rs) m → ⊥) (binders c) l h.apart b a;
 }
 
 -- a label that is bound in a record isn't defined before it
@@ -187,8 +188,8 @@ pub keyword_free : (rs : List CompiledLibrary) (l : Label) (c : PlainCore) → A
 keyword_free rs l c all k = record {
   given = flat_map defined s.earlier;
   from = λ m a. let d = defined_in s.earlier m a in record { definer = d.definer; among = there d.definer d.among; defines = d.defines };
-  closed = each_at (Closed (flat_map defined s.earlier)) (keywords k.keeper) c s.behind.transformers at;
-  well_made = each_at (IsWellMade []) (all_cores k.keeper) c s.behind.well_made (core_there k.keeper c at);
+  closed = each-at (Closed (flat_map defined s.earlier)) (keywords k.keeper) c s.behind.transformers at;
+  well_made = each-at (IsWellMade []) (all_cores k.keeper) c s.behind.well_made (core_there k.keeper c at);
   apart = λ m a b. not_before rs s.earlier k.keeper all s.behind there m (keyword_bound s.earlier k.keeper s.behind c m at b) a;
 }
   where
@@ -220,5 +221,5 @@ label_there (x ∷ bs) b (inr a) = inr (label_there bs b a)
 pub keyword_label : (rs : List CompiledLibrary) (l : Label) (c : PlainCore) → AllBehind [] rs → IsKeywordOf rs l c → Among (names_of rs) l.0.library
 keyword_label rs l c all k =
     let s = stands [] rs k.keeper all k.among in
-    let own = each_at (λ (m : Label). IsOwn k.keeper m.0) (bound_labels k.keeper) l s.behind.bindings_here (label_there k.keeper.bindings (l, binding.Macro k.level (Some c)) k.bound) in
+    let own = each-at (λ (m : Label). IsOwn k.keeper m.0) (bound_labels k.keeper) l s.behind.bindings_here (label_there k.keeper.bindings (l, binding.Macro k.level (Some c)) k.bound) in
     subst (Among (names_of rs)) (sym own) (name_of rs k.keeper k.among)

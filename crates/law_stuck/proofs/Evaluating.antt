@@ -4,6 +4,8 @@ use Rattle.std.specs.Prelude.{◌⊎◌, IsTrue}
 use Rattle.std.specs.List.{flat_map}
 use Rattle.std.specs.Map.{lookup}
 use Rattle.std.proofs.lemmas.Grind.{flat_map-append}
+use Rattle.base_data.proofs.ElementLemmas.{each-at, each-of, each-first, each-last, among-first, among-second, among-parts, among-flat, once-first, once-second}
+use Rattle.base_data.specs.Elements.{Each, Among, Once}
 use Rattle.base_data.specs.declared.library.LibName.{LibName}
 use Rattle.base_data.specs.declared.name.CodeNo.{CodeNo}
 use Rattle.base_data.specs.declared.name.Label.{Label}
@@ -15,7 +17,7 @@ use Rattle.core_language.specs.declared.binding.Binding.{Binding}
 use Rattle.core_language.specs.declared.binding.Binding.TheVariants as binding
 use Rattle.core_language.specs.declared.record.CompiledLibrary.{CompiledLibrary}
 use Rattle.core_language.specs.declared.record.Line.{Line}
-use Rattle.law_core.specs.Words.{Each, Among, Once, among}
+use Rattle.law_core.specs.Words.{among}
 use Rattle.law_core.specs.Parts.{parts, own_number, code_numbers}
 use Rattle.law_core.specs.Scope.{Closed}
 use Rattle.law_core.specs.WellMade.{IsWellMade, same_code}
@@ -34,7 +36,7 @@ use Rattle.law_whole.specs.Extends.{Stay}
 use Rattle.law_whole.specs.MadeReady.{AreNew}
 use Rattle.law_whole.specs.Ready.{Variables, PatternVariables, Besides, Ready, FoundFrom, BoundFrom, ReadyIn}
 use Rattle.law_whole.specs.WholeWorld.{WholeEnding}
-use Rattle.law_whole.proofs.Among.{one_of, among_first, among_second, among_parts, among_flat, each_of, each_at, each_first, each_second, once_first, once_second, once_apart}
+use Rattle.law_whole.proofs.Among.{one_of, once_apart}
 use Rattle.law_whole.proofs.Evaluations.{expressions_never_stuck}
 use Rattle.law_whole.proofs.Growth.{grows_kept}
 use Rattle.law_whole.proofs.Lines.{lines_never_stuck}
@@ -87,7 +89,7 @@ free_ready v F G given c closed made stand f = ready_fewer v (Among given) F G c
 module _ (own : LibName) (texts : List CodeNo) (rs : List CompiledLibrary) where
   -- one more reason, with the codes of more texts
   more_texts : (more : List CodeNo) (ks : List (Label × Keyword)) (es : List LibName) (n : CodeNo) → HasCode own texts rs ks es n → HasCode own (texts ++ more) rs ks es n
-  more_texts more ks es n (text a) = text (among_first texts more n a)
+  more_texts more ks es n (text a) = text (among-first texts more n a)
   more_texts more ks es n (ours x) = ours x
   more_texts more ks es n (imported x) = imported x
   more_texts more ks es n (line r a e b) = line r a e b
@@ -110,7 +112,7 @@ module _ (own : LibName) (texts : List CodeNo) (rs : List CompiledLibrary) where
     pub evaluated : (k : LibName) → has_library s.evaluated k ≡ true → has_library t.evaluated k ≡ true
 
   global_there : (s : PlainStage) → Steady own texts rs s → (r : CompiledLibrary) → Among rs r → has_library s.evaluated r.name ≡ true → (l : Label) → Among (defined r) l → IsTrue (is_found (lookup (same_label l) s.globals))
-  global_there s h r a e l b = each_at (λ (m : Label). IsTrue (is_found (lookup (same_label m) s.globals))) (defined r) l (h.defined r a e) b
+  global_there s h r a e l b = each-at (λ (m : Label). IsTrue (is_found (lookup (same_label m) s.globals))) (defined r) l (h.defined r a e) b
 
   module _ (place : Span) (c : PlainCore) (s : PlainStage) (h : Steady own texts rs s) (f : Free rs c) (there : Provided s c f) (new : AreNew s.codes (code_numbers c)) where
     abbrev v : PlainSetting
@@ -143,7 +145,7 @@ module _ (own : LibName) (texts : List CodeNo) (rs : List CompiledLibrary) where
       where
         by : (n : CodeNo) → IsTrue (is_found (code_at s.codes n)) ⊎ Among (code_numbers c) n → HasCode own (texts ++ code_numbers c) rs s.keywords s.evaluated n
         by n (inl x) = more_texts (code_numbers c) s.keywords s.evaluated n (h.codes n x)
-        by n (inr a) = text (among_second texts (code_numbers c) n a)
+        by n (inr a) = text (among-second texts (code_numbers c) n a)
     went (faulted x t n) w k o = o
     went unfit w k o = absurd w
 
@@ -167,22 +169,22 @@ module _ (own : LibName) (texts : List CodeNo) (rs : List CompiledLibrary) where
 
     -- a code of a record is named by it
     record_code : (r : CompiledLibrary) → Among rs r → (n : CodeNo) → Among (LineNumbers r) n ⊎ Among (flat_map code_numbers (keywords r)) n → n.0.library ≡ r.name
-    record_code r a n x = let s = stands [] rs r all a in each_at (λ (m : CodeNo). IsOwn r m.0) (all_numbers r) n s.behind.numbered_here (subst (λ ns. Among ns n) (sym (numbers_split r)) (by x))
+    record_code r a n x = let s = stands [] rs r all a in each-at (λ (m : CodeNo). IsOwn r m.0) (all_numbers r) n s.behind.numbered_here (subst (λ ns. Among ns n) (sym (numbers_split r)) (by x))
       where
         by : Among (LineNumbers r) n ⊎ Among (flat_map code_numbers (keywords r)) n → Among (LineNumbers r ++ flat_map code_numbers (keywords r)) n
-        by (inl b) = among_first (LineNumbers r) (flat_map code_numbers (keywords r)) n b
-        by (inr b) = among_second (LineNumbers r) (flat_map code_numbers (keywords r)) n b
+        by (inl b) = among-first (LineNumbers r) (flat_map code_numbers (keywords r)) n b
+        by (inr b) = among-second (LineNumbers r) (flat_map code_numbers (keywords r)) n b
 
     keyword_code : (l : Label) (c : PlainCore) (k : IsKeywordOf rs l c) (n : CodeNo) → Among (code_numbers c) n → Among (flat_map code_numbers (keywords k.keeper)) n
-    keyword_code l c k n a = among_flat code_numbers (keywords k.keeper) c n (keyword_there k.keeper l k.level c k.bound) a
+    keyword_code l c k n a = among-flat code_numbers (keywords k.keeper) c n (keyword_there k.keeper l k.level c k.bound) a
 
     -- no text has the name of a record's code
     no_text_of : (r : CompiledLibrary) → Among rs r → (n : CodeNo) → n.0.library ≡ r.name → Among texts n → ⊥
-    no_text_of r a n e b = let s = stands [] rs r all a in s.behind.no_text (subst IsOfTexts e (each_at (λ (m : CodeNo). IsOfTexts m.0.library) texts n texts_only b))
+    no_text_of r a n e b = let s = stands [] rs r all a in s.behind.no_text (subst IsOfTexts e (each-at (λ (m : CodeNo). IsOfTexts m.0.library) texts n texts_only b))
 
     -- the codes of the lines of a library that wasn't evaluated aren't there
     lines_new : (s : PlainStage) → Steady own texts rs s → (r : CompiledLibrary) → Among rs r → has_library s.evaluated r.name ≡ false → AreNew s.codes (LineNumbers r)
-    lines_new s h r a not_yet = each_of (λ n. code_at s.codes n ≡ None) (LineNumbers r) (λ n b. is_none (code_at s.codes n) (λ is. by n b (record_code r a n (inl b)) (h.codes n is)))
+    lines_new s h r a not_yet = each-of (λ n. code_at s.codes n ≡ None) (LineNumbers r) (λ n b. is_none (code_at s.codes n) (λ is. by n b (record_code r a n (inl b)) (h.codes n is)))
       where
         by : (n : CodeNo) → Among (LineNumbers r) n → n.0.library ≡ r.name → HasCode own texts rs s.keywords s.evaluated n → ⊥
         by n b e (text x) = no_text_of r a n e x
@@ -199,7 +201,7 @@ module _ (own : LibName) (texts : List CodeNo) (rs : List CompiledLibrary) where
 
     -- nor are those of the expression of an imported keyword that isn't kept
     pub keyword_new : (s : PlainStage) → Steady own texts rs s → (l : Label) (c : PlainCore) (k : IsKeywordOf rs l c) → keyword_at s.keywords l ≡ None → AreNew s.codes (code_numbers c)
-    keyword_new s h l c k unknown = each_of (λ n. code_at s.codes n ≡ None) (code_numbers c) (λ n b. is_none (code_at s.codes n) (λ is. by n b (record_code k.keeper k.among n (inr (keyword_code l c k n b))) (h.codes n is)))
+    keyword_new s h l c k unknown = each-of (λ n. code_at s.codes n ≡ None) (code_numbers c) (λ n b. is_none (code_at s.codes n) (λ is. by n b (record_code k.keeper k.among n (inr (keyword_code l c k n b))) (h.codes n is)))
       where
         numbers : Label × Binding → List CodeNo
         numbers b = flat_map code_numbers (keyword_of b)
@@ -212,10 +214,10 @@ module _ (own : LibName) (texts : List CodeNo) (rs : List CompiledLibrary) where
         st = stands [] rs k.keeper all k.among
 
         once : Once (flat_map numbers k.keeper.bindings)
-        once = subst Once (regroup k.keeper.bindings) (once_second (LineNumbers k.keeper) (flat_map code_numbers (keywords k.keeper)) (once_split st.earlier k.keeper st.behind))
+        once = subst Once (regroup k.keeper.bindings) (once-second (LineNumbers k.keeper) (flat_map code_numbers (keywords k.keeper)) (once_split st.earlier k.keeper st.behind))
 
         alone : (d : PlainCore) (n : CodeNo) → Among (code_numbers d) n → Among (code_numbers d ++ []) n
-        alone d n a = among_first (code_numbers d) [] n a
+        alone d n a = among-first (code_numbers d) [] n a
 
         by : (n : CodeNo) → Among (code_numbers c) n → n.0.library ≡ k.keeper.name → HasCode own texts rs s.keywords s.evaluated n → ⊥
         by n b e (text x) = no_text_of k.keeper k.among n e x
@@ -235,10 +237,10 @@ module _ (own : LibName) (texts : List CodeNo) (rs : List CompiledLibrary) where
     pub own_new : (s : PlainStage) → Steady own texts rs s → (c : PlainCore) → Each (λ (n : CodeNo). n.0.library ≡ own) (code_numbers c) → Each (λ n. OwnHasCode own s.keywords n → ⊥) (code_numbers c)
         → AreNew s.codes (code_numbers c)
     own_new s h c here apart =
-        each_of (λ n. code_at s.codes n ≡ None) (code_numbers c) (λ n b. is_none (code_at s.codes n) (λ is. by n (each_at (λ (m : CodeNo). m.0.library ≡ own) (code_numbers c) n here b) (each_at (λ m. OwnHasCode own s.keywords m → ⊥) (code_numbers c) n apart b) (h.codes n is)))
+        each-of (λ n. code_at s.codes n ≡ None) (code_numbers c) (λ n b. is_none (code_at s.codes n) (λ is. by n (each-at (λ (m : CodeNo). m.0.library ≡ own) (code_numbers c) n here b) (each-at (λ m. OwnHasCode own s.keywords m → ⊥) (code_numbers c) n apart b) (h.codes n is)))
       where
         by : (n : CodeNo) → n.0.library ≡ own → (OwnHasCode own s.keywords n → ⊥) → HasCode own texts rs s.keywords s.evaluated n → ⊥
-        by n e not_ours (text x) = no_text (subst IsOfTexts e (each_at (λ (m : CodeNo). IsOfTexts m.0.library) texts n texts_only x))
+        by n e not_ours (text x) = no_text (subst IsOfTexts e (each-at (λ (m : CodeNo). IsOfTexts m.0.library) texts n texts_only x))
         by n e not_ours (ours x) = not_ours x
         by n e not_ours (imported x) =
             new_name (subst (Among (names_of rs)) (sym (record_code x.imported.keeper x.imported.among n (inr (keyword_code x.label x.expression x.imported n x.among))) ∙ e) (name_of rs x.imported.keeper x.imported.among))
@@ -262,12 +264,12 @@ module _ (own : LibName) (texts : List CodeNo) (rs : List CompiledLibrary) where
 
       -- what a line refers to is its own, or has a value
       line_finds : (x : Line) → Among r.run x → (l : Label) → Among (mentions (line_core x)) l → Among given l → Besides (lines_labels r.run) (FoundFrom u s.cells None) l
-      line_finds x a l m b = by (among_parts (flat_map defined earlier) (defined r) l b)
+      line_finds x a l m b = by (among-parts (flat_map defined earlier) (defined r) l b)
         where
           referred : Among (flat_map defined earlier) l → IsReferred r l
           referred d =
-              each_at (IsReferred r) (references (line_core x)) l
-              (each_at (λ c. Each (IsReferred r) (references c)) (line_cores r) (line_core x) behind.referred (core_of r.run x a))
+              each-at (IsReferred r) (references (line_core x)) l
+              (each-at (λ c. Each (IsReferred r) (references c)) (line_cores r) (line_core x) behind.referred (core_of r.run x a))
               (is_reference (line_core x) l m (line_apart rs earlier r all behind inside x a l d))
             where
               core_of : (xs : List Line) (x : Line) → Among xs x → Among (map line_core xs) (line_core x)
@@ -291,9 +293,9 @@ module _ (own : LibName) (texts : List CodeNo) (rs : List CompiledLibrary) where
           → LinesReady u (Besides (lines_labels r.run) (FoundFrom u s.cells None)) (BoundFrom s.cells None) xs
       lines_ready [] sub closed made stand = tt
       lines_ready (x ∷ xs) sub closed made stand = (
-        free_ready u (Besides (lines_labels r.run) (FoundFrom u s.cells None)) (BoundFrom s.cells None) given (line_core x) closed.0 made.0 (each_first (CodeStands u.codes) (parts (line_core x)) (lines_parts xs) stand)
+        free_ready u (Besides (lines_labels r.run) (FoundFrom u s.cells None)) (BoundFrom s.cells None) given (line_core x) closed.0 made.0 (each-first (CodeStands u.codes) (parts (line_core x)) (lines_parts xs) stand)
             (line_finds x (sub x (inl refl))),
-        lines_ready xs (λ y a. sub y (inr a)) closed.1 made.1 (each_second (CodeStands u.codes) (parts (line_core x)) (lines_parts xs) stand),
+        lines_ready xs (λ y a. sub y (inr a)) closed.1 made.1 (each-last (CodeStands u.codes) (parts (line_core x)) (lines_parts xs) stand),
       )
 
       ran : (o : Outcome) → LibraryEnding u (defined r) (length s.cells) o → EndsLater (state_on s) o → TellsOther o
@@ -317,7 +319,7 @@ module _ (own : LibName) (texts : List CodeNo) (rs : List CompiledLibrary) where
           by n (inr a) = line r among (with_has s.evaluated r.name) a
 
           known : (q : CompiledLibrary) → Among rs q → (has_library s.evaluated q.name ≡ true) ⊎ (q.name ≡ r.name) → AreFound (left_by_library r s t n).globals (defined q)
-          known q a (inl e) = each_of (λ (l : Label). IsTrue (is_found (lookup (same_label l) (left_by_library r s t n).globals))) (defined q) (λ l b. w.kept.globals l (global_there s h q a e l b))
+          known q a (inl e) = each-of (λ (l : Label). IsTrue (is_found (lookup (same_label l) (left_by_library r s t n).globals))) (defined q) (λ l b. w.kept.globals l (global_there s h q a e l b))
           known q a (inr e) = subst (λ (z : CompiledLibrary). AreFound (left_by_library r s t n).globals (defined z)) (sym (same_record [] rs q r all a among e)) w.defined
       ran (faulted x t n) w k o = o
       ran unfit w k o = absurd w
@@ -327,7 +329,7 @@ module _ (own : LibName) (texts : List CodeNo) (rs : List CompiledLibrary) where
       library_went =
           ran (outcome_of_lines r.run s)
           (lines_never_stuck (world_of s) (with_lines r.run s.codes) r.run (state_on s) _ h.whole lines_stay
-          (lines_ready r.run (λ x a. a) behind.lines (each_first (IsWellMade []) (line_cores r) (keywords r) behind.well_made)
+          (lines_ready r.run (λ x a. a) behind.lines (each-first (IsWellMade []) (line_cores r) (keywords r) behind.well_made)
           (subst (λ cs. Each (CodeStands cs) (lines_parts r.run)) (sym (lines_added r.run s.codes))
-          (all_stand (lines_parts r.run) s.codes (subst Once (sym (numbers_of r.run)) (once_first (LineNumbers r) (flat_map code_numbers (keywords r)) (once_split earlier r behind)))))))
+          (all_stand (lines_parts r.run) s.codes (subst Once (sym (numbers_of r.run)) (once-first (LineNumbers r) (flat_map code_numbers (keywords r)) (once_split earlier r behind)))))))
           (keeps-defined _ r.run (state_on s) _) (told-lines _ r.run _ _ _)

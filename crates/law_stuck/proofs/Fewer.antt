@@ -1,15 +1,15 @@
 -- Ready code needs no more variables than it mentions.
 use Rattle.std.proofs.Common.{List, ◌++◌, refl, inl, inr}
+use Rattle.base_data.proofs.ElementLemmas.{among-first, among-second}
+use Rattle.base_data.specs.Elements.{Among}
 use Rattle.base_data.specs.declared.name.Label.{Label}
 use Rattle.core_language.specs.Core as core
 use Rattle.core_language.specs.Core.{PlainCore, PlainCores, PlainInits, PlainCases, PlainClauses}
 use Rattle.core_language.specs.References.{formals_labels, mentions, all_mentions, init_mentions, case_mentions, clause_mentions}
 use Rattle.law_core.specs.Parts.{init_labels}
 use Rattle.law_core.specs.Templates.{depths}
-use Rattle.law_core.specs.Words.{Among}
 use Rattle.eval_code.specs.Setting.{PlainSetting}
 use Rattle.law_whole.specs.Ready.{Variables, PatternVariables, Besides, BesidesPattern, Ready, SequenceReady, AllReady, InitsReady, CasesReady, ClausesReady}
-use Rattle.law_whole.proofs.Among.{among_first, among_second}
 
 besides_at : (ls : List Label) (F H : Variables) (l : Label) → (F l → H l) → Besides ls F l → Besides ls H l
 besides_at ls F H l f (inl x) = inl x
@@ -20,10 +20,10 @@ abbrev pub FindsOf : List Label → Variables → Variables → Type 0
 FindsOf ms F H = (l : Label) → Among ms l → F l → H l
 
 first : (ms ns : List Label) (F H : Variables) → FindsOf (ms ++ ns) F H → FindsOf ms F H
-first ms ns F H f l a = f l (among_first ms ns l a)
+first ms ns F H f l a = f l (among-first ms ns l a)
 
 second : (ms ns : List Label) (F H : Variables) → FindsOf (ms ++ ns) F H → FindsOf ns F H
-second ms ns F H f l a = f l (among_second ms ns l a)
+second ms ns F H f l a = f l (among-second ms ns l a)
 
 within : (ls ms : List Label) (F H : Variables) → FindsOf ms F H → FindsOf ms (Besides ls F) (Besides ls H)
 within ls ms F H f l a = besides_at ls F H l (f l a)

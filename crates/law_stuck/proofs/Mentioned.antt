@@ -2,50 +2,27 @@
 use Rattle.std.proofs.Common.{◌≡◌, Bool, true, false, List, [], ◌∷◌, ◌++◌, refl, sym, ap, subst, ◌∙◌, inl, inr}
 use Rattle.std.specs.Prelude.{◌||◌, ◌⊎◌, not, if◌then◌else◌}
 use Rattle.std.proofs.lemmas.List.Folds.{list_any-append}
+use Rattle.base_data.specs.Elements.{Among}
 use Rattle.base_data.specs.Same.{same_library, same_library_decides}
 use Rattle.base_data.specs.declared.library.LibName.{LibName}
 use Rattle.base_data.specs.declared.name.Label.{Label}
 use Rattle.core_language.specs.Core.{PlainCore}
-use Rattle.core_language.specs.Labels.{same_label, has_label, with_label, with_labels, without}
+use Rattle.core_language.specs.Labels.{has_label, with_label, with_labels, without}
 use Rattle.core_language.specs.References.{binders, mentions, references}
-use Rattle.law_core.specs.Words.{Among}
-use Rattle.law_core.proofs.Decisions.{label_decides}
+use Rattle.law_core.proofs.LabelLemmas.{label-put, label-kept, label-there}
 use Rattle.eval_stage.specs.Libraries.{has_library, with_library, has_all, with_libraries_of, libraries_of}
 use Rattle.law_stage.proofs.Growing.{has_with}
-use Rattle.law_whole.proofs.Among.{among_first, among_second}
 use Rattle.law_stage.proofs.Sweeping.{with_has}
 
 -- Labels.
 
-pub has_among : (ls : List Label) (l : Label) → has_label ls l ≡ true → Among ls l
-has_among [] l h = absurd (cc)
-has_among (m ∷ ls) l h = by (same_label l m) refl h (has_among ls l)
-  where
-    by : (b : Bool) → same_label l m ≡ b → (b || has_label ls l) ≡ true → (has_label ls l ≡ true → Among ls l) → Among (m ∷ ls) l
-    by true e k rest = inl ((label_decides l m).0 e)
-    by false e k rest = inr (rest k)
-
-with_first : (ls : List Label) (m l : Label) → Among ls l → Among (with_label ls m) l
-with_first ls m l a = by (has_label ls m)
-  where
-    by : (b : Bool) → Among (if b then ls else ls ++ m ∷ []) l
-    by true = a
-    by false = among_first ls (m ∷ []) l a
-
-with_own : (ls : List Label) (m : Label) → Among (with_label ls m) m
-with_own ls m = by (has_label ls m) refl
-  where
-    by : (b : Bool) → has_label ls m ≡ b → Among (if b then ls else ls ++ m ∷ []) m
-    by true h = has_among ls m h
-    by false h = among_second ls (m ∷ []) m (inl refl)
-
 all_first : (ms ls : List Label) (l : Label) → Among ls l → Among (with_labels ls ms) l
 all_first [] ls l a = a
-all_first (m ∷ ms) ls l a = all_first ms (with_label ls m) l (with_first ls m l a)
+all_first (m ∷ ms) ls l a = all_first ms (with_label ls m) l (label-kept ls m l a)
 
 all_there : (ms ls : List Label) (l : Label) → Among ms l → Among (with_labels ls ms) l
 all_there [] ls l a = absurd a
-all_there (m ∷ ms) ls l (inl e) = all_first ms (with_label ls m) l (subst (Among (with_label ls m)) (sym e) (with_own ls m))
+all_there (m ∷ ms) ls l (inl e) = all_first ms (with_label ls m) l (subst (Among (with_label ls m)) (sym e) (label-put ls m))
 all_there (m ∷ ms) ls l (inr a) = all_there ms (with_label ls m) l a
 
 left_in : (ls ms : List Label) (l : Label) → (Among ls l → ⊥) → Among ms l → Among (without ls ms) l
@@ -53,7 +30,7 @@ left_in ls [] l n a = absurd a
 left_in ls (m ∷ ms) l n a = by (has_label ls m) refl a (left_in ls ms l n)
   where
     by : (b : Bool) → has_label ls m ≡ b → Among (m ∷ ms) l → (Among ms l → Among (without ls ms) l) → Among (if not b then m ∷ without ls ms else without ls ms) l
-    by true h (inl e) rest = absurd (n (subst (Among ls) (sym e) (has_among ls m h)))
+    by true h (inl e) rest = absurd (n (subst (Among ls) (sym e) (label-there ls m h)))
     by true h (inr k) rest = rest k
     by false h (inl e) rest = inl e
     by false h (inr k) rest = inr (rest k)

@@ -1,7 +1,9 @@
 -- What is done on a steady stage: libraries on demand, keywords and uses.
 use Rattle.std.proofs.Common.{◌≡◌, ℕ, ◌+◌, Bool, true, false, List, [], ◌∷◌, ◌++◌, Option, Some, None, Result, Ok, Err, refl, sym, ap, subst, ◌∙◌, inl, inr, append-nil, slice_get, if◌then◌else◌}
 use Rattle.std.specs.Prelude.{◌⊎◌, IsTrue}
+use Rattle.base_data.proofs.ElementLemmas.{among-first, among-parts}
 use Rattle.base_data.specs.Act.{after, give}
+use Rattle.base_data.specs.Elements.{Each, Among}
 use Rattle.base_data.specs.Gives.{◌>>=◌}
 use Rattle.base_data.specs.declared.fault.Fault.{Fault}
 use Rattle.base_data.specs.declared.library.LibName.{LibName}
@@ -15,7 +17,6 @@ use Rattle.stx_tree.specs.Tree.{Tree}
 use Rattle.core_language.specs.Core.{PlainCore}
 use Rattle.core_language.specs.References.{references}
 use Rattle.core_language.specs.declared.record.CompiledLibrary.{CompiledLibrary}
-use Rattle.law_core.specs.Words.{Each, Among}
 use Rattle.law_core.specs.Follows.{names_of}
 use Rattle.law_core.specs.Parts.{code_numbers}
 use Rattle.eval_value.specs.Cells.{transformer_in, is_found}
@@ -27,7 +28,6 @@ use Rattle.eval_value.specs.declared.cell.Cell.TheVariants as cell
 use Rattle.eval_code.specs.State.{Outcome, done, faulted, unfit}
 use Rattle.law_whole.specs.MadeReady.{AreNew}
 use Rattle.law_whole.specs.WholeWorld.{WholeEnding}
-use Rattle.law_whole.proofs.Among.{among_first, among_parts}
 use Rattle.law_whole.proofs.Stuck.{applied_never_stuck}
 use Rattle.eval_stage.specs.Libraries.{has_library, has_all, libraries_of, wanted}
 use Rattle.eval_stage.specs.Running.{state_on, ended_at, outcome_of_call, evaluate, call, evaluate_library, evaluate_wanted, evaluate_all, need}
@@ -80,7 +80,7 @@ module _ (own : LibName) (texts : List CodeNo) (rs : List CompiledLibrary) (l : 
     kept_other m e v h = put_other ks l m k (λ is. subst IsNotKept (ap (keyword_at ks) (sym is) ∙ h) free) ∙ h
 
     still : (more : List CodeNo) (es : List LibName) (n : CodeNo) → (Among more n → HasCode own texts rs (put ks l k) es n) → HasCode own (texts ++ more) rs ks es n → HasCode own texts rs (put ks l k) es n
-    still more es n new (text a) = by (among_parts texts more n a)
+    still more es n new (text a) = by (among-parts texts more n a)
       where
         by : Among texts n ⊎ Among more n → HasCode own texts rs (put ks l k) es n
         by (inl b) = text b
@@ -150,8 +150,8 @@ module _ (own : LibName) (texts : List CodeNo) (rs : List CompiledLibrary) (new_
         ends-after (λ x t. On s t × (has_library ks r.name ≡ true → has_library t.evaluated r.name ≡ true)) (λ x t. On s t × (Done before t × Done (r ∷ qs) t)) (evaluate_wanted place ks r s) (λ _. evaluate_all place ks qs)
         (wanted_on before r s h b.0 inside (sub r (inl refl)) had)
         (λ x t k. ends-less (λ y u. On t u × (Done (before ++ r ∷ []) u × Done qs u)) (λ y u. On s u × (Done before u × Done (r ∷ qs) u)) (evaluate_all place ks qs t)
-        (all_on (before ++ r ∷ []) qs t k.0.steady b.1 (λ q a. there q (among_parts before (r ∷ []) q a)) (λ q a. sub q (inr a)) (λ q a w. now t k q w (among_parts before (r ∷ []) q a)))
-        (λ y u j. (on_then s t u k.0 j.0, ((λ q a w. j.1.0 q (among_first before (r ∷ []) q a) w), (λ q a w. last u j.1.0 j.1.1 q a w)))))
+        (all_on (before ++ r ∷ []) qs t k.0.steady b.1 (λ q a. there q (among-parts before (r ∷ []) q a)) (λ q a. sub q (inr a)) (λ q a w. now t k q w (among-parts before (r ∷ []) q a)))
+        (λ y u j. (on_then s t u k.0 j.0, ((λ q a w. j.1.0 q (among-first before (r ∷ []) q a) w), (λ q a w. last u j.1.0 j.1.1 q a w)))))
       where
         there : (q : CompiledLibrary) → Among before q ⊎ Among (r ∷ []) q → Among rs q
         there q (inl a) = inside q a

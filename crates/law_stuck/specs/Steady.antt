@@ -1,13 +1,13 @@
 -- Stages on which nothing gets stuck.
 use Rattle.std.specs.Prelude.{◌≡◌, true, List, Option, None, Some, Result, Ok, Err, IsTrue}
 use Rattle.std.specs.List.{flat_map}
+use Rattle.base_data.specs.Elements.{Among}
 use Rattle.base_data.specs.declared.fault.Fault.{Fault}
 use Rattle.base_data.specs.declared.library.LibName.{LibName}
 use Rattle.base_data.specs.declared.name.CodeNo.{CodeNo}
 use Rattle.base_data.specs.declared.name.Label.{Label}
 use Rattle.core_language.specs.Core.{PlainCore}
 use Rattle.core_language.specs.declared.record.CompiledLibrary.{CompiledLibrary}
-use Rattle.law_core.specs.Words.{Among}
 use Rattle.law_core.specs.Parts.{code_numbers}
 use Rattle.law_core.specs.Records.{defined}
 use Rattle.law_core.specs.Follows.{line_cores}

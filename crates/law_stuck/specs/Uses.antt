@@ -1,5 +1,6 @@
 -- What is done on a steady stage never gets stuck, and leaves a steady stage.
 use Rattle.std.specs.Prelude.{◌≡◌, List, [], Option}
+use Rattle.base_data.specs.Elements.{Each, Among}
 use Rattle.base_data.specs.declared.library.LibName.{LibName}
 use Rattle.base_data.specs.declared.name.CodeNo.{CodeNo}
 use Rattle.base_data.specs.declared.name.FrameNo.{FrameNo}
@@ -8,7 +9,6 @@ use Rattle.base_data.specs.declared.span.Span.{Span}
 use Rattle.stx_tree.specs.Tree.{Tree}
 use Rattle.core_language.specs.Core.{PlainCore}
 use Rattle.core_language.specs.declared.record.CompiledLibrary.{CompiledLibrary}
-use Rattle.law_core.specs.Words.{Each, Among}
 use Rattle.law_core.specs.Parts.{code_numbers}
 use Rattle.law_core.specs.Follows.{names_of}
 use Rattle.eval_stage.specs.Stage.{PlainStage, keyword_at}

@@ -16,7 +16,7 @@ use Rattle.eval_pattern.specs.Values.{atom_of, vector_of}
 use Rattle.law_matches.specs.Matches.{pair_of, Begins, here, next}
 use Rattle.law_templates.specs.Repeating.{Alike, itself, same_leaf, same_atom, same_pair, same_vector, AreAlike, all_alike, next_alike}
 
-take_get : (m : ℕ) (cells : List Cell) (n : ℕ) (c : Cell) → slice_get (take m cells) n ≡ Some c → slice_get cells n ≡ Some c
+pub take_get : (m : ℕ) (cells : List Cell) (n : ℕ) (c : Cell) → slice_get (take m cells) n ≡ Some c → slice_get cells n ≡ Some c
 take_get zero cells n c h = absurd (let f : ⊥ = cc in f)
 take_get (suc m) [] n c h = absurd (let f : ⊥ = cc in f)
 take_get (suc m) (x ∷ cells) zero c h = h

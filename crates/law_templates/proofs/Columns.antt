@@ -73,12 +73,12 @@ pub long_none : (p : PlainPattern) → AllLong 0 (empty_columns p [])
 long_none p = empty_long p [] tt
 
 -- one row more
-abbrev zipped : List Column → Bindings → List Column
+abbrev pub zipped : List Column → Bindings → List Column
 zipped [] row = []
 zipped (c ∷ cols) [] = []
 zipped (c ∷ cols) (b ∷ row) = with_bind c b.1 ∷ zipped cols row
 
-grown-zipped : (done cols : List Column) (row : Bindings) → grown done cols row ≡ done ++ zipped cols row
+pub grown-zipped : (done cols : List Column) (row : Bindings) → grown done cols row ≡ done ++ zipped cols row
 grown-zipped done [] row = sym (append-nil done)
 grown-zipped done (c ∷ cols) [] = sym (append-nil done)
 grown-zipped done (c ∷ cols) (b ∷ row) = grown-zipped (done ++ with_bind c b.1 ∷ []) cols row ∙ append_assoc done (with_bind c b.1 ∷ []) (zipped cols row)
@@ -104,10 +104,10 @@ grows_labels (one_column later l b g) = λ i. l i ∷ grows_labels g i
 heads_same : (x y : Label) (xs ys : List Label) → x ∷ xs ≡ y ∷ ys → x ≡ y
 heads_same x y xs ys e = cc
 
-tails_same : (x y : Label) (xs ys : List Label) → x ∷ xs ≡ y ∷ ys → xs ≡ ys
+pub tails_same : (x y : Label) (xs ys : List Label) → x ∷ xs ≡ y ∷ ys → xs ≡ ys
 tails_same x y xs ys e = cc
 
-none_some : (x : Label) (xs : List Label) → [] ≡ x ∷ xs → ⊥
+pub none_some : (x : Label) (xs : List Label) → [] ≡ x ∷ xs → ⊥
 none_some x xs e = cc
 
 some_none : (x : Label) (xs : List Label) → x ∷ xs ≡ [] → ⊥

@@ -1,5 +1,5 @@
 -- What the variables of a template are seen to be bound to, turn by turn.
-use Rattle.std.proofs.Common.{◌≡◌, ℕ, zero, suc, ◌+◌, ◌-◌, ◌<◌, ◌≤◌, Bool, true, false, List, [], ◌∷◌, ◌++◌, length, length-append, drop, slice_get, Option, None, Some, Ok, Err, refl, ap, sym, subst, ◌∙◌, arith}
+use Rattle.std.proofs.Common.{◌≡◌, ℕ, zero, suc, ◌+◌, ◌-◌, ◌<◌, ◌≤◌, Bool, true, false, List, [], ◌∷◌, ◌++◌, length, slice_get, Option, None, Some, Ok, Err, refl, ap, sym, subst, ◌∙◌, arith}
 use Rattle.std.specs.Prelude.{nat_lt, nat_eq, if◌then◌else◌}
 use Rattle.std.proofs.lemmas.Bool.{ltb-true, ltb-false, eqb-true}
 use Rattle.std.proofs.lemmas.List.{drop_all}
@@ -9,6 +9,7 @@ use Rattle.eval_value.specs.Bind.{PlainBind, one, many, PlainBinds}
 use Rattle.eval_value.specs.Bind as bind
 use Rattle.eval_template.specs.Binds.{Binds, Absent, looked_up, listed, turn_of, through, innermost, reached, count_of}
 use Rattle.eval_template.specs.Lengths.{lengths, items_lengths, agree, differing, or_none}
+use Rattle.eval_template.proofs.Unseen.{innermost_more}
 use Rattle.law_templates.specs.Ready.{HasDepth, HaveDepth, Ready, ItemsReady}
 
 -- what is bound is reached by the turns of all but so many ellipses, and has that many left
@@ -56,16 +57,6 @@ through-append None (i ∷ is) js = none_through js
     none_through ks = refl
 through-append (Some b) [] js = refl
 through-append (Some b) (i ∷ is) js = through-append (turn_of b i) is js
-
-drop_before : (n : ℕ) (is : List ℕ) (i : ℕ) → n ≤ length is → drop n (is ++ i ∷ []) ≡ drop n is ++ i ∷ []
-drop_before zero is i h = refl
-drop_before (suc n) [] i h = absurd (omega arith)
-drop_before (suc n) (j ∷ is) i h = drop_before n is i (omega arith)
-
-innermost_more : (m : ℕ) (turns : List ℕ) (i : ℕ) → innermost (suc m) (turns ++ i ∷ []) ≡ innermost m turns ++ i ∷ []
-innermost_more m turns i =
-    let e : length (turns ++ i ∷ []) - suc m ≡ length turns - m = omega (arith, length-append turns (i ∷ [])) in
-    ap (λ n. drop n (turns ++ i ∷ [])) e ∙ drop_before (length turns - m) turns i (omega arith)
 
 innermost_none : (turns : List ℕ) → innermost 0 turns ≡ []
 innermost_none turns = drop_all (length turns - 0) turns (omega arith)

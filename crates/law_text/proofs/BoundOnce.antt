@@ -3,23 +3,25 @@ use Rattle.std.proofs.Common.{◌≡◌, ℕ, Bool, true, false, List, [], ◌�
 use Rattle.std.specs.Prelude.{◌==◌, if◌then◌else◌}
 use Rattle.std.specs.List.{flat_map}
 use Rattle.std.proofs.lemmas.List.{map-append}
+use Rattle.base_data.proofs.ElementLemmas.{each-at, among-map, among-flat, once-second}
+use Rattle.base_data.specs.Elements.{Among, Once}
 use Rattle.base_data.specs.declared.library.LibName.{LibName}
 use Rattle.base_data.specs.declared.name.Label.{Label}
 use Rattle.core_language.specs.declared.binding.Binding.{Binding}
 use Rattle.core_language.specs.declared.binding.Binding.TheVariants as binding
 use Rattle.core_language.specs.declared.record.CompiledLibrary.{CompiledLibrary}
-use Rattle.law_core.specs.Words.{Among, Once}
 use Rattle.law_core.specs.Records.{run_binders}
 use Rattle.law_core.specs.Follows.{names_of, bound_labels, IsOwn}
 use Rattle.law_expand.specs.Indices.{there, bound_index}
-use Rattle.law_expand.proofs.Fresh.{each-at, once-append}
+use Rattle.law_expand.proofs.Fresh.{once-append}
+use Rattle.law_expand.proofs.BoundVariables.{once-apart}
 use Rattle.core_plan.proofs.PlanLemmas.{is_plan}
 use Rattle.core_plan.specs.Planned.{plan_of}
 use Rattle.expand_standing.specs.Start.{records_at}
 use Rattle.law_text.specs.Indices.{indexed, named_variable, named_variables}
 use Rattle.law_text.specs.Standing.{AreStanding}
 use Rattle.law_text.specs.Text.{text_of}
-use Rattle.law_text.proofs.Words.{among-map, map-among, among-flat, flat-among, once-second, once-apart, once-one}
+use Rattle.law_text.proofs.Words.{map-among, flat-among, once-one}
 use Rattle.law_text.proofs.Names.{name_of, name-among}
 use Rattle.law_text.proofs.Planned.{planned-once}
 use Rattle.law_text.proofs.Closed.{libraries-once, planned-loaded, text-standing}

@@ -3,18 +3,18 @@ use Rattle.std.proofs.Common.{◌≡◌, ℕ, Bool, true, false, List, [], ◌�
 use Rattle.std.specs.Prelude.{◌⊎◌}
 use Rattle.std.specs.List.{flat_map, Contains}
 use Rattle.std.proofs.lemmas.List.{map-append}
+use Rattle.base_data.proofs.ElementLemmas.{each-at, each-of, among-first, among-second, among-parts, among-map, among-flat, once-first}
+use Rattle.base_data.specs.Elements.{Among, Once}
 use Rattle.base_data.specs.Same.{same_library, same_library_decides}
 use Rattle.base_data.specs.declared.library.LibName.{LibName}
 use Rattle.base_data.specs.declared.name.Label.{Label}
 use Rattle.core_language.specs.References.{binders, mentions}
 use Rattle.core_language.specs.declared.record.CompiledLibrary.{CompiledLibrary}
 use Rattle.core_language.specs.declared.record.Line.{Line}
-use Rattle.law_core.specs.Words.{Among, Once}
 use Rattle.law_core.specs.Scope.{Closed}
 use Rattle.law_core.specs.Templates.{TemplatesSuit}
 use Rattle.law_core.specs.Records.{line_core, line_labels, line_binders, defined, run_binders, LinesClosed, AreClosed}
 use Rattle.law_core.specs.Follows.{names_of, line_cores, IsOwn}
-use Rattle.law_expand.proofs.Fresh.{each-at, each-of, among-parts, among-first, among-second}
 use Rattle.core_plan.specs.Places.{place_of}
 use Rattle.core_plan.specs.Plan.{mentioned, further}
 use Rattle.core_plan.proofs.PlanLemmas.{is_plan}
@@ -22,7 +22,7 @@ use Rattle.core_plan.specs.Planned.{plan_of}
 use Rattle.expand_standing.specs.Start.{records_at}
 use Rattle.law_text.specs.Standing.{IsStanding, AreStanding}
 use Rattle.law_text.specs.Text.{text_of}
-use Rattle.law_text.proofs.Words.{among-map, among-flat, flat-among, contained, once-first}
+use Rattle.law_text.proofs.Words.{flat-among, contained}
 use Rattle.law_text.proofs.Refers.{mention-referred}
 use Rattle.law_text.proofs.Mentions.{Keeps, kept-closed}
 use Rattle.law_text.proofs.Names.{name_of, same-record, got-among, placed}

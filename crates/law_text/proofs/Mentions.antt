@@ -1,6 +1,8 @@
 -- What is closed under some labels is closed under those of them that it mentions.
 use Rattle.std.proofs.Common.{ℕ, suc, ◌+◌, List, ◌++◌, refl, ap, inl, inr}
 use Rattle.std.specs.Prelude.{◌⊎◌}
+use Rattle.base_data.proofs.ElementLemmas.{each-append, among-first, among-second, among-parts}
+use Rattle.base_data.specs.Elements.{Each, Among}
 use Rattle.base_data.specs.declared.name.Label.{Label}
 use Rattle.core_language.specs.Core.{PlainCore, quoted, variable, primitive, one_armed, two_armed, assignment, sequence, procedure, letrec, call, instance, matching}
 use Rattle.core_language.specs.Core.{PlainCores, none, more, PlainInits, no_init, init, PlainCases, no_case, case, PlainClauses, no_clause, clause, fended}
@@ -9,11 +11,9 @@ use Rattle.core_language.specs.Pattern.{PlainPattern, PlainPatterns}
 use Rattle.core_language.specs.References.{variables, all_variables, formals_labels, mentions, all_mentions, init_mentions, case_mentions, clause_mentions}
 use Rattle.core_language.specs.Template as template
 use Rattle.core_language.specs.Template.{PlainTemplate, PlainItems}
-use Rattle.law_core.specs.Words.{Each, Among}
 use Rattle.law_core.specs.Parts.{init_labels}
 use Rattle.law_core.specs.Scope.{template_labels, item_labels, Closed, AllClosed, InitsClosed, CasesClosed, ClausesClosed}
 use Rattle.law_core.specs.Templates.{Depths, depths, all_depths, Suits, ItemsSuit, TemplatesSuit, AllSuit, InitsSuit, CasesSuit, ClausesSuit}
-use Rattle.law_expand.proofs.Fresh.{each-append, among-parts, among-first, among-second}
 
 -- ---- pattern variables, and the templates that they suit
 

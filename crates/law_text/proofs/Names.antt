@@ -2,13 +2,13 @@
 use Rattle.std.proofs.Common.{◌≡◌, ℕ, zero, suc, ◌+◌, Bool, true, false, List, [], ◌∷◌, Some, arith, refl, sym, ap, ◌∙◌, subst, inl, inr}
 use Rattle.std.specs.Prelude.{slice_get, if◌then◌else◌}
 use Rattle.std.proofs.lemmas.Option.{none-some, same_Some}
+use Rattle.base_data.proofs.ElementLemmas.{among-map}
+use Rattle.base_data.specs.Elements.{Among, Once}
 use Rattle.base_data.specs.Same.{same_library, same_library_decides}
 use Rattle.base_data.specs.declared.library.LibName.{LibName}
 use Rattle.core_language.specs.declared.record.CompiledLibrary.{CompiledLibrary}
-use Rattle.law_core.specs.Words.{Among, Once}
 use Rattle.law_core.specs.Follows.{names_of}
 use Rattle.core_plan.specs.Places.{place_from, place_of}
-use Rattle.law_text.proofs.Words.{among-map}
 
 abbrev pub name_of : CompiledLibrary → LibName
 name_of r = r.name

@@ -1,12 +1,13 @@
 -- What the plan of a program names.
-use Rattle.std.proofs.Common.{◌≡◌, ℕ, suc, ◌<◌, ◌≤◌, List, [], ◌∷◌, Option, None, Some, arith, refl, sym, ap, ◌∙◌, subst, inl, inr}
+use Rattle.std.proofs.Common.{◌≡◌, ℕ, suc, ◌<◌, List, [], ◌∷◌, Option, None, Some, arith, refl, sym, ap, ◌∙◌, subst, inl, inr}
 use Rattle.std.specs.Prelude.{◌⊎◌, slice_get}
 use Rattle.std.specs.List.{Contains}
+use Rattle.base_data.specs.Elements.{Among, Once}
 use Rattle.core_language.specs.declared.record.CompiledLibrary.{CompiledLibrary}
-use Rattle.law_core.specs.Words.{Among, Once}
 use Rattle.law_core.specs.Follows.{names_of}
 use Rattle.core_plan.specs.Plan.{RisesFrom}
 use Rattle.core_plan.proofs.MarkLemmas.{contains_later, contains_cases}
+use Rattle.core_plan.proofs.PlanLemmas.{rises_above}
 use Rattle.expand_standing.specs.Start.{or_skip, records_at}
 use Rattle.law_text.proofs.Words.{map-among}
 use Rattle.law_text.proofs.Names.{name_of, one-place}
@@ -43,14 +44,6 @@ there-at rs (j ∷ js) r a = by (slice_get rs j) refl a (there-at rs js r)
 
 -- ---- their names stand once, as the places rise
 
-rises-above : (low n : ℕ) (xs : List ℕ) → RisesFrom low xs → Contains xs n → low ≤ n
-rises-above low n [] h c = absurd (let none : c.0 < 0 = c.1 in omega arith)
-rises-above low n (x ∷ xs) h c = by (contains_cases x n xs c) (rises-above (suc x) n xs h.1)
-  where
-    by : (x ≡ n) ⊎ Contains xs n → (Contains xs n → suc x ≤ n) → low ≤ n
-    by (inl e) rest = omega (arith, h.0, e)
-    by (inr d) rest = omega (arith, h.0, rest d)
-
 pub planned-once : (rs : List CompiledLibrary) → Once (names_of rs) → (low : ℕ) (plan : List ℕ) → RisesFrom low plan → Once (names_of (records_at rs plan))
 planned-once rs h low [] k = tt
 planned-once rs h low (i ∷ is) k = by (slice_get rs i) refl (planned-once rs h (suc i) is k.1)
@@ -58,7 +51,7 @@ planned-once rs h low (i ∷ is) k = by (slice_get rs i) refl (planned-once rs h
     later : (r : CompiledLibrary) → slice_get rs i ≡ Some r → (q : CompiledLibrary) × Among (records_at rs is) q × (r.name ≡ q.name) → ⊥
     later r e found =
         let at = there-at rs is found.0 found.1 in
-        let above = rises-above (suc i) at.0 is k.1 at.1 in
+        let above = rises_above (suc i) at.0 is k.1 at.1 in
         let same = one-place rs h i at.0 r found.0 e at.2 found.2 in
         omega (arith, above, same)
 

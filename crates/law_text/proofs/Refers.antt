@@ -1,6 +1,7 @@
 -- A free label that a line mentions makes its library one of the record's references, where it is another's.
 use Rattle.std.proofs.Common.{◌≡◌, Bool, true, false, cond, List, [], ◌∷◌, refl, sym, ap, ◌∙◌, subst, inl, inr}
 use Rattle.std.specs.Prelude.{not, if◌then◌else◌}
+use Rattle.base_data.specs.Elements.{Among}
 use Rattle.base_data.specs.Same.{same_library, same_library_decides}
 use Rattle.base_data.specs.declared.library.LibName.{LibName}
 use Rattle.base_data.specs.declared.name.Label.{Label}
@@ -9,7 +10,6 @@ use Rattle.core_language.specs.Labels.{same_label, has_label, with_label, with_l
 use Rattle.core_language.specs.References.{binders, mentions, references}
 use Rattle.core_language.specs.declared.record.Line.{Line}
 use Rattle.core_language.specs.declared.record.Line.TheVariants as line
-use Rattle.law_core.specs.Words.{Among}
 use Rattle.law_core.specs.Records.{line_core}
 use Rattle.law_core.proofs.Decisions.{label_decides}
 use Rattle.eval_stage.specs.Libraries.{has_library, with_library}

@@ -1,28 +1,18 @@
 -- What stands among lists, and that each stands once.
-use Rattle.std.proofs.Common.{◌≡◌, Bool, true, false, List, [], ◌∷◌, ◌++◌, map, arith, refl, sym, ap, subst, inl, inr}
+use Rattle.std.proofs.Common.{◌≡◌, Bool, true, false, List, [], ◌∷◌, ◌++◌, map, arith, refl, sym, inl, inr}
 use Rattle.std.specs.Prelude.{◌⊎◌, ◌||◌, if◌then◌else◌}
 use Rattle.std.specs.Bool.{Decides}
 use Rattle.std.specs.List.{flat_map, list_any, Contains}
-use Rattle.law_core.specs.Words.{Among, Once}
-use Rattle.law_expand.proofs.Fresh.{Apart, among-parts, among-first, among-second}
+use Rattle.base_data.proofs.ElementLemmas.{among-first, among-second, among-parts}
+use Rattle.base_data.specs.Elements.{Among, Once}
 use Rattle.core_plan.proofs.MarkLemmas.{contains_later}
 
 -- ---- among what a function makes
-
-pub among-map : {A B : Type 0} (f : A → B) (xs : List A) (x : A) → Among xs x → Among (map f xs) (f x)
-among-map f [] x a = elim a [ ]
-among-map f (y ∷ xs) x (inl e) = inl (ap f e)
-among-map f (y ∷ xs) x (inr a) = inr (among-map f xs x a)
 
 pub map-among : {A B : Type 0} (f : A → B) (xs : List A) (y : B) → Among (map f xs) y → (x : A) × Among xs x × (y ≡ f x)
 map-among f [] y a = elim a [ ]
 map-among f (x ∷ xs) y (inl e) = (x, inl refl, e)
 map-among f (x ∷ xs) y (inr a) = let found = map-among f xs y a in (found.0, inr found.1, found.2)
-
-pub among-flat : {A B : Type 0} (f : A → List B) (xs : List A) (x : A) (y : B) → Among xs x → Among (f x) y → Among (flat_map f xs) y
-among-flat f [] x y a b = elim a [ ]
-among-flat f (z ∷ xs) x y (inl e) b = among-first (f z) (flat_map f xs) y (subst (λ w. Among (f w) y) e b)
-among-flat f (z ∷ xs) x y (inr a) b = among-second (f z) (flat_map f xs) y (among-flat f xs x y a b)
 
 pub flat-among : {A B : Type 0} (f : A → List B) (xs : List A) (y : B) → Among (flat_map f xs) y → (x : A) × Among xs x × Among (f x) y
 flat-among f [] y a = elim a [ ]
@@ -40,19 +30,6 @@ contained (y ∷ xs) x (inl e) = (0, omega arith, sym e)
 contained (y ∷ xs) x (inr a) = contains_later y x xs (contained xs x a)
 
 -- ---- each once
-
-pub once-first : {A : Type 0} (xs ys : List A) → Once (xs ++ ys) → Once xs
-once-first [] ys h = tt
-once-first (x ∷ xs) ys h = (λ a. h.0 (among-first xs ys x a), once-first xs ys h.1)
-
-pub once-second : {A : Type 0} (xs ys : List A) → Once (xs ++ ys) → Once ys
-once-second [] ys h = h
-once-second (x ∷ xs) ys h = once-second xs ys h.1
-
-pub once-apart : {A : Type 0} (xs ys : List A) → Once (xs ++ ys) → Apart xs ys
-once-apart [] ys h x a b = elim a [ ]
-once-apart (y ∷ xs) ys h x (inl e) b = h.0 (among-second xs ys y (subst (Among ys) e b))
-once-apart (y ∷ xs) ys h x (inr a) b = once-apart xs ys h.1 x a b
 
 pub once-one : {A : Type 0} (x : A) → Once (x ∷ [])
 once-one x = ((λ a. a), tt)

@@ -1,8 +1,8 @@
 -- What is asked of the records of libraries, and of a program's record, before their text is made.
 use Rattle.std.specs.Prelude.{◌≡◌, List, [], ◌∷◌, ◌++◌}
 use Rattle.std.specs.List.{flat_map}
+use Rattle.base_data.specs.Elements.{Each, Among, Once}
 use Rattle.core_language.specs.declared.record.CompiledLibrary.{CompiledLibrary}
-use Rattle.law_core.specs.Words.{Each, Among, Once}
 use Rattle.law_core.specs.Templates.{TemplatesSuit}
 use Rattle.law_core.specs.Records.{defined, run_binders, LinesClosed}
 use Rattle.law_core.specs.Follows.{names_of, bound_labels, line_cores, IsOwn}

@@ -1,8 +1,8 @@
 -- The text of a run, and what holds of it.
 use Rattle.std.specs.Prelude.{List, [], ◌∷◌, ◌++◌}
 use Rattle.std.specs.List.{flat_map}
+use Rattle.base_data.specs.Elements.{Once}
 use Rattle.core_language.specs.declared.record.CompiledLibrary.{CompiledLibrary}
-use Rattle.law_core.specs.Words.{Once}
 use Rattle.law_core.specs.Records.{AreClosed, run_binders}
 use Rattle.core_plan.specs.Planned.{plan_of}
 use Rattle.expand_standing.specs.Start.{records_at}

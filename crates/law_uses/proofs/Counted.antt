@@ -2,8 +2,8 @@
 use Rattle.std.proofs.Common.{◌≡◌, ◌+◌, ℕ, zero, suc, List, Option, None, Some, Result, Ok, Err, refl, sym, ◌∙◌, ap, subst, arith}
 use Rattle.base_data.specs.Act.{after}
 use Rattle.base_data.specs.declared.fault.Fault.{Fault}
+use Rattle.base_data.specs.declared.imported_name.ImportedName.{ImportedName}
 use Rattle.base_data.specs.declared.library.LibName.{LibName}
-use Rattle.base_data.specs.declared.name.Label.{Label}
 use Rattle.base_data.specs.declared.span.Span.{Span}
 use Rattle.stx_tree.specs.Tree.{Tree}
 use Rattle.core_language.specs.declared.record.CompiledLibrary.{CompiledLibrary}
@@ -29,7 +29,7 @@ use Rattle.law_uses.specs.Counted as counted
 after-ok : {A B : Type 0} (r : Result (A × State) Fault) (a : A) (s : State) (k : A → Does B) → r ≡ Ok (a, s) → after r k ≡ k a s
 after-ok r a s k e = ap (λ q. after q k) e
 
-pub starts-with : (own : LibName) (records : List CompiledLibrary) (imports : List (List ℕ × Label)) (codes : Codes) → (started own records imports codes).uses_left ≡ 1000000
+pub starts-with : (own : LibName) (records : List CompiledLibrary) (imports : List ImportedName) (codes : Codes) → (started own records imports codes).uses_left ≡ 1000000
 unfolding started
 starts-with own records imports codes = refl
 

@@ -1,8 +1,8 @@
 -- How many uses of keywords an expansion makes, and which one is refused.
 use Rattle.std.specs.Prelude.{◌≡◌, ◌+◌, ℕ, suc, List, Option, None, Some, Ok}
+use Rattle.base_data.specs.declared.imported_name.ImportedName.{ImportedName}
 use Rattle.base_data.specs.declared.library.LibName.{LibName}
 use Rattle.base_data.specs.declared.name.FrameNo.{FrameNo}
-use Rattle.base_data.specs.declared.name.Label.{Label}
 use Rattle.base_data.specs.declared.span.Span.{Span}
 use Rattle.stx_tree.specs.Tree.{Tree}
 use Rattle.core_language.specs.declared.record.CompiledLibrary.{CompiledLibrary}
@@ -40,7 +40,7 @@ pub data BecomesItem (rs : List CompiledLibrary) (depth : ℕ) : ℕ → ℕ →
 -- An expansion may make 1,000,000 uses. Each use takes one. A form that becomes one which is no use is planned as that, however few are left then; one
 -- that becomes a use where none is left is refused, at that use. And a form is planned only so.
 pub record UsesAreCounted : Type 0 where
-  pub starts : (own : LibName) (records : List CompiledLibrary) (imports : List (List ℕ × Label)) (codes : Codes)
+  pub starts : (own : LibName) (records : List CompiledLibrary) (imports : List ImportedName) (codes : Codes)
       → (started own records imports codes).uses_left ≡ 1000000
   pub counted : (rs : List CompiledLibrary) (level n more left : ℕ) (place at : Span) (t y : Tree) (s w : State)
       → Becomes rs level n more left place t s at y w → more ≡ n + left

@@ -4,12 +4,13 @@ use Rattle.std.specs.Prelude.{IsTrue, is_some}
 use Rattle.std.specs.List.{flat_map}
 use Rattle.std.specs.Cmp.{unsigned_Decides}
 use Rattle.std.proofs.lemmas.Grind.{flat_map-append}
+use Rattle.base_data.proofs.ElementLemmas.{among-map, each-at, each-flat}
+use Rattle.base_data.specs.Elements.{Each, Among, Once}
 use Rattle.base_data.specs.declared.library.LibName.{LibName}
 use Rattle.base_data.specs.declared.library.LibName.TheVariants as library
 use Rattle.base_data.specs.declared.name.CodeNo.{CodeNo}
 use Rattle.base_data.specs.declared.op.names.TheConstants as names
 use Rattle.core_language.specs.Core.{PlainCore}
-use Rattle.law_core.specs.Words.{Each, Among, Once}
 use Rattle.law_core.specs.Parts.{parts, own_number, code_numbers}
 use Rattle.law_core.specs.Scope.{Closed}
 use Rattle.law_core.specs.WellMade.{IsWellMade}
@@ -22,7 +23,6 @@ use Rattle.eval_code.specs.Setting.{PlainSetting}
 use Rattle.law_whole.specs.Beginning.{codes_in, first_world, text_code, HasText, FirstWorldsAreWhole, lambda_number, lambda_of, example_text, ops_with_text, OneIsWhole, BrokenAreNotWhole}
 use Rattle.law_whole.specs.Ready.{Ready, FoundFrom, BoundFrom}
 use Rattle.law_whole.specs.WholeWorld.{CodeReady, TextReady}
-use Rattle.law_whole.proofs.Among.{each_at, each_flat}
 use Rattle.law_whole.proofs.Numbered.{CodeStands, added, then_added, codes_added, all_stand}
 use Rattle.law_whole.proofs.Records.{well_made_ready}
 use Rattle.law_whole.proofs.Steady.{ready_map}
@@ -50,13 +50,13 @@ first_worlds_whole cs frames texts closed made once = record {
     w = first_world cs frames
 
     stand : Each (λ c. Each (CodeStands w.codes) (parts c)) cs
-    stand = each_flat (CodeStands w.codes) parts cs
+    stand = each-flat (CodeStands w.codes) parts cs
         (subst (λ old. Each (CodeStands old) (flat_map parts cs)) (sym (codes_in_added cs [])) (all_stand (flat_map parts cs) [] (subst Once (sym (numbers_in cs)) once)))
 
     ready : (c : PlainCore) → Among cs c → Ready w (FoundFrom w [] None) (BoundFrom [] None) c
     ready c a =
-        well_made_ready w (FoundFrom w [] None) (BoundFrom [] None) [] c (λ l b. absurd b) (each_at (Closed []) cs c closed a) (each_at (IsWellMade []) cs c made a)
-        (each_at (λ d. Each (CodeStands w.codes) (parts d)) cs c stand a)
+        well_made_ready w (FoundFrom w [] None) (BoundFrom [] None) [] c (λ l b. absurd b) (each-at (Closed []) cs c closed a) (each-at (IsWellMade []) cs c made a)
+        (each-at (λ d. Each (CodeStands w.codes) (parts d)) cs c stand a)
 
     text_there : (op : ℕ) → HasText cs op → TextReady w [] (text_body (code_at w.codes (text_number op)))
     text_there op t =
@@ -69,12 +69,7 @@ first_worlds_whole cs frames texts closed made once = record {
 
 -- The example.
 
-among_map : {A B : Type 0} (f : A → B) (xs : List A) (x : A) → Among xs x → Among (map f xs) (f x)
-among_map f [] x a = absurd a
-among_map f (y ∷ xs) x (inl e) = inl (ap f e)
-among_map f (y ∷ xs) x (inr a) = inr (among_map f xs x a)
-
-by_test : (t : Bool) (x : List ℕ) (r : Option (List ℕ)) (X : Type 0) → (t ≡ true → X) → (is_some r ≡ true → X) → is_some (cond t (Some x) r) ≡ true → X
+pub by_test : (t : Bool) (x : List ℕ) (r : Option (List ℕ)) (X : Type 0) → (t ≡ true → X) → (is_some r ≡ true → X) → is_some (cond t (Some x) r) ≡ true → X
 by_test true x r X k j h = k refl
 by_test false x r X k j h = j h
 
@@ -131,7 +126,7 @@ examples_made (op ∷ ops) = (
 pub one_is_whole : OneIsWhole
 one_is_whole =
     first_worlds_whole (map example_text ops_with_text) []
-    (λ op h. record { body = lambda_of op; among = among_map example_text ops_with_text op (op_of_text op h); gives = tt })
+    (λ op h. record { body = lambda_of op; among = among-map example_text ops_with_text op (op_of_text op h); gives = tt })
     (examples_closed ops_with_text) (examples_made ops_with_text)
     ((once_decides same_code code_decides (flat_map code_numbers (map example_text ops_with_text))).0 refl)
 

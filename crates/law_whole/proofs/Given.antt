@@ -1,6 +1,8 @@
 -- An instance of a template whose variables are bound keeps a whole world whole, and is ready.
 use Rattle.std.proofs.Common.{◌≡◌, ◌+◌, ℕ, zero, suc, List, [], ◌∷◌, ◌++◌, Option, Some, None, Bool, true, false, Result, Ok, Err, length, drop, refl, slice_get, option_and_then, if◌then◌else◌}
 use Rattle.std.specs.Map.{lookup}
+use Rattle.base_data.proofs.ElementLemmas.{each-and}
+use Rattle.base_data.specs.Elements.{Each}
 use Rattle.base_data.specs.Gives.{◌>>=◌}
 use Rattle.base_data.specs.Same.{same_name}
 use Rattle.base_data.specs.declared.atom.Atom.TheVariants as a
@@ -12,7 +14,6 @@ use Rattle.core_language.specs.Labels.{same_label}
 use Rattle.core_language.specs.Template as template
 use Rattle.core_language.specs.Template.{PlainTemplate, PlainItems}
 use Rattle.eval_value.specs.Bind.{PlainBind, one, many, PlainBinds, none, more}
-use Rattle.eval_value.specs.Cells.{Each}
 use Rattle.eval_value.specs.FromDatum.{pairs_stored, vector_stored}
 use Rattle.eval_value.specs.declared.value.Value.{Value}
 use Rattle.eval_value.specs.declared.value.Value.TheVariants as value
@@ -21,7 +22,6 @@ use Rattle.eval_value.specs.declared.cell.Cell.TheVariants as cell
 use Rattle.eval_template.specs.Binds.{unbound, looked_up, listed, turn_of, through, innermost, reached, value_of}
 use Rattle.eval_template.specs.Instance as instances
 use Rattle.eval_template.specs.Lengths.{agree, or_none}
-use Rattle.law_prims.proofs.Taken.{each_and}
 use Rattle.eval_code.specs.Instances.{Binds, with_bind, gathered, gathered_items, instance_of, cost_of, instance_made, instance_paid, instance_with, instanced}
 use Rattle.eval_code.specs.Setting.{PlainSetting}
 use Rattle.eval_code.specs.State.{WorldState, done, store}
@@ -180,7 +180,7 @@ module _ (w : PlainSetting) (bs : Binds) where
   item_given : (go : List ℕ → List Cell → Result (Value × List Cell) Bare) (counts : ℕ → List ℕ → List ℕ) → GivesValue go → (ellipses : ℕ) → GivesValues (instances.item go counts ellipses)
   item_given go counts gives zero turns xs cells world b r =
       given_then w (ValueReady w) (ValuesReady w) cells (go turns cells) (λ v after. Ok (xs ++ v ∷ [], after)) (gives turns cells world b)
-      (λ v after g whole k. (grows_refl after, (whole, each_and (ValueReady w after) xs v (values_still w cells after g xs r) k)))
+      (λ v after g whole k. (grows_refl after, (whole, each-and (ValueReady w after) xs v (values_still w cells after g xs r) k)))
   item_given go counts gives (suc ellipses) turns xs cells world b r = by_count (item_given go counts gives ellipses) (agree None (counts ellipses turns))
     where
       by_count : GivesValues (instances.item go counts ellipses) → (c : Result (Option ℕ) Bare)

@@ -3,6 +3,8 @@ use Rattle.std.proofs.Common.{◌≡◌, ℕ, List, [], ◌∷◌, ◌++◌, Opt
 use Rattle.std.specs.Prelude.{IsTrue}
 use Rattle.std.specs.Map.{lookup}
 use Rattle.indexmap.specs.IndexMap.{insert_entry}
+use Rattle.base_data.proofs.ElementLemmas.{each-at, each-of}
+use Rattle.base_data.specs.Elements.{Each}
 use Rattle.base_data.specs.declared.name.Label.{Label}
 use Rattle.base_region.specs.declared.region.Place.{Place}
 use Rattle.base_region.proofs.Laws.{slice_get-added, slice_get-replaced}
@@ -10,7 +12,7 @@ use Rattle.core_language.specs.Labels.{same_label}
 use Rattle.core_language.specs.declared.record.Line.{Line}
 use Rattle.core_language.specs.declared.record.Line.TheVariants as line
 use Rattle.law_core.proofs.Decisions.{label_decides}
-use Rattle.eval_value.specs.Cells.{Each, VariableFits, is_found}
+use Rattle.eval_value.specs.Cells.{VariableFits, is_found}
 use Rattle.eval_value.specs.declared.value.Value.{Value}
 use Rattle.eval_value.specs.declared.cell.Cell.{Cell}
 use Rattle.eval_value.specs.declared.cell.Cell.TheVariants as cell
@@ -27,7 +29,7 @@ use Rattle.law_whole.specs.Grows.{has_value, WorldGrowth}
 use Rattle.law_whole.specs.PartsReady.{EndsWell}
 use Rattle.law_whole.specs.Ready.{Variables, PatternVariables, Besides, is_one_of, FoundFrom, BoundFrom}
 use Rattle.law_whole.specs.WholeWorld.{ValueReady, OptionReady, CellReady, WholeWorld}
-use Rattle.law_whole.proofs.Among.{each_of, each_at, one_of}
+use Rattle.law_whole.proofs.Among.{one_of}
 use Rattle.law_whole.proofs.Evaluations.{world_extended, with_codes_whole}
 use Rattle.law_whole.proofs.Growth.{grows_refl, grows_then, grows_assigned, variables_still, test_still, below_length}
 use Rattle.law_whole.proofs.Steady.{ready_map, from_still, bound_from_still, globals_later}
@@ -135,7 +137,7 @@ and_set w cells place l ls (faulted f s n) h k set = tt
 and_set w cells place l ls unfit h k set = tt
 
 all_there : (old new : List Cell) → WorldGrowth old new → (place : ℕ) (ls : List Label) → Each (λ l. IsThere old place l) ls → Each (λ l. IsThere new place l) ls
-all_there old new g place ls h = each_of (λ l. IsThere new place l) ls (λ l a. there_still old new g place l (each_at (λ m. IsThere old place m) ls l h a))
+all_there old new g place ls h = each-of (λ l. IsThere new place l) ls (λ l a. there_still old new g place l (each-at (λ m. IsThere old place m) ls l h a))
 
 lines_set : (w : PlainSetting) (ls : List Line) (scope : Place) (s : WorldState) (n : ℕ) → WholeWorld w s.cells → HasScope s.cells scope → ReadyThere w s.cells scope ls
     → Each (λ l. IsThere s.cells scope.0 l) (lines_labels ls) → SetIn scope.0 (lines_labels ls) (lines_from (eval_of w) ls scope s n)
@@ -263,7 +265,7 @@ left_by w cells place ls world set = by_cell (slice_get cells place) refl set
         let x : Extends w v = record { codes = λ number code k. k; globals = a.found } in
         record {
           whole = world_extended w v x cells world (globals_later w v x cells cells (grows_refl cells) v.globals a.ready);
-          defined = each_of (λ l. IsTrue (is_found (lookup (same_label l) v.globals))) ls (λ l k. cell_found l o w.globals (each_at (λ m. IsTrue (value_in m o)) ls l h k));
+          defined = each-of (λ l. IsTrue (is_found (lookup (same_label l) v.globals))) ls (λ l k. cell_found l o w.globals (each-at (λ m. IsTrue (value_in m o)) ls l h k));
           kept = x;
         }
 
@@ -313,7 +315,7 @@ lines_never_stuck w codes ls s n world stay ready =
     (scope_finds v s.cells (defined ls) None (lines_labels ls) (λ l h. defined_found l ls h)) (scope_binds v s.cells (defined ls) None) ls ready in
     library_ending v new (length s.cells) (lines_labels ls) (lines_from (eval_of v) ls inner (with_cell c s) n) (well_lines v ls inner (with_cell c s) n there has all)
     (lines_set v ls inner (with_cell c s) n there has all
-    (each_of (λ l. IsThere new (length s.cells) l) (lines_labels ls)
+    (each-of (λ l. IsThere new (length s.cells) l) (lines_labels ls)
     (λ l a. subst (λ o. IsTrue (entry_there l o)) (sym (slice_get-added s.cells c)) (defined_found l ls (one_of (lines_labels ls) l a)))))
 
 pub libraries_never_stuck : LibrariesNeverStuck

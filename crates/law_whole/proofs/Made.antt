@@ -1,10 +1,11 @@
 -- What is made of ready values keeps a whole world whole, and is ready.
 use Rattle.std.proofs.Common.{◌≡◌, ℕ, zero, suc, List, [], ◌∷◌, ◌++◌, Ok, Err, length, refl}
 use Rattle.base_data.specs.Datum.{PlainDatum, atom, symbol, pair, vector}
+use Rattle.base_data.specs.Elements.{Each}
 use Rattle.base_data.specs.Named.{Named}
 use Rattle.base_data.specs.declared.atom.Atom.{Atom}
 use Rattle.base_data.specs.declared.atom.Atom.TheVariants as a
-use Rattle.eval_value.specs.Cells.{vector_in, string_in, transformer_in, is_found, FitsIn, Each}
+use Rattle.eval_value.specs.Cells.{vector_in, string_in, transformer_in, is_found, FitsIn}
 use Rattle.eval_value.specs.FromDatum.{atom_stored, vector_stored, stored, elements_stored}
 use Rattle.eval_value.specs.declared.value.Value.{Value}
 use Rattle.eval_value.specs.declared.value.Value.TheVariants as value

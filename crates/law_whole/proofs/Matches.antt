@@ -1,5 +1,7 @@
 -- What a pattern takes of a ready value is bound to its depth, and ready.
 use Rattle.std.proofs.Common.{◌≡◌, ◌+◌, ◌-◌, ℕ, zero, suc, List, [], ◌∷◌, ◌++◌, Option, Some, None, Bool, true, false, length, take, drop, map, nat_le, refl, ap, sym, subst, ◌∙◌, append-nil, append_assoc, if◌then◌else◌}
+use Rattle.base_data.proofs.ElementLemmas.{each-append, each-and, each-taken, each-dropped}
+use Rattle.base_data.specs.Elements.{Each}
 use Rattle.base_data.specs.declared.name.Label.{Label}
 use Rattle.stx_tree.specs.Tree as tree
 use Rattle.stx_tree.specs.Tree.{Tree}
@@ -8,7 +10,6 @@ use Rattle.core_language.specs.Pattern.{PlainPattern, any, variable, literal, at
 use Rattle.law_core.specs.Templates.{Depths, depths, all_depths}
 use Rattle.core_shapes.specs.Lists.{elements}
 use Rattle.eval_value.specs.Bind.{PlainBind, one, turns}
-use Rattle.eval_value.specs.Cells.{Each}
 use Rattle.eval_value.specs.declared.value.Value.{Value}
 use Rattle.eval_value.specs.declared.value.Value.TheVariants as value
 use Rattle.eval_value.specs.declared.cell.Cell.{Cell}
@@ -20,7 +21,7 @@ use Rattle.eval_pattern.specs.declared.columns.Column.{Column}
 use Rattle.eval_pattern.specs.declared.columns.PatternBinds.{PatternBinds}
 use Rattle.eval_pattern.specs.declared.columns.Rows.{Rows}
 use Rattle.eval_pattern.specs.declared.front.Front.{Front}
-use Rattle.law_prims.proofs.Taken.{PairOr, ValuesOr, each_both, each_and, each_taken, each_dropped, pair_at_holds, vector_at_holds}
+use Rattle.law_prims.proofs.Taken.{PairOr, ValuesOr, pair_at_holds, vector_at_holds}
 use Rattle.eval_code.specs.Instances.{Binds, match_of}
 use Rattle.eval_code.specs.Setting.{PlainSetting}
 use Rattle.law_whole.specs.PartsReady.{Bound, MatchReady}
@@ -85,7 +86,7 @@ took_both w cells ds es x y z h k = record {
   new = h.new ++ k.new;
   is = sym (append_assoc x h.new k.new) ∙ ap (λ (bs : Binds). bs ++ k.new) h.is ∙ k.is;
   bound_to = bound_both ds es h.new k.new h.bound_to k.bound_to;
-  ready = each_both (λ (b : Label × PlainBind). BindReady w cells b.1) h.new k.new h.ready k.ready;
+  ready = each-append (λ (b : Label × PlainBind). BindReady w cells b.1) h.new k.new h.ready k.ready;
 }
 
 took_then : (w : PlainSetting) (cells : List Cell) (ds es : Depths) (old : Binds) (o : Option PatternBinds) (go : PatternBinds → Option PatternBinds) → TookOr w cells ds old o
@@ -147,7 +148,7 @@ grown_good w cells es (d ∷ ds) done (c ∷ cols) (x ∷ row) g h b r =
     subst (λ (fs : Depths). Columns w cells fs (grown (done ++ with_bind c x.1 ∷ []) cols row)) (append_assoc es (d ∷ []) ds)
     (grown_good w cells (es ++ d ∷ []) ds (done ++ with_bind c x.1 ∷ []) cols row
     (columns_both w cells es (d ∷ []) done (with_bind c x.1 ∷ []) g
-    (h.0, (each_and (HasDepth d.1) c.binds x.1 h.1.0 b.1.0, (each_and (BindReady w cells) c.binds x.1 h.1.1.0 r.0, tt))))
+    (h.0, (each-and (HasDepth d.1) c.binds x.1 h.1.0 b.1.0, (each-and (BindReady w cells) c.binds x.1 h.1.1.0 r.0, tt))))
     h.1.1.1 b.1.1 r.1)
 
 turns_have : (d : ℕ) (bs : List PlainBind) → Each (HasDepth d) bs → HaveDepth d (turns bs)
@@ -231,7 +232,7 @@ module _ (w : PlainSetting) (cells : List Cell) (world : WholeWorld w cells) whe
       by_pair : ((xs : List Value) (x : Value) → ValuesReady w cells xs → ValueReady w cells x → FrontReady w cells (store_front cells left room xs x)) → (o : Option (Value × Value)) → PairOr (ValueReady w cells) o
           → FrontReady w cells (on_pair o (fronted done v) (λ x rest. store_front cells left room (done ++ x ∷ []) rest))
       by_pair again None p = (r, k)
-      by_pair again (Some q) p = again (done ++ q.0 ∷ []) q.1 (each_and (ValueReady w cells) done q.0 r p.0) p.1
+      by_pair again (Some q) p = again (done ++ q.0 ∷ []) q.1 (each-and (ValueReady w cells) done q.0 r p.0) p.1
 
       by_room : (t : Bool) → ((xs : List Value) (x : Value) → ValuesReady w cells xs → ValueReady w cells x → FrontReady w cells (store_front cells left room xs x))
           → FrontReady w cells (if t then on_pair (stored_pair cells v) (fronted done v) (λ x rest. store_front cells left room (done ++ x ∷ []) rest) else fronted done v)
@@ -241,7 +242,7 @@ module _ (w : PlainSetting) (cells : List Cell) (world : WholeWorld w cells) whe
   tree_front_ready : (room : Option ℕ) (t : Tree) (done : List Value) → ValuesReady w cells done → FrontReady w cells (tree_front room done t)
   tree_front_ready room (tree.atom s x) done r = (r, record { fits = tt; ready = tt })
   tree_front_ready room (tree.leaf s x c) done r = (r, record { fits = tt; ready = tt })
-  tree_front_ready room (tree.pair s x d) done r = by_room (has_room room (length done)) (tree_front_ready room d (done ++ value.Syn x ∷ []) (each_and (ValueReady w cells) done (value.Syn x) r (record { fits = tt; ready = tt })))
+  tree_front_ready room (tree.pair s x d) done r = by_room (has_room room (length done)) (tree_front_ready room d (done ++ value.Syn x ∷ []) (each-and (ValueReady w cells) done (value.Syn x) r (record { fits = tt; ready = tt })))
     where
       by_room : (t : Bool) → FrontReady w cells (tree_front room (done ++ value.Syn x ∷ []) d)
           → FrontReady w cells (if t then tree_front room (done ++ value.Syn x ∷ []) d else fronted done (value.Syn (tree.pair s x d)))
@@ -295,8 +296,8 @@ module _ (w : PlainSetting) (cells : List Cell) (world : WholeWorld w cells) (fs
         took_then w cells (depths 0 p) (all_depths 0 ps) s.binds (matched fs cells p x s) (all_matched fs cells ps xs) (matched_took p x s r.0) (λ g. all_took ps xs g r.1)
     all_took (dots p ps) xs s r =
         let n = length xs - count ps in
-        let rows = repeated_good w cells (depths 0 p) (matched fs cells p) (λ v g k. matched_took p v g k) (take n xs) (no_rows p s.taken) (empty_good w cells 0 p [] [] tt) (each_taken (ValueReady w cells) n xs r) in
-        by_room (nat_le (count ps) (length xs)) (by_rows (repeated (matched fs cells p) (no_rows p s.taken) (take n xs)) rows (λ g. all_took ps (drop n xs) g (each_dropped (ValueReady w cells) n xs r)))
+        let rows = repeated_good w cells (depths 0 p) (matched fs cells p) (λ v g k. matched_took p v g k) (take n xs) (no_rows p s.taken) (empty_good w cells 0 p [] [] tt) (each-taken (ValueReady w cells) n xs r) in
+        by_room (nat_le (count ps) (length xs)) (by_rows (repeated (matched fs cells p) (no_rows p s.taken) (take n xs)) rows (λ g. all_took ps (drop n xs) g (each-dropped (ValueReady w cells) n xs r)))
       where
         by_rows : (o : Option Rows) → RowsOr w cells (depths 0 p) o → ((g : PatternBinds) → TookOr w cells (all_depths 0 ps) g.binds (all_matched fs cells ps (drop (length xs - count ps) xs) g))
             → TookOr w cells (depths 1 p ++ all_depths 0 ps) s.binds (and_then o (λ rows. all_matched fs cells ps (drop (length xs - count ps) xs) (with_rows s rows)))

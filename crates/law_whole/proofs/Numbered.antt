@@ -2,19 +2,19 @@
 use Rattle.std.proofs.Common.{◌≡◌, Bool, true, false, List, [], ◌∷◌, ◌++◌, Option, None, Some, cond, refl, ap, sym, ◌∙◌, inl}
 use Rattle.std.specs.List.{flat_map}
 use Rattle.indexmap.specs.IndexMap.{insert_entry}
+use Rattle.base_data.proofs.ElementLemmas.{each-at, among-first, among-second, once-second}
+use Rattle.base_data.specs.Elements.{Each, Among, Once}
 use Rattle.base_data.specs.declared.name.CodeNo.{CodeNo}
 use Rattle.core_language.specs.Core.{PlainCore, quoted, variable, primitive, one_armed, two_armed, assignment, sequence, procedure, letrec, call, instance, matching, PlainCode}
 use Rattle.core_language.specs.Core.{PlainCores, none, more, PlainInits, no_init, init, PlainCases, no_case, case, PlainClauses, no_clause, clause, fended}
 use Rattle.core_language.specs.declared.record.Line.{Line}
 use Rattle.core_language.specs.declared.record.Line.TheVariants as line
-use Rattle.law_core.specs.Words.{Each, Among, Once}
 use Rattle.law_core.specs.Parts.{parts, all_parts, init_parts, case_parts, clause_parts, own_number}
 use Rattle.law_core.specs.Records.{line_core}
 use Rattle.law_core.proofs.Decisions.{code_decides}
 use Rattle.eval_code.specs.Codes.{Codes, same_code, code_at, with_code, procedure_code, with_codes, with_all, with_inits, with_cases, with_clauses}
 use Rattle.eval_code.specs.Lines.{with_lines}
 use Rattle.law_whole.specs.Extends.{Stay}
-use Rattle.law_whole.proofs.Among.{among_first, among_second, once_second, each_at}
 
 -- the code of this expression alone is added
 abbrev own_added : PlainCore → Codes → Codes
@@ -114,8 +114,8 @@ own_passed _ number codes h = refl
 pub all_passed : (es : List PlainCore) (number : CodeNo) (codes : Codes) → (Among (flat_map own_number es) number → ⊥) → code_at (added es codes) number ≡ code_at codes number
 all_passed [] number codes h = refl
 all_passed (e ∷ es) number codes h =
-    all_passed es number (own_added e codes) (λ a. h (among_second (own_number e) (flat_map own_number es) number a))
-    ∙ own_passed e number codes (λ a. h (among_first (own_number e) (flat_map own_number es) number a))
+    all_passed es number (own_added e codes) (λ a. h (among-second (own_number e) (flat_map own_number es) number a))
+    ∙ own_passed e number codes (λ a. h (among-first (own_number e) (flat_map own_number es) number a))
 
 -- the code of an expression stands at its number
 abbrev pub CodeStands : Codes → PlainCore → Type 0
@@ -129,13 +129,13 @@ own_stands _ es codes h = tt
 
 pub all_stand : (es : List PlainCore) (codes : Codes) → Once (flat_map own_number es) → Each (CodeStands (added es codes)) es
 all_stand [] codes h = tt
-all_stand (e ∷ es) codes h = (own_stands e es codes h, all_stand es (own_added e codes) (once_second (own_number e) (flat_map own_number es) h))
+all_stand (e ∷ es) codes h = (own_stands e es codes h, all_stand es (own_added e codes) (once-second (own_number e) (flat_map own_number es) h))
 
 -- New numbers leave all codes at theirs.
 
 pub all_stay : (es : List PlainCore) (codes : Codes) → Each (λ n. code_at codes n ≡ None) (flat_map own_number es) → Stay codes (added es codes)
 all_stay es codes new number code e =
-    all_passed es number codes (λ a. no_code code (sym (each_at (λ n. code_at codes n ≡ None) (flat_map own_number es) number new a) ∙ e)) ∙ e
+    all_passed es number codes (λ a. no_code code (sym (each-at (λ n. code_at codes n ≡ None) (flat_map own_number es) number new a) ∙ e)) ∙ e
   where
     no_code : (code : PlainCode) → None ≡ Some code → ⊥
     no_code code e = cc

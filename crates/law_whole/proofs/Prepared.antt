@@ -2,6 +2,8 @@
 use Rattle.std.proofs.Common.{◌≡◌, ◌≤◌, ℕ, suc, Bool, true, false, List, [], ◌∷◌, ◌++◌, ◌+◌, Some, cond, refl, ap, sym, subst, ◌∙◌, arith, inl, inr}
 use Rattle.std.specs.Prelude.{◌⊎◌}
 use Rattle.std.specs.Map.{lookup}
+use Rattle.base_data.proofs.ElementLemmas.{each-at, each-of, each-first, each-last, among-first, among-second, among-parts, once-first, once-second}
+use Rattle.base_data.specs.Elements.{Each, Among, Once}
 use Rattle.base_data.specs.declared.name.Label.{Label}
 use Rattle.core_language.specs.Core.{PlainCore, quoted, variable, primitive, one_armed, two_armed, assignment, sequence, procedure, letrec, call, instance, matching}
 use Rattle.core_language.specs.Core.{PlainCores, none, more, PlainInits, no_init, init, PlainCases, no_case, case, PlainClauses, no_clause, clause, fended}
@@ -12,7 +14,6 @@ use Rattle.core_language.specs.References.{variables, all_variables, formals_lab
 use Rattle.core_language.specs.References.{mentions, all_mentions, init_mentions, case_mentions, clause_mentions}
 use Rattle.core_language.specs.Template as template
 use Rattle.core_language.specs.Template.{PlainTemplate, PlainItems}
-use Rattle.law_core.specs.Words.{Each, Among, Once}
 use Rattle.law_core.specs.Parts.{parts, all_parts, init_parts, case_parts, clause_parts, core_count, init_labels, clause_patterns, own_patterns}
 use Rattle.law_core.specs.Scope.{Closed, AllClosed, InitsClosed, CasesClosed, ClausesClosed}
 use Rattle.law_core.specs.Templates.{Depths, depths, all_depths, Suits, ItemsSuit, TemplatesSuit, AllSuit, InitsSuit, CasesSuit, ClausesSuit}
@@ -20,7 +21,7 @@ use Rattle.law_core.specs.WellMade.{HasForm, given_labels}
 use Rattle.law_core.proofs.Decisions.{label_decides}
 use Rattle.eval_code.specs.Setting.{PlainSetting}
 use Rattle.law_whole.specs.Ready.{Variables, PatternVariables, Besides, OrThisDepth, BesidesPattern, FindsAll, FindsItems, Ready, SequenceReady, AllReady, InitsReady, CasesReady, ClausesReady}
-use Rattle.law_whole.proofs.Among.{no_truth, one_of, among_first, among_second, among_parts, each_of, each_at, each_first, each_second, once_first, once_second, once_apart}
+use Rattle.law_whole.proofs.Among.{no_truth, one_of, once_apart}
 use Rattle.law_whole.proofs.Numbered.{CodeStands}
 
 -- The labels of pattern variables with their depths.
@@ -58,11 +59,11 @@ abbrev pub Finds : List Label → Variables → List Label → Type 0
 Finds qs F ls = (l : Label) → Among ls l → (Among qs l → ⊥) → F l
 
 finds_besides : (qs : List Label) (F : Variables) (ms ls : List Label) → Finds qs F ls → Finds qs (Besides ms F) (ms ++ ls)
-finds_besides qs F ms ls f l a q = elim (among_parts ms ls l a) [ inl b ↦ inl (one_of ms l b) | inr b ↦ inr (f l b q) ]
+finds_besides qs F ms ls f l a q = elim (among-parts ms ls l a) [ inl b ↦ inl (one_of ms l b) | inr b ↦ inr (f l b q) ]
 
 -- those of a pattern are none that a variable may be
 finds_pattern : (qs : List Label) (F : Variables) (ms ls : List Label) → Each (Among qs) ms → Finds qs F ls → Finds qs F (ms ++ ls)
-finds_pattern qs F ms ls h f l a q = elim (among_parts ms ls l a) [ inl b ↦ absurd (q (each_at (Among qs) ms l h b)) | inr b ↦ f l b q ]
+finds_pattern qs F ms ls h f l a q = elim (among-parts ms ls l a) [ inl b ↦ absurd (q (each-at (Among qs) ms l h b)) | inr b ↦ f l b q ]
 
 abbrev pub Binds : PatternVariables → Depths → Type 0
 Binds G vs = (l : Label) (d : ℕ) → Among vs (l, d) → G l d
@@ -73,7 +74,7 @@ binds_pattern G [] vs b once apart l d a = b l d a
 binds_pattern G (e ∷ ds) vs b once apart l d a = by_own (same_label l e.0) refl (binds_pattern G ds vs b once.1 apart.1 l d) a
   where
     rest : Among (ds ++ vs) (l, d) → Among (given_labels ds) l ⊎ Among (given_labels vs) l
-    rest h = elim (among_parts ds vs (l, d) h) [ inl k ↦ inl (label_among ds l d k) | inr k ↦ inr (label_among vs l d k) ]
+    rest h = elim (among-parts ds vs (l, d) h) [ inl k ↦ inl (label_among ds l d k) | inr k ↦ inr (label_among vs l d k) ]
 
     not_again : l ≡ e.0 → Among (given_labels ds) l ⊎ Among (given_labels vs) l → ⊥
     not_again h (inl k) = once.0 (subst (Among (given_labels ds)) h k)
@@ -113,18 +114,18 @@ module _ (v : PlainSetting) (qs : List Label) where
 
   first : (outer : List Label) (ps : List PlainCore) (ms bs : List Label) (ps' : List PlainCore) (ms' bs' : List Label) → Sound outer (ps ++ ps') (ms ++ ms') (bs ++ bs') → Sound outer ps ms bs
   first outer ps ms bs ps' ms' bs' s = record {
-    parts = each_first PartSound ps ps' s.parts;
-    unmentioned = each_first (λ l. Among qs l → ⊥) ms ms' s.unmentioned;
-    once = once_first bs bs' s.once;
-    apart = each_first (λ l. Among outer l → ⊥) bs bs' s.apart;
+    parts = each-first PartSound ps ps' s.parts;
+    unmentioned = each-first (λ l. Among qs l → ⊥) ms ms' s.unmentioned;
+    once = once-first bs bs' s.once;
+    apart = each-first (λ l. Among outer l → ⊥) bs bs' s.apart;
   }
 
   second : (outer : List Label) (ps : List PlainCore) (ms bs : List Label) (ps' : List PlainCore) (ms' bs' : List Label) → Sound outer (ps ++ ps') (ms ++ ms') (bs ++ bs') → Sound outer ps' ms' bs'
   second outer ps ms bs ps' ms' bs' s = record {
-    parts = each_second PartSound ps ps' s.parts;
-    unmentioned = each_second (λ l. Among qs l → ⊥) ms ms' s.unmentioned;
-    once = once_second bs bs' s.once;
-    apart = each_second (λ l. Among outer l → ⊥) bs bs' s.apart;
+    parts = each-last PartSound ps ps' s.parts;
+    unmentioned = each-last (λ l. Among qs l → ⊥) ms ms' s.unmentioned;
+    once = once-second bs bs' s.once;
+    apart = each-last (λ l. Among outer l → ⊥) bs bs' s.apart;
   }
 
   inner : (outer : List Label) (e : PlainCore) (ps : List PlainCore) (ms bs : List Label) → Sound outer (e ∷ ps) ms bs → Sound outer ps ms bs
@@ -136,8 +137,8 @@ module _ (v : PlainSetting) (qs : List Label) where
     parts = s.parts;
     unmentioned = s.unmentioned;
     once = s.once;
-    apart = each_of (λ l. Among (round ++ outer) l → ⊥) bs
-        (λ l a b. elim (among_parts round outer l b) [ inl k ↦ h l a k | inr k ↦ each_at (λ m. Among outer m → ⊥) bs l s.apart a k ]);
+    apart = each-of (λ l. Among (round ++ outer) l → ⊥) bs
+        (λ l a b. elim (among-parts round outer l b) [ inl k ↦ h l a k | inr k ↦ each-at (λ m. Among outer m → ⊥) bs l s.apart a k ]);
   }
 
   -- in a clause, with the labels of its pattern
@@ -149,8 +150,8 @@ module _ (v : PlainSetting) (qs : List Label) where
   clause_binds : (G : PatternVariables) (p : PlainPattern) (vs : Depths) (bs : List Label) → Binds G vs → Once (variables p ++ bs) → Each (λ l. Among (given_labels vs) l → ⊥) (variables p ++ bs)
       → Binds (BesidesPattern (depths 0 p) G) (depths 0 p ++ vs)
   clause_binds G p vs bs b once apart =
-      binds_pattern G (depths 0 p) vs b (subst Once (sym (pattern_labels 0 p)) (once_first (variables p) bs once))
-      (subst (Each (λ l. Among (given_labels vs) l → ⊥)) (sym (pattern_labels 0 p)) (each_first (λ l. Among (given_labels vs) l → ⊥) (variables p) bs apart))
+      binds_pattern G (depths 0 p) vs b (subst Once (sym (pattern_labels 0 p)) (once-first (variables p) bs once))
+      (subst (Each (λ l. Among (given_labels vs) l → ⊥)) (sym (pattern_labels 0 p)) (each-first (λ l. Among (given_labels vs) l → ⊥) (variables p) bs apart))
 
   mutual
     pub made_ready : (F : Variables) (G : PatternVariables) (ls : List Label) (vs : Depths) → Finds qs F ls → Binds G vs → (c : PlainCore) → Closed ls c → TemplatesSuit vs c
@@ -249,7 +250,7 @@ module _ (v : PlainSetting) (qs : List Label) where
         let both = second outer [] [] (variables p) (parts c ++ clause_parts cs) (mentions c ++ clause_mentions cs) bs s in
         let here = first outer (parts c) (mentions c) (binders c) (clause_parts cs) (clause_mentions cs) (clause_binders cs) both in (
           made_ready F (BesidesPattern (depths 0 p) G) (variables p ++ ls) (depths 0 p ++ vs) (finds_pattern qs F (variables p) ls q.0 f) (clause_binds G p vs bs b s.once s.apart) c h.0 t.0
-              (in_clause p vs (parts c) (mentions c) (binders c) (λ l a k. once_apart (variables p) bs l s.once k (among_first (binders c) (clause_binders cs) l a)) here),
+              (in_clause p vs (parts c) (mentions c) (binders c) (λ l a k. once_apart (variables p) bs l s.once k (among-first (binders c) (clause_binders cs) l a)) here),
           clauses_made F G ls vs f b cs q.1 h.1 t.1 (second outer (parts c) (mentions c) (binders c) (clause_parts cs) (clause_mentions cs) (clause_binders cs) both),
         )
     clauses_made F G ls vs f b (fended p d c cs) q h t s =
@@ -263,11 +264,11 @@ module _ (v : PlainSetting) (qs : List Label) where
         let finds = finds_pattern qs F (variables p) ls q.0 f in
         let binds = clause_binds G p vs bs b s.once s.apart in (
           made_ready F (BesidesPattern (depths 0 p) G) (variables p ++ ls) (depths 0 p ++ vs) finds binds d h.0 t.0
-              (in_clause p vs (parts d) (mentions d) (binders d) (λ l a k. once_apart (variables p) bs l s.once k (among_first (binders d) rest l a)) fender),
+              (in_clause p vs (parts d) (mentions d) (binders d) (λ l a k. once_apart (variables p) bs l s.once k (among-first (binders d) rest l a)) fender),
           (
             made_ready F (BesidesPattern (depths 0 p) G) (variables p ++ ls) (depths 0 p ++ vs) finds binds c h.1.0 t.1.0
                 (in_clause p vs (parts c) (mentions c) (binders c)
-                (λ l a k. once_apart (variables p) bs l s.once k (among_second (binders d) rest l (among_first (binders c) (clause_binders cs) l a))) output),
+                (λ l a k. once_apart (variables p) bs l s.once k (among-second (binders d) rest l (among-first (binders c) (clause_binders cs) l a))) output),
             clauses_made F G ls vs f b cs q.1 h.1.1 t.1.1 (second outer (parts c) (mentions c) (binders c) (clause_parts cs) (clause_mentions cs) (clause_binders cs) both),
           ),
         )

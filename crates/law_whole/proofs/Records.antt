@@ -4,12 +4,13 @@ use Rattle.std.specs.Prelude.{IsTrue}
 use Rattle.std.specs.List.{flat_map}
 use Rattle.std.specs.Map.{lookup}
 use Rattle.std.proofs.lemmas.Grind.{flat_map-append}
+use Rattle.base_data.proofs.ElementLemmas.{each-at, each-of, each-first, each-last, among-first, among-parts, among-flat}
+use Rattle.base_data.specs.Elements.{Each, Among, Once}
 use Rattle.base_data.specs.declared.name.Label.{Label}
 use Rattle.core_language.specs.Core.{PlainCore}
 use Rattle.core_language.specs.Labels.{same_label}
 use Rattle.core_language.specs.References.{variables, binders, mentions}
 use Rattle.core_language.specs.declared.record.Line.{Line}
-use Rattle.law_core.specs.Words.{Each, Among, Once}
 use Rattle.law_core.specs.Parts.{parts, own_number, own_patterns, code_numbers, patterns, pattern_variables}
 use Rattle.law_core.specs.Scope.{Closed}
 use Rattle.law_core.specs.WellMade.{HasForm, IsWellMade}
@@ -23,7 +24,7 @@ use Rattle.law_whole.specs.Evaluated.{codes_of, setting_for, setting_for_lines, 
 use Rattle.law_whole.specs.Extends.{Stay}
 use Rattle.law_whole.specs.MadeReady.{AreNew, AreGlobals, WellMadeNeverStuck, RecordsNeverStuck}
 use Rattle.law_whole.specs.Ready.{Variables, PatternVariables, Besides, Ready, FoundFrom, BoundFrom}
-use Rattle.law_whole.proofs.Among.{one_of, among_first, among_parts, among_flat, each_of, each_at, each_first, each_second}
+use Rattle.law_whole.proofs.Among.{one_of}
 use Rattle.law_whole.proofs.Evaluations.{evals_never_stuck}
 use Rattle.law_whole.proofs.Lines.{libraries_never_stuck}
 use Rattle.law_whole.proofs.Numbered.{CodeStands, lines_parts, codes_added, lines_added, all_stand, all_stay}
@@ -35,17 +36,17 @@ own_variables c = pattern_variables c ++ []
 
 well_made_sound : (v : PlainSetting) (c : PlainCore) → IsWellMade [] c → Each (CodeStands v.codes) (parts c) → Sound v (own_variables c) [] (parts c) (mentions c) (binders c)
 well_made_sound v c m stand = record {
-  parts = each_of (PartSound v (own_variables c)) (parts c) (λ e a. (
-    each_at HasForm (parts c) e m.forms a,
+  parts = each-of (PartSound v (own_variables c)) (parts c) (λ e a. (
+    each-at HasForm (parts c) e m.forms a,
     (
-      each_at (CodeStands v.codes) (parts c) e stand a,
-      each_of (λ p. Each (Among (own_variables c)) (variables p)) (own_patterns e) (λ p b.
-          each_of (Among (own_variables c)) (variables p) (λ l k. among_first (pattern_variables c) [] l (among_flat variables (patterns c) p l (among_flat own_patterns (parts c) e p a b) k))),
+      each-at (CodeStands v.codes) (parts c) e stand a,
+      each-of (λ p. Each (Among (own_variables c)) (variables p)) (own_patterns e) (λ p b.
+          each-of (Among (own_variables c)) (variables p) (λ l k. among-first (pattern_variables c) [] l (among-flat variables (patterns c) p l (among-flat own_patterns (parts c) e p a b) k))),
     ),
   ));
   unmentioned = m.unmentioned;
   once = m.bound_once;
-  apart = each_of (λ l. Among [] l → ⊥) (binders c) (λ l a b. absurd b);
+  apart = each-of (λ l. Among [] l → ⊥) (binders c) (λ l a b. absurd b);
 }
 
 -- where it finds what it is closed under, and its codes stand at their numbers
@@ -61,7 +62,7 @@ found_global (Some v) h = refl
 globals_found : (w : World) (v : PlainSetting) (cells : List Cell) (ls : List Label) → v.globals ≡ w.globals.entries → AreGlobals w ls → (l : Label) → Among ls l → FoundFrom v cells None l
 globals_found w v cells ls e h l a =
     found_global (lookup (same_label l) v.globals)
-    (subst (λ gs. IsTrue (is_found (lookup (same_label l) gs))) (sym e) (each_at (λ m. IsTrue (is_found (lookup (same_label m) w.globals.entries))) ls l h a))
+    (subst (λ gs. IsTrue (is_found (lookup (same_label l) gs))) (sym e) (each-at (λ m. IsTrue (is_found (lookup (same_label m) w.globals.entries))) ls l h a))
 
 pub well_made_never_stuck : WellMadeNeverStuck
 well_made_never_stuck w ls c n world globals closed m new =
@@ -83,8 +84,8 @@ lines_ready : (v : PlainSetting) (F : Variables) (G : PatternVariables) (ms : Li
     → Each (IsWellMade []) (map line_core ls) → Each (CodeStands v.codes) (lines_parts ls) → LinesReady v F G ls
 lines_ready v F G ms [] f closed made stand = tt
 lines_ready v F G ms (l ∷ ls) f closed made stand = (
-  well_made_ready v F G ms (line_core l) f closed.0 made.0 (each_first (CodeStands v.codes) (parts (line_core l)) (lines_parts ls) stand),
-  lines_ready v F G ms ls f closed.1 made.1 (each_second (CodeStands v.codes) (parts (line_core l)) (lines_parts ls) stand),
+  well_made_ready v F G ms (line_core l) f closed.0 made.0 (each-first (CodeStands v.codes) (parts (line_core l)) (lines_parts ls) stand),
+  lines_ready v F G ms ls f closed.1 made.1 (each-last (CodeStands v.codes) (parts (line_core l)) (lines_parts ls) stand),
 )
 
 pub records_never_stuck : RecordsNeverStuck
@@ -97,5 +98,5 @@ records_never_stuck w ls r n world globals closed made once new =
     libraries_never_stuck w r.run n world
     (subst (Stay old) (sym all) (all_stay (lines_parts r.run) old (subst (λ ns. AreNew old ns) (sym numbers) new)))
     (lines_ready v (Besides (lines_labels r.run) (FoundFrom v cells None)) (BoundFrom cells None) (ls ++ defined r) r.run
-    (λ l a. elim (among_parts ls (defined r) l a) [ inl b ↦ inr (globals_found w v cells ls refl globals l b) | inr b ↦ inl (one_of (defined r) l b) ]) closed made
+    (λ l a. elim (among-parts ls (defined r) l a) [ inl b ↦ inr (globals_found w v cells ls refl globals l b) | inr b ↦ inl (one_of (defined r) l b) ]) closed made
     (subst (λ cs. Each (CodeStands cs) (lines_parts r.run)) (sym all) (all_stand (lines_parts r.run) old (subst Once (sym numbers) once))))

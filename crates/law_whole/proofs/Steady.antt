@@ -1,6 +1,8 @@
 -- What was ready is ready still, where cells have come and variables have got values.
 use Rattle.std.proofs.Common.{◌≡◌, refl, sym, subst, ℕ, suc, List, [], ◌∷◌, Option, Some, None, length, arith, inl, inr}
 use Rattle.std.specs.Map.{lookup}
+use Rattle.base_data.proofs.ElementLemmas.{each-implied}
+use Rattle.base_data.specs.Elements.{Each}
 use Rattle.base_data.specs.declared.name.CodeNo.{CodeNo}
 use Rattle.base_data.specs.declared.name.Label.{Label}
 use Rattle.base_region.specs.declared.region.Place.{Place}
@@ -13,12 +15,11 @@ use Rattle.core_language.specs.Template.{PlainTemplate, PlainItems}
 use Rattle.law_core.specs.Parts.{init_labels}
 use Rattle.law_core.specs.Templates.{Depths, depths}
 use Rattle.eval_value.specs.Bind.{PlainBind, one, many, PlainBinds, none, more}
-use Rattle.eval_value.specs.Cells.{Each, Lies, BindLies, BindsLie, VariableFits, ParentLies, CellLies}
+use Rattle.eval_value.specs.Cells.{Lies, BindLies, BindsLie, VariableFits, ParentLies, CellLies}
 use Rattle.eval_value.specs.declared.value.Value.{Value}
 use Rattle.eval_value.specs.declared.value.Value.TheVariants as value
 use Rattle.eval_value.specs.declared.cell.Cell.{Cell}
 use Rattle.eval_value.specs.declared.cell.Cell.TheVariants as cell
-use Rattle.law_prims.proofs.Taken.{each_mapped}
 use Rattle.eval_code.specs.Codes.{code_at, procedure_code}
 use Rattle.eval_code.specs.Procedures.{first_body, text_body}
 use Rattle.eval_code.specs.Setting.{PlainSetting}
@@ -141,7 +142,7 @@ module _ (w v : PlainSetting) (x : Extends w v) (old new : List Cell) (g : World
   value_later y r = record { fits = fits_still old new g y r.fits; ready = procedure_later y r.ready }
 
   pub values_later : (ys : List Value) → ValuesReady w old ys → ValuesReady v new ys
-  values_later ys r = each_mapped (ValueReady w old) (ValueReady v new) value_later ys r
+  values_later ys r = each-implied (ValueReady w old) (ValueReady v new) value_later ys r
 
   option_later : (o : Option Value) → OptionReady w old o → OptionReady v new o
   option_later None r = tt
@@ -157,19 +158,19 @@ module _ (w v : PlainSetting) (x : Extends w v) (old new : List Cell) (g : World
     turns_later (more b bs) r = (bind_later b r.0, turns_later bs r.1)
 
   pub binds_later : (bs : List (Label × PlainBind)) → Each (λ (b : Label × PlainBind). BindReady w old b.1) bs → Each (λ (b : Label × PlainBind). BindReady v new b.1) bs
-  binds_later bs r = each_mapped (λ (b : Label × PlainBind). BindReady w old b.1) (λ (b : Label × PlainBind). BindReady v new b.1) (λ b k. bind_later b.1 k) bs r
+  binds_later bs r = each-implied (λ (b : Label × PlainBind). BindReady w old b.1) (λ (b : Label × PlainBind). BindReady v new b.1) (λ b k. bind_later b.1 k) bs r
 
   pub cell_later : (c : Cell) → CellReady w old c → CellReady v new c
   cell_later (cell.Pair y z) r = (value_later y r.0, value_later z r.1)
   cell_later (cell.Vector ys) r = values_later ys r
   cell_later (cell.Str text) r = tt
   cell_later (cell.Scope es parent) r =
-      each_mapped (λ (e : Label × Option Value). OptionReady w old e.1) (λ (e : Label × Option Value). OptionReady v new e.1) (λ e k. option_later e.1 k) es r
+      each-implied (λ (e : Label × Option Value). OptionReady w old e.1) (λ (e : Label × Option Value). OptionReady v new e.1) (λ e k. option_later e.1 k) es r
   cell_later (cell.Binds bs parent) r = binds_later bs r
   cell_later (cell.Transformer y) r = value_later y r
 
   pub globals_later : (gs : List (Label × Value)) → Each (λ (e : Label × Value). ValueReady w old e.1) gs → Each (λ (e : Label × Value). ValueReady v new e.1) gs
-  globals_later gs r = each_mapped (λ (e : Label × Value). ValueReady w old e.1) (λ (e : Label × Value). ValueReady v new e.1) (λ e k. value_later e.1 k) gs r
+  globals_later gs r = each-implied (λ (e : Label × Value). ValueReady w old e.1) (λ (e : Label × Value). ValueReady v new e.1) (λ e k. value_later e.1 k) gs r
 
   pub text_later : (number : CodeNo) (o : Option PlainCode) → code_at w.codes number ≡ o → TextReady w old (text_body o) → TextReady v new (text_body (code_at v.codes number))
   text_later number None e r = absurd r

@@ -2,6 +2,8 @@
 use Rattle.std.proofs.Common.{◌≡◌, ◌<◌, ◌+◌, ℕ, zero, suc, List, [], ◌∷◌, ◌++◌, Option, Some, None, Bool, true, false, cond, length, refl, sym, subst, if◌then◌else◌, arith, slice_get, option_map}
 use Rattle.std.specs.Prelude.{IsTrue, nat_eq}
 use Rattle.std.specs.Map.{lookup}
+use Rattle.base_data.proofs.ElementLemmas.{each-append, each-and}
+use Rattle.base_data.specs.Elements.{Each}
 use Rattle.base_data.specs.declared.name.CodeNo.{CodeNo}
 use Rattle.base_data.specs.declared.name.Label.{Label}
 use Rattle.base_data.specs.declared.op.Op.{Op}
@@ -16,14 +18,14 @@ use Rattle.core_language.specs.References.{formals_labels}
 use Rattle.core_language.specs.declared.formals.Formals.{Formals}
 use Rattle.law_core.specs.Parts.{init_labels}
 use Rattle.law_core.specs.Templates.{depths}
-use Rattle.eval_value.specs.Cells.{is_found, Each}
+use Rattle.eval_value.specs.Cells.{is_found}
 use Rattle.eval_value.specs.declared.value.Value.{Value}
 use Rattle.eval_value.specs.declared.value.Value.TheVariants as value
 use Rattle.eval_value.specs.declared.cell.Cell.{Cell}
 use Rattle.eval_value.specs.declared.cell.Cell.TheVariants as cell
 use Rattle.eval_pattern.specs.declared.columns.PatternBinds.{PatternBinds}
 use Rattle.eval_prims.specs.Chains.{list_elements}
-use Rattle.law_prims.proofs.Taken.{ValueOr, ValuesOr, each_and, each_both, elements_hold}
+use Rattle.law_prims.proofs.Taken.{ValueOr, ValuesOr, elements_hold}
 use Rattle.eval_code.specs.Codes.{code_at}
 use Rattle.eval_code.specs.Instances.{match_of}
 use Rattle.eval_code.specs.Procedures.{first_case, bindings, has_text, text_number, text_body, truth_of}
@@ -159,7 +161,7 @@ module _ (w : PlainSetting) (s : WorldState) (world : WholeWorld w s.cells) (tur
   well_elements x xs n less r None k = (grows_refl s.cells, world)
   well_elements x xs n less r (Some ys) k =
       well_charged w (length ys) s n (again ((x ∷ xs) ++ ys)) world
-      (λ m e. well x (xs ++ ys) m (omega (arith, less, e, length_both xs ys)) (each_both (ValueReady w s.cells) (x ∷ xs) ys r k))
+      (λ m e. well x (xs ++ ys) m (omega (arith, less, e, length_both xs ys)) (each-append (ValueReady w s.cells) (x ∷ xs) ys r k))
 
   well_front : (front : List Value) (last : Value) (n : ℕ) → n + length front < turns → ValuesReady w s.cells front → EndsWell w s.cells (with_front front last s again n)
   well_front [] last n less r = (grows_refl s.cells, world)
@@ -298,7 +300,7 @@ module _ (w : PlainSetting) (E : Evaluator) (ns : NeverStuckBy w E) (texts : Tex
   well_operands (more c cs) scope f vs s n world has ready r =
       well_then w s.cells (E c scope s n) (λ v. operands w E cs scope ((f ∷ vs) ++ v ∷ [])) (ns c scope s n world has ready.0)
       (λ v t m g whole k. well_operands cs scope f (vs ++ v ∷ []) t m whole (variables_still s.cells t.cells g scope.0 has) (all_still w s.cells t.cells g (Some scope) cs ready.1)
-      (each_and (ValueReady w t.cells) (f ∷ vs) v (values_still w s.cells t.cells g (f ∷ vs) r) k))
+      (each-and (ValueReady w t.cells) (f ∷ vs) v (values_still w s.cells t.cells g (f ∷ vs) r) k))
 
   well_sequence : (c : PlainCore) (cs : PlainCores) (scope : Place) (s : WorldState) (n : ℕ) → WholeWorld w s.cells → HasScope s.cells scope → ReadyIn w s.cells (Some scope) c
       → AllReadyIn w s.cells (Some scope) cs → EndsWell w s.cells (in_sequence w E (more c cs) scope s n)
@@ -336,7 +338,7 @@ module _ (w : PlainSetting) (E : Evaluator) (ns : NeverStuckBy w E) (texts : Tex
   well_at_once (init l c is) all body scope vs s n world has ready last r =
       well_then w s.cells (E c scope s n) (λ v. at_once w E is all body scope (vs ++ v ∷ [])) (ns c scope s n world has ready.0)
       (λ v t m g whole k. well_at_once is all body scope (vs ++ v ∷ []) t m whole (variables_still s.cells t.cells g scope.0 has) (inits_still w s.cells t.cells g (Some scope) is ready.1)
-      (ready_still w s.cells t.cells g (Some scope) body last) (each_and (ValueReady w t.cells) vs v (values_still w s.cells t.cells g vs r) k))
+      (ready_still w s.cells t.cells g (Some scope) body last) (each-and (ValueReady w t.cells) vs v (values_still w s.cells t.cells g vs r) k))
 
   well_by : (in_order : Bool) (is : PlainInits) (body : PlainCore) (scope : Place) (s : WorldState) (n : ℕ) → WholeWorld w s.cells → HasScope s.cells scope → InitsReadyIn w s.cells (Some scope) is
       → ReadyIn w s.cells (Some scope) body → EndsWell w s.cells (by_letrec w E in_order is body scope s n)

@@ -5,6 +5,8 @@ use Rattle.std.specs.Prelude.{◌⊎◌, IsTrue, nat_eq, nat_le}
 use Rattle.std.specs.Map.{lookup}
 use Rattle.std.proofs.lemmas.Bool.Decides.{nat_tests}
 use Rattle.std.proofs.lemmas.List.{append-nil}
+use Rattle.base_data.proofs.ElementLemmas.{each-and, each-dropped}
+use Rattle.base_data.specs.Elements.{Each}
 use Rattle.base_data.specs.declared.atom.Atom.TheVariants as a
 use Rattle.base_data.specs.declared.name.Label.{Label}
 use Rattle.base_region.specs.declared.region.Place.{Place}
@@ -17,14 +19,13 @@ use Rattle.core_language.specs.declared.formals.Formals.{Formals}
 use Rattle.law_core.specs.Parts.{init_labels}
 use Rattle.law_core.specs.Templates.{Depths}
 use Rattle.eval_value.specs.Bind.{PlainBind, one, many, PlainBinds, none, more}
-use Rattle.eval_value.specs.Cells.{pair_in, has_variables, is_found, FitsIn, Each, BindLies, BindsLie, VariableFits, CellLies}
+use Rattle.eval_value.specs.Cells.{pair_in, has_variables, is_found, FitsIn, BindLies, BindsLie, VariableFits, CellLies}
 use Rattle.eval_value.specs.FromDatum.{pairs_stored}
 use Rattle.eval_value.specs.declared.value.Value.{Value}
 use Rattle.eval_value.specs.declared.value.Value.TheVariants as value
 use Rattle.eval_value.specs.declared.cell.Cell.{Cell}
 use Rattle.eval_value.specs.declared.cell.Cell.TheVariants as cell
 use Rattle.eval_value.proofs.Wholes.{lies_here, whole_added, added_found}
-use Rattle.law_prims.proofs.Taken.{each_and, each_dropped}
 use Rattle.eval_code.specs.Procedures.{takes, takes_so_many, first_case, bound, bindings, text_number}
 use Rattle.eval_code.specs.Setting.{PlainSetting}
 use Rattle.eval_code.specs.Variables.{Entries, entry_in, bind_in, parent_in, upwards, here_or_up, found, bind_found, unset, set_entry, cell_with, assigned_in, assigned, all_assigned}
@@ -238,11 +239,11 @@ pub bindings_good : (w : PlainSetting) (o : Option Label) (ls : List Label) (vs 
 bindings_good w None ls vs cells world r = record { grows = grows_refl cells; world = world; ready = bound_ready w cells ls vs r }
 bindings_good w (Some l) ls vs cells world r =
     let p = pairs_stored (drop (length ls) vs) (value.Atom a.Nil, cells) in
-    let rest = pairs_good w (drop (length ls) vs) (value.Atom a.Nil) cells world (each_dropped (ValueReady w cells) (length ls) vs r) (record { fits = tt; ready = tt }) in
+    let rest = pairs_good w (drop (length ls) vs) (value.Atom a.Nil) cells world (each-dropped (ValueReady w cells) (length ls) vs r) (record { fits = tt; ready = tt }) in
     record {
       grows = rest.grows;
       world = rest.world;
-      ready = each_and (λ (e : Label × Option Value). OptionReady w p.1 e.1) (bound ls vs) (l, Some p.0) (bound_ready w p.1 ls vs (values_still w cells p.1 rest.grows vs r)) rest.ready;
+      ready = each-and (λ (e : Label × Option Value). OptionReady w p.1 e.1) (bound ls vs) (l, Some p.0) (bound_ready w p.1 ls vs (values_still w cells p.1 rest.grows vs r)) rest.ready;
     }
 
 le_of : (m n : ℕ) → nat_le m n ≡ true → m ≤ n

@@ -2,6 +2,7 @@
 use Rattle.std.specs.Prelude.{◌≡◌, ℕ, true, List, [], ◌∷◌, Option, None, Some, slice_get, map}
 use Rattle.std.specs.List.{flat_map}
 use Rattle.base_data.specs.Datum as datum
+use Rattle.base_data.specs.Elements.{Each, Among, Once}
 use Rattle.base_data.specs.declared.atom.Atom.TheVariants as a
 use Rattle.base_data.specs.declared.library.LibName.TheVariants as library
 use Rattle.base_data.specs.declared.name.CodeNo.{CodeNo}
@@ -10,7 +11,6 @@ use Rattle.base_data.specs.declared.op.names.TheConstants as names
 use Rattle.base_region.specs.declared.region.Place.{Place}
 use Rattle.stx_frames.specs.Scope.{Scope}
 use Rattle.core_language.specs.Core.{PlainCore, quoted, procedure, PlainCases, case, no_case}
-use Rattle.law_core.specs.Words.{Each, Among, Once}
 use Rattle.law_core.specs.Parts.{code_numbers}
 use Rattle.law_core.specs.Scope.{Closed}
 use Rattle.law_core.specs.WellMade.{IsWellMade}

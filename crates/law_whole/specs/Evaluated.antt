@@ -2,12 +2,12 @@
 use Rattle.std.specs.Prelude.{List, ◌∷◌, Option, None, Some, ℕ, length, slice_get, IsTrue}
 use Rattle.std.specs.List.{flat_map}
 use Rattle.std.specs.Map.{lookup}
+use Rattle.base_data.specs.Elements.{Each}
 use Rattle.base_data.specs.declared.name.Label.{Label}
 use Rattle.base_region.specs.declared.region.Place.{Place}
 use Rattle.core_language.specs.Core.{PlainCore}
 use Rattle.core_language.specs.Labels.{same_label}
 use Rattle.core_language.specs.declared.record.Line.{Line}
-use Rattle.law_core.specs.Words.{Each}
 use Rattle.law_core.specs.Records.{line_labels, line_core}
 use Rattle.eval_value.specs.Cells.{has_variables, is_found}
 use Rattle.eval_value.specs.declared.value.Value.{Value}

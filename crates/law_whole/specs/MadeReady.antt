@@ -1,11 +1,11 @@
 -- What is closed and well made is ready, so it never gets stuck.
 use Rattle.std.specs.Prelude.{◌≡◌, ℕ, List, [], ◌++◌, None, length}
 use Rattle.std.specs.List.{flat_map}
+use Rattle.base_data.specs.Elements.{Each, Once}
 use Rattle.base_data.specs.declared.name.CodeNo.{CodeNo}
 use Rattle.base_data.specs.declared.name.Label.{Label}
 use Rattle.core_language.specs.Core.{PlainCore}
 use Rattle.core_language.specs.declared.record.CompiledLibrary.{CompiledLibrary}
-use Rattle.law_core.specs.Words.{Each, Once}
 use Rattle.law_core.specs.Parts.{code_numbers}
 use Rattle.law_core.specs.Scope.{Closed}
 use Rattle.law_core.specs.WellMade.{IsWellMade}

@@ -1,10 +1,10 @@
 -- What the parts of an evaluation leave and give in a whole world.
 use Rattle.std.specs.Prelude.{◌≡◌, List, [], ◌∷◌}
+use Rattle.base_data.specs.Elements.{Each}
 use Rattle.base_data.specs.declared.name.Label.{Label}
 use Rattle.core_language.specs.Pattern.{PlainPattern}
 use Rattle.law_core.specs.Templates.{Depths, depths}
 use Rattle.eval_value.specs.Bind.{PlainBind}
-use Rattle.eval_value.specs.Cells.{Each}
 use Rattle.eval_value.specs.declared.cell.Cell.{Cell}
 use Rattle.eval_pattern.specs.declared.columns.PatternBinds.{PatternBinds}
 use Rattle.eval_code.specs.Setting.{PlainSetting}

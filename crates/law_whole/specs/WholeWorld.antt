@@ -1,10 +1,11 @@
 -- Whole worlds, in which no evaluation meets cells that don't fit.
 use Rattle.std.specs.Prelude.{◌≡◌, ℕ, true, List, ◌∷◌, Option, None, Some, slice_get, IsTrue}
+use Rattle.base_data.specs.Elements.{Each}
 use Rattle.base_data.specs.declared.name.Label.{Label}
 use Rattle.base_region.specs.declared.region.Place.{Place}
 use Rattle.core_language.specs.Core.{PlainCore, PlainCode, procedure, letrec, variable, no_init, init}
 use Rattle.eval_value.specs.Bind.{PlainBind, one, many, PlainBinds, none, more}
-use Rattle.eval_value.specs.Cells.{WholeCells, FitsIn, Each, has_variables}
+use Rattle.eval_value.specs.Cells.{WholeCells, FitsIn, has_variables}
 use Rattle.eval_value.specs.declared.value.Value.{Value}
 use Rattle.eval_value.specs.declared.value.Value.TheVariants as value
 use Rattle.eval_value.specs.declared.cell.Cell.{Cell}

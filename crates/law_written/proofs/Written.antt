@@ -3,6 +3,7 @@ use Rattle.std.proofs.Common.{◌≡◌, ℕ, Bool, true, false, List, [], ◌�
 use Rattle.std.specs.Map.{lookup}
 use Rattle.std.specs.Prelude.{unwrap_or}
 use Rattle.base_data.specs.Datum.{PlainDatum}
+use Rattle.base_data.specs.Elements.{Each}
 use Rattle.base_data.specs.declared.library.LibName.{LibName}
 use Rattle.base_data.specs.declared.name.Label.{Label}
 use Rattle.core_language.specs.Core.{PlainCore, PlainCores, PlainInits, PlainCases}
@@ -14,13 +15,12 @@ use Rattle.law_core_grammar.specs.Lines.{SpellsLine}
 use Rattle.law_core_grammar.specs.Names.{IsCalled, IsGenerated, AreGenerated}
 use Rattle.law_core_grammar.specs.Spells as s
 use Rattle.law_core_grammar.specs.Spells.{SpellsCode, SpellsAllCode, SpellsInits, SpellsCases}
-use Rattle.law_core.specs.Words as words
+use Rattle.base_data.specs.Elements as elements
 use Rattle.core_output.specs.CoreText.{VariableNames, name_of}
 use Rattle.law_references.specs.Noted.{NotedLine, mentioned}
 use Rattle.law_references.specs.Records.{line_mentions, IsRightLine}
 use Rattle.law_references.specs.Whole.{IsRightReference}
 use Rattle.expand_standing.specs.State.{State}
-use Rattle.eval_value.specs.Cells.{Each}
 use Rattle.law_written.specs.Written.{written, all_written, inits_written, cases_written, line_written, MentionsAreWritten, WrittenAreGenerated, ReferencesAreWritten}
 
 map-append : {A B : Type 0} (f : A → B) (xs ys : List A) → map f (xs ++ ys) ≡ map f xs ++ map f ys
@@ -72,13 +72,13 @@ module _ (names : VariableNames) where
 
   -- Generated names.
 
-  both-each : {A : Type 0} (P : A → Type 0) (xs ys : List A) → words.Each P xs → words.Each P ys → words.Each P (xs ++ ys)
+  both-each : {A : Type 0} (P : A → Type 0) (xs ys : List A) → elements.Each P xs → elements.Each P ys → elements.Each P (xs ++ ys)
   both-each P [] ys h k = k
   both-each P (x ∷ xs) ys h k = (h.0, both-each P xs ys h.1 k)
 
   module _ (good : AreGenerated names) (of : (l : Label) (x : List ℕ) → IsCalled names l x → IsGenerated x) where
     mutual
-      generated : {c : PlainCore} {d : PlainDatum} (p : SpellsCode names c d) → words.Each IsGenerated (written p)
+      generated : {c : PlainCore} {d : PlainDatum} (p : SpellsCode names c d) → elements.Each IsGenerated (written p)
       generated (s.constant d h) = tt
       generated (s.quotation d h) = tt
       generated (s.reference {l} {x} h) = (of l x h, tt)
@@ -92,15 +92,15 @@ module _ (names : VariableNames) where
       generated (s.letrec ordered ps p) = both-each IsGenerated (inits_written ps) (written p) (inits-generated ps) (generated p)
       generated (s.application p ps) = both-each IsGenerated (written p) (all_written ps) (generated p) (all-generated ps)
 
-      all-generated : {cs : PlainCores} {e : PlainDatum} (ps : SpellsAllCode names cs e) → words.Each IsGenerated (all_written ps)
+      all-generated : {cs : PlainCores} {e : PlainDatum} (ps : SpellsAllCode names cs e) → elements.Each IsGenerated (all_written ps)
       all-generated s.no_more = tt
       all-generated (s.more p ps) = both-each IsGenerated (written p) (all_written ps) (generated p) (all-generated ps)
 
-      inits-generated : {is : PlainInits} {e : PlainDatum} (ps : SpellsInits names is e) → words.Each IsGenerated (inits_written ps)
+      inits-generated : {is : PlainInits} {e : PlainDatum} (ps : SpellsInits names is e) → elements.Each IsGenerated (inits_written ps)
       inits-generated s.no_init = tt
       inits-generated (s.init h p ps) = both-each IsGenerated (written p) (inits_written ps) (generated p) (inits-generated ps)
 
-      cases-generated : {cs : PlainCases} {e : PlainDatum} (ps : SpellsCases names cs e) → words.Each IsGenerated (cases_written ps)
+      cases-generated : {cs : PlainCases} {e : PlainDatum} (ps : SpellsCases names cs e) → elements.Each IsGenerated (cases_written ps)
       cases-generated s.no_case = tt
       cases-generated (s.case fs p ps) = both-each IsGenerated (written p) (cases_written ps) (generated p) (cases-generated ps)
 
@@ -108,7 +108,7 @@ pub mentions-written : MentionsAreWritten
 mentions-written names c d p = is-written names p
 
 -- what a table gives is in it
-looked-up : (P : List ℕ → Type 0) (same : Label → Bool) (rows : List (Label × List ℕ)) (x : List ℕ) → words.Each (λ (r : Label × List ℕ). P r.1) rows → lookup same rows ≡ Some x → P x
+looked-up : (P : List ℕ → Type 0) (same : Label → Bool) (rows : List (Label × List ℕ)) (x : List ℕ) → elements.Each (λ (r : Label × List ℕ). P r.1) rows → lookup same rows ≡ Some x → P x
 looked-up P same [] x h e = absurd (cc)
 looked-up P same (r ∷ rows) x h e = by (same r.0) (λ k. looked-up P same rows x h.1 k) e
   where

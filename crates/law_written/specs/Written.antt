@@ -1,6 +1,7 @@
 -- The names that a text writes for references and for the targets of assignments, in the order of their places.
 use Rattle.std.specs.Prelude.{◌≡◌, ℕ, List, [], ◌∷◌, ◌++◌, map}
 use Rattle.base_data.specs.Datum.{PlainDatum}
+use Rattle.base_data.specs.Elements.{Each}
 use Rattle.base_data.specs.declared.library.LibName.{LibName}
 use Rattle.stx_tree.specs.Tree.{Tree}
 use Rattle.core_language.specs.Core.{PlainCore, PlainCores, PlainInits, PlainCases}
@@ -12,14 +13,13 @@ use Rattle.law_core_grammar.specs.Lines.{SpellsLine}
 use Rattle.law_core_grammar.specs.Names.{IsGenerated, AreGenerated}
 use Rattle.law_core_grammar.specs.Spells as s
 use Rattle.law_core_grammar.specs.Spells.{SpellsCode, SpellsAllCode, SpellsInits, SpellsCases}
-use Rattle.law_core.specs.Words as words
+use Rattle.base_data.specs.Elements as elements
 use Rattle.core_output.specs.CoreText.{VariableNames, name_of}
 use Rattle.expand_forms.specs.declared.top.TopAt.{TopAt}
 use Rattle.law_references.specs.Noted.{mentioned}
 use Rattle.law_references.specs.Records.{RunIsRight}
 use Rattle.law_references.specs.Whole.{IsRightReference}
 use Rattle.expand_standing.specs.State.{State}
-use Rattle.eval_value.specs.Cells.{Each}
 
 module _ {names : VariableNames} where
   abbrev mutual
@@ -59,7 +59,7 @@ MentionsAreWritten = (names : VariableNames) (c : PlainCore) (d : PlainDatum) (p
 
 abbrev pub WrittenAreGenerated : Type 0
 WrittenAreGenerated = (names : VariableNames) (c : PlainCore) (d : PlainDatum) (p : SpellsCode names c d) → AreGenerated names
-    → words.Each IsGenerated (written p)
+    → elements.Each IsGenerated (written p)
 
 -- In each line of a record that is hygienic, whatever names it is written with, they are the names of the labels that the identifiers stood for which became
 -- these references, one for each and in their order.

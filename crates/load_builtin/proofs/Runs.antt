@@ -4,7 +4,7 @@ use Rattle.std.specs.Prelude.{◌&&◌}
 use Rattle.std.specs.List.{list_all}
 use Rattle.std.proofs.lemmas.Bool.Decides.{nat_tests}
 use Rattle.base_data.specs.Op.{name_count}
-use Rattle.base_data.specs.declared.name.Label.{Label}
+use Rattle.base_data.specs.declared.imported_name.ImportedName.{ImportedName}
 use Rattle.load_builtin.specs.declared.library.Library.{Library}
 use Rattle.load_builtin.specs.declared.library.Library.TheVariants as l
 use Rattle.load_builtin.specs.declared.library.Run.{Run}
@@ -49,7 +49,7 @@ pub runs_fit : (library : Library) (rs : List Run) (i : ℕ) (r : Run) → rs �
 runs_fit library rs i r is lt e = all_fit rs i r (ap (λ x. list_all fits x) is ∙ each_fits library) lt e
 
 -- one more name of a run
-pub row_turn : (names new whole : List (List ℕ × Label)) (n to : ℕ) (x : List ℕ × Label) → n < to → new ≡ names ++ x ∷ [] → x ≡ export n
+pub row_turn : (names new whole : List ImportedName) (n to : ℕ) (x : ImportedName) → n < to → new ≡ names ++ x ∷ [] → x ≡ export n
     → names ++ map export (in_a_row n (to - n)) ≡ whole → new ++ map export (in_a_row (n + 1) (to - (n + 1))) ≡ whole
 row_turn names new whole n to x h e same so_far =
     let more : to - n ≡ suc (to - (n + 1)) = omega arith in

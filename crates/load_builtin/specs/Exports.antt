@@ -1,6 +1,7 @@
 -- What the libraries that this implementation gives export.
 use Rattle.std.specs.Prelude.{ℕ, ◌+◌, Bool, false, ◌==◌, List, [], ◌∷◌, map, Option, Some, None, if◌then◌else◌, option_map}
 use Rattle.base_data.specs.Op.{op_text}
+use Rattle.base_data.specs.declared.imported_name.ImportedName.{ImportedName}
 use Rattle.base_data.specs.declared.library.LibName.{LibName}
 use Rattle.base_data.specs.declared.library.LibName.TheVariants as name
 use Rattle.base_data.specs.declared.name.Label.{Label}
@@ -40,14 +41,14 @@ core_unless n (Some place) = label_at name.Derived place
 abbrev pub label_of : ℕ → Label
 label_of n = core_unless n (derived_place n)
 
-abbrev pub export : ℕ → List ℕ × Label
-export n = (op_text n, label_of n)
+abbrev pub export : ℕ → ImportedName
+export n = record { name = op_text n; label = label_of n }
 
-abbrev pub library_exports : Library → List (List ℕ × Label)
+abbrev pub library_exports : Library → List ImportedName
 library_exports library = map export (library_numbers library)
 
 -- the names that a library exports, each with its label; none where this implementation doesn't give it
-abbrev pub exports : LibName → Option (List (List ℕ × Label))
+abbrev pub exports : LibName → Option (List ImportedName)
 exports name.Core = None
 exports name.Derived = None
 exports name.Prelude = None

@@ -8,6 +8,7 @@ ghost use Rattle.base_data.specs.Op.{name_count, op_text};
 ghost use Rattle.base_data.specs.declared.library.LibName.TheVariants as name;
 
 use crate::library::{Library, Run};
+use base_data::imported_name::ImportedName;
 use base_data::items::Items;
 use base_data::library::LibName;
 use base_data::memory::Memory;
@@ -48,7 +49,7 @@ struct BuiltinLibraries {
 }
 
 /// The names that a library exports, each with its label, where this implementation gives it.
-pub fn exports(alloc: Global, name: &LibName) -> Result<Option<Items<(Symbol, Label)>>, Memory>
+pub fn exports(alloc: Global, name: &LibName) -> Result<Option<Items<ImportedName>>, Memory>
     ensures { IfOk result (λ r. r ≡ exports name.now) }
 {
     let LibName::User(parts) = name else {
@@ -61,7 +62,7 @@ pub fn exports(alloc: Global, name: &LibName) -> Result<Option<Items<(Symbol, La
     Ok(Some(names))
 }
 
-fn library_exports(alloc: Global, library: Library) -> Result<Items<(Symbol, Label)>, Memory>
+fn library_exports(alloc: Global, library: Library) -> Result<Items<ImportedName>, Memory>
     ensures { IfOk result (λ r. r ≡ library_exports library) }
 {
     let libraries = BuiltinLibraries {
@@ -79,7 +80,7 @@ fn add_run(
     alloc: Global,
     libraries: &BuiltinLibraries,
     run: Run,
-    names: &mut Items<(Symbol, Label)>,
+    names: &mut Items<ImportedName>,
 ) -> Result<(), Memory>
     requires run { run.to ≤ name_count }
     requires core { libraries.now.core.value ≡ name.Core }
@@ -87,9 +88,9 @@ fn add_run(
     ensures { OnOk result (names.new ≡ names.old ++ map export (run_numbers run)) }
 {
     for number in run.from..run.to {
-        let symbol = Symbol::new(alloc, op_text(&Op(number)))?;
+        let name = Symbol::new(alloc, op_text(&Op(number)))?;
         let label = label_of(libraries, number)?;
-        names.push((symbol, label))?;
+        names.push(ImportedName { name, label })?;
     }
     Ok(())
 }

@@ -1,5 +1,5 @@
 -- Names by their places.
-use Rattle.std.proofs.Common.{◌≡◌, ℕ, suc, ◌+◌, ◌-◌, ◌<◌, ◌≤◌, List, [], ◌∷◌, ◌++◌, Bool, true, false, cond, length, get_or, drop, refl, sym, ap, subst, ◌∙◌, append_assoc, true≢false, arith}
+use Rattle.std.proofs.Common.{◌≡◌, ℕ, suc, ◌+◌, ◌-◌, ◌<◌, ◌≤◌, List, [], ◌∷◌, ◌++◌, Bool, true, false, cond, length, get_or, drop, map, refl, sym, ap, subst, ◌∙◌, append_assoc, true≢false, arith}
 use Rattle.std.specs.Prelude.{zero, Option, None, Some, option_map, slice_get, position, not, filter, nat_eq, nat_lt, ◌||◌}
 use Rattle.std.specs.List.{list_any, filter_map, position_or_len, AllByRecursion, AllPairs, IsDistinct, cons_option, dedup, dedup_from}
 use Rattle.std.specs.List.Sorted.{IsStrictlyIncreasing}
@@ -12,9 +12,9 @@ use Rattle.std.proofs.lemmas.List.Kept.{AllPairs-from_increasing}
 use Rattle.std.proofs.lemmas.List.Quantifiers.{position-Some}
 use Rattle.std.proofs.lemmas.Map.Entries.{length-keys_of}
 use Rattle.base_data.specs.Same.{texts_decides}
-use Rattle.base_data.specs.declared.name.Label.{Label}
+use Rattle.base_data.specs.declared.imported_name.ImportedName.{ImportedName}
 use Rattle.load_import.specs.Names.{Labelled, is_among, only}
-use Rattle.load_import.specs.Shared.{IsOwn, place_of, places_of, among, names_at}
+use Rattle.load_import.specs.Shared.{IsOwn, AreOwn, place_of, place_named, places_of, among, names_at}
 use Rattle.load_import.specs.Table.{same_text}
 use Rattle.load_import.specs.declared.set.NameAt.{NameAt}
 use Rattle.load_import.proofs.TurnLemmas.{cons_at}
@@ -55,39 +55,49 @@ module _ {V : Type 0} where
       let p = position-Some (same_text name) (keys_of rows) k e.0 place in
       (texts_decides name e.0).0 (subst (λ x. same_text name x ≡ true) key p.1)
 
+-- the name at the place of a name, where it has a label
+same_named : (names : Labelled) (name : List ℕ) (k : ℕ) (e : ImportedName) → place_named name names ≡ Some k → slice_get names k ≡ Some e → name ≡ e.name
+same_named names name k e place at =
+    let key : get_or (map name_in names) k e.name ≡ e.name = get_or_from_slice_get (map name_in names) k e.name e.name (slice_get-map name_in names k ∙ ap (option_map name_in) at) in
+    let p = position-Some (same_text name) (map name_in names) k e.name place in
+    (texts_decides name e.name).0 (subst (λ x. same_text name x ≡ true) key p.1)
+  where
+    name_in : ImportedName → List ℕ
+    name_in e = e.name
+
 -- ---- which places are those of some names
 
 abbrev option_is : ℕ → Option ℕ → Bool
 option_is n None = false
 option_is n (Some m) = nat_eq m n
 
-module _ (names : Labelled) (own : IsOwn names) (j : ℕ) (e : List ℕ × Label) (at : slice_get names j ≡ Some e) where
-  is_at : (name : List ℕ) → option_is j (place_of name names) ≡ same_text e.0 name
-  is_at name = by (same_text e.0 name) refl
+module _ (names : Labelled) (own : AreOwn names) (j : ℕ) (e : ImportedName) (at : slice_get names j ≡ Some e) where
+  is_at : (name : List ℕ) → option_is j (place_named name names) ≡ same_text e.name name
+  is_at name = by (same_text e.name name) refl
     where
-      other : same_text e.0 name ≡ false → (o : Option ℕ) → place_of name names ≡ o → option_is j o ≡ false
+      other : same_text e.name name ≡ false → (o : Option ℕ) → place_named name names ≡ o → option_is j o ≡ false
       other h None is = refl
       other h (Some m) is = test (nat_eq m j) refl
         where
           test : (b : Bool) → nat_eq m j ≡ b → b ≡ false
           test false k = refl
           test true k =
-              let here : place_of name names ≡ Some j = is ∙ ap Some ((unsigned_Decides m j).0 k) in
-              absurd (true≢false (sym ((texts_decides e.0 name).1 (sym (same_at names name j e here at))) ∙ h))
+              let here : place_named name names ≡ Some j = is ∙ ap Some ((unsigned_Decides m j).0 k) in
+              absurd (true≢false (sym ((texts_decides e.name name).1 (sym (same_named names name j e here at))) ∙ h))
 
-      by : (b : Bool) → same_text e.0 name ≡ b → option_is j (place_of name names) ≡ b
+      by : (b : Bool) → same_text e.name name ≡ b → option_is j (place_named name names) ≡ b
       by true h =
-          let same : e.0 ≡ name = (texts_decides e.0 name).0 h in
-          ap (option_is j) (ap (λ n. place_of n names) (sym same) ∙ own j e at) ∙ (unsigned_Decides j j).1 refl
-      by false h = other h (place_of name names) refl
+          let same : e.name ≡ name = (texts_decides e.name name).0 h in
+          ap (option_is j) (ap (λ n. place_named n names) (sym same) ∙ own j e at) ∙ (unsigned_Decides j j).1 refl
+      by false h = other h (place_named name names) refl
 
   among_cons : (o : Option ℕ) (ns : List ℕ) → among j (cons_option o ns) ≡ (option_is j o || among j ns)
   among_cons None ns = refl
   among_cons (Some m) ns = refl
 
-  pub among_places : (ids : List NameAt) → among j (places_of ids names) ≡ is_among ids e.0
+  pub among_places : (ids : List NameAt) → among j (places_of ids names) ≡ is_among ids e.name
   among_places [] = refl
-  among_places (id ∷ ids) = among_cons (place_of id.name names) (places_of ids names) ∙ ap (λ b. b || among j (places_of ids names)) (is_at id.name) ∙ ap (λ b. same_text e.0 id.name || b) (among_places ids)
+  among_places (id ∷ ids) = among_cons (place_named id.name names) (places_of ids names) ∙ ap (λ b. b || among j (places_of ids names)) (is_at id.name) ∙ ap (λ b. same_text e.name id.name || b) (among_places ids)
 
 -- ---- the names at places that rise
 
@@ -118,7 +128,7 @@ module _ {X : Type 0} where
   filter_map_none [] = refl
   filter_map_none (n ∷ ns) = filter_map_none ns
 
-abbrev at_from : ℕ → Labelled → ℕ → Option (List ℕ × Label)
+abbrev at_from : ℕ → Labelled → ℕ → Option ImportedName
 at_from k es p = slice_get es (p - k)
 
 abbrev picks : ℕ → List ℕ → Labelled → Labelled
@@ -154,7 +164,7 @@ among_none : (k : ℕ) (ps : List ℕ) → AllByRecursion (λ p. k < p) ps → a
 among_none k [] h = refl
 among_none k (p ∷ ps) h = ap (λ b. b || among k ps) (differ_up p k h.0) ∙ among_none k ps h.1
 
-shift : (k : ℕ) (e : List ℕ × Label) (es : Labelled) (ps : List ℕ) → AllByRecursion (λ p. k < p) ps → filter_map (at_from k (e ∷ es)) ps ≡ filter_map (at_from (suc k) es) ps
+shift : (k : ℕ) (e : ImportedName) (es : Labelled) (ps : List ℕ) → AllByRecursion (λ p. k < p) ps → filter_map (at_from k (e ∷ es)) ps ≡ filter_map (at_from (suc k) es) ps
 shift k e es ps h = filter_map_same (at_from k (e ∷ es)) (at_from (suc k) es) (λ p. k < p) (λ p l. ap (slice_get (e ∷ es)) (step p l)) ps h
   where
     step : (p : ℕ) → k < p → p - k ≡ suc (p - suc k)
@@ -193,7 +203,7 @@ picked (e ∷ es) k (p ∷ ps) rises low = by (nat_eq p k) refl (picked es (suc 
             apart : (p ≡ k → ⊥) → k < p
             apart n = omega (arith, low.0, n)
 
-picks_filter : (test : List ℕ × Label → Bool) (ps : List ℕ) (es : Labelled) (k : ℕ) → ((j : ℕ) (e : List ℕ × Label) → slice_get es j ≡ Some e → among (j + k) ps ≡ test e) → picks k ps es ≡ filter test es
+picks_filter : (test : ImportedName → Bool) (ps : List ℕ) (es : Labelled) (k : ℕ) → ((j : ℕ) (e : ImportedName) → slice_get es j ≡ Some e → among (j + k) ps ≡ test e) → picks k ps es ≡ filter test es
 picks_filter test ps [] k h = refl
 picks_filter test ps (e ∷ es) k h =
     ap (λ b. cond b (e ∷ picks (suc k) ps es) (picks (suc k) ps es)) (ap (λ n. among n ps) first ∙ h 0 e refl)
@@ -206,11 +216,11 @@ picks_filter test ps (e ∷ es) k h =
     later j = omega arith
 
 -- the names at the places of some, each once and in order, are these names
-pub found_is : (ids : List NameAt) (names : Labelled) (ps : List ℕ) → IsOwn names → IsStrictlyIncreasing ps → ((n : ℕ) → among n ps ≡ among n (places_of ids names)) → names_at names ps ≡ only ids names
+pub found_is : (ids : List NameAt) (names : Labelled) (ps : List ℕ) → AreOwn names → IsStrictlyIncreasing ps → ((n : ℕ) → among n ps ≡ among n (places_of ids names)) → names_at names ps ≡ only ids names
 found_is ids names ps own rises same =
     filter_map_same (slice_get names) (at_from 0 names) (λ p. 0 ≤ p) (λ p l. ap (slice_get names) (sym (less_none p))) ps (all_low ps)
     ∙ picked names 0 ps (rises_pairs ps (AllPairs-from_increasing ps rises)) (all_low ps)
-    ∙ picks_filter (λ e. is_among ids e.0) ps names 0 (λ j e at. ap (λ n. among n ps) (more_none j) ∙ same j ∙ among_places names own j e at ids)
+    ∙ picks_filter (λ e. is_among ids e.name) ps names 0 (λ j e at. ap (λ n. among n ps) (more_none j) ∙ same j ∙ among_places names own j e at ids)
   where
     less_none : (p : ℕ) → p - 0 ≡ p
     less_none p = omega arith

@@ -1,5 +1,6 @@
 pub mod TableLemmas
 pub mod TurnLemmas
+pub mod ImportedLemmas
 pub mod NameLemmas
 pub mod SharedLemmas
 pub mod FoundLemmas

@@ -9,12 +9,14 @@ use Rattle.base_data.specs.declared.fault.Fault.{Fault}
 use Rattle.base_data.specs.declared.fault.Stop.{Stop}
 use Rattle.base_data.specs.declared.fault.Stop.TheVariants as stops
 use Rattle.base_data.specs.Same.{same_name}
+use Rattle.base_data.specs.declared.imported_name.ImportedName.{ImportedName}
 use Rattle.base_data.specs.declared.name.Label.{Label}
 use Rattle.base_data.specs.declared.span.Span.{Span}
-use Rattle.load_import.specs.Names.{Labelled, need, need_by, has_name, is_among, missing_at, pairs_of, conflict, join_by, join_one}
+use Rattle.load_import.specs.Names.{Labelled, label_named, put_each, need, need_by, has_name, is_among, missing_at, pairs_of, conflict, join_by, join_one}
 use Rattle.load_import.specs.Table.{value_of, put_all, put_first, same_text}
 use Rattle.load_import.specs.declared.set.NameAt.{NameAt}
 use Rattle.load_import.specs.declared.set.Renaming.{Renaming}
+use Rattle.load_import.proofs.ImportedLemmas.{label-put_each}
 use Rattle.load_import.proofs.TableLemmas.{value-put_all}
 use Rattle.load_import.proofs.TurnLemmas.{cons_at, got}
 
@@ -33,8 +35,8 @@ has-asked name (id ∷ ids) = by (same_text name id.name) (has-asked name ids)
     by true h = refl
     by false h = h
 
-pub has-table : (names table : Labelled) → table ≡ put_all [] names → (name : List ℕ) → has_name table name ≡ has_name names name
-has-table names table is name = ap (λ t. is_some (value_of name t)) is ∙ ap is_some (value-put_all name names)
+pub has-table : (names table : Labelled) → table ≡ put_each [] names → (name : List ℕ) → has_name table name ≡ has_name names name
+has-table names table is name = ap (λ t. has_name t name) is ∙ ap is_some (label-put_each name names)
 
 pub among-table : (ids : List NameAt) (table : List (List ℕ × Unit {0})) → table ≡ put_all [] (asked_for ids) → (name : List ℕ) → is_some (value_of name table) ≡ is_among ids name
 among-table ids table is name = ap (λ t. is_some (value_of name t)) is ∙ ap is_some (value-put_all name (asked_for ids)) ∙ has-asked name ids
@@ -85,7 +87,7 @@ need_same others names ids x h = ap (λ o. need_by o x) (same ids)
     same (id ∷ ids) = ap (λ b. cond (not b) (Some id) (find (is_absent others) ids)) (h id.name) ∙ ap (λ o. cond (not (has_name names id.name)) (Some id) o) (same ids)
 
 -- one more name, where it passes a test
-pub filter_on : (test : List ℕ × Label → Bool) (names : Labelled) (i : ℕ) (row : List ℕ × Label) (rows new whole : Labelled) → i < length names → row ≡ get_or names i row
+pub filter_on : (test : ImportedName → Bool) (names : Labelled) (i : ℕ) (row : ImportedName) (rows new whole : Labelled) → i < length names → row ≡ get_or names i row
     → new ≡ rows ++ (if test row then row ∷ [] else []) → rows ++ filter test (drop i names) ≡ whole → new ++ filter test (drop (i + 1) names) ≡ whole
 filter_on test names i row rows new whole h e made so_far =
     ap (λ r. r ++ filter test (drop (i + 1) names)) made ∙ by (test row) ∙ sym (ap (λ r. rows ++ filter test r) (cons_at names i row h e)) ∙ so_far
@@ -95,21 +97,21 @@ filter_on test names i row rows new whole h e made so_far =
     by false = append_assoc rows [] (filter test (drop (i + 1) names))
 
 -- a name that is there already
-pub join_over : (span : Span) (all : Labelled) (row : List ℕ × Label) (label : Label) (r : Result (Unit {0}) Stop) → value_of row.0 all ≡ Some label
-    → Gives (λ u. u) r (if same_name label.0 row.1.0 then Ok tt else Err (conflict span row.0)) → Gives (λ _. all) r (join_one span all row)
+pub join_over : (span : Span) (all : Labelled) (row : ImportedName) (label : Label) (r : Result (Unit {0}) Stop) → label_named row.name all ≡ Some label
+    → Gives (λ u. u) r (if same_name label.0 row.label.0 then Ok tt else Err (conflict span row.name)) → Gives (λ _. all) r (join_one span all row)
 join_over span all row label r there given =
-    subst (λ o. Gives (λ _. all) r (join_by span all row o)) (sym there) (by (same_name label.0 row.1.0) r given)
+    subst (λ o. Gives (λ _. all) r (join_by span all row o)) (sym there) (by (same_name label.0 row.label.0) r given)
   where
-    by : (b : Bool) (r : Result (Unit {0}) Stop) → Gives (λ u. u) r (if b then Ok tt else Err (conflict span row.0)) → Gives (λ _. all) r (if b then Ok all else Err (conflict span row.0))
+    by : (b : Bool) (r : Result (Unit {0}) Stop) → Gives (λ u. u) r (if b then Ok tt else Err (conflict span row.name)) → Gives (λ _. all) r (if b then Ok all else Err (conflict span row.name))
     by true (Ok u) h = refl
     by true (Err stops.Memory) h = tt
     by true (Err (stops.Fault f)) h = cc
     by false (Ok u) h = cc
     by false (Err stops.Memory) h = tt
-    by false (Err (stops.Fault f)) h = let e : conflict span row.0 ≡ f = cc in ap Err e
+    by false (Err (stops.Fault f)) h = let e : conflict span row.name ≡ f = cc in ap Err e
 
 -- one more name of a table
-pub row_on : (names : Labelled) (i : ℕ) (row : List ℕ × Label) (rows : Labelled) → slice_get names i ≡ Some row → rows ++ drop i names ≡ names → (rows ++ row ∷ []) ++ drop (i + 1) names ≡ names
+pub row_on : (names : Labelled) (i : ℕ) (row : ImportedName) (rows : Labelled) → slice_get names i ≡ Some row → rows ++ drop i names ≡ names → (rows ++ row ∷ []) ++ drop (i + 1) names ≡ names
 row_on names i row rows there so_far = append_assoc rows (row ∷ []) (drop (i + 1) names) ∙ sym (ap (λ r. rows ++ r) (got names i row there)) ∙ so_far
 
 -- what was there before more names came

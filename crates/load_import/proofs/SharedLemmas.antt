@@ -9,19 +9,21 @@ use Rattle.base_data.specs.Same.{same_name, same_name_cases, texts_decides}
 use Rattle.base_data.specs.declared.fault.Fault.{Fault}
 use Rattle.base_data.specs.declared.fault.Stop.{Stop}
 use Rattle.base_data.specs.declared.fault.Stop.TheVariants as stops
+use Rattle.base_data.specs.declared.imported_name.ImportedName.{ImportedName}
 use Rattle.base_data.specs.declared.name.Label.{Label}
 use Rattle.base_data.specs.declared.span.Span.{Span}
-use Rattle.load_import.specs.Names.{Labelled, same_label, join_by, join_one, joined, conflict, step_names, need, need_by, except, only, is_among, has_name}
+use Rattle.load_import.specs.Names.{Labelled, label_named, same_label, join_by, join_one, joined, conflict, step_names, need, need_by, except, only, is_among, has_name}
 use Rattle.load_import.specs.Shared.{IsEnough, steps_joined}
-use Rattle.load_import.specs.Table.{value_of, same_text}
+use Rattle.load_import.specs.Table.{same_text}
 use Rattle.load_import.specs.Turns.{turns}
 use Rattle.load_import.specs.declared.set.NameAt.{NameAt}
 use Rattle.load_import.specs.declared.set.ImportStep.{ImportStep}
 use Rattle.load_import.specs.declared.set.ImportStep.TheVariants as word
-use Rattle.load_import.proofs.TableLemmas.{or_else, value-append}
+use Rattle.load_import.proofs.ImportedLemmas.{label-append}
+use Rattle.load_import.proofs.TableLemmas.{or_else}
 
 abbrev Entry : Type 0
-Entry = List ℕ × Label
+Entry = ImportedName
 
 abbrev has_label : Label → Option Label → Bool
 has_label l None = false
@@ -29,21 +31,21 @@ has_label l (Some m) = same_label m l
 
 -- a name is there with its label
 abbrev is_settled : Labelled → Entry → Bool
-is_settled all e = has_label e.1 (value_of e.0 all)
+is_settled all e = has_label e.label (label_named e.name all)
 
 settled_more : (all more : Labelled) (e : Entry) → is_settled all e ≡ true → is_settled (all ++ more) e ≡ true
-settled_more all more e h = ap (has_label e.1) (value-append e.0 all more) ∙ by (value_of e.0 all) h
+settled_more all more e h = ap (has_label e.label) (label-append e.name all more) ∙ by (label_named e.name all) h
   where
-    by : (o : Option Label) → has_label e.1 o ≡ true → has_label e.1 (or_else o (value_of e.0 more)) ≡ true
+    by : (o : Option Label) → has_label e.label o ≡ true → has_label e.label (or_else o (label_named e.name more)) ≡ true
     by None h = absurd (true≢false (sym h))
     by (Some l) h = h
 
 join_settled : (span : Span) (all : Labelled) (e : Entry) → is_settled all e ≡ true → join_one span all e ≡ Ok all
-join_settled span all e h = by (value_of e.0 all) h
+join_settled span all e h = by (label_named e.name all) h
   where
-    by : (o : Option Label) → has_label e.1 o ≡ true → join_by span all e o ≡ Ok all
+    by : (o : Option Label) → has_label e.label o ≡ true → join_by span all e o ≡ Ok all
     by None h = absurd (true≢false (sym h))
-    by (Some l) h = ap (λ b. cond {A = Result Labelled Fault} b (Ok all) (Err (conflict span e.0))) h
+    by (Some l) h = ap (λ b. cond {A = Result Labelled Fault} b (Ok all) (Err (conflict span e.name))) h
 
 same_ok : (a b : Labelled) (r : Result Labelled Fault) → r ≡ Ok a → r ≡ Ok b → a ≡ b
 same_ok a b r h k = cc
@@ -56,22 +58,22 @@ own_text a = (texts_decides a a).1 refl
 
 -- what a name more leaves: all that was there in front, and the name with its label
 join_leaves : (span : Span) (all new : Labelled) (e : Entry) → join_one span all e ≡ Ok new → (tail : Labelled) × (new ≡ all ++ tail) × (is_settled new e ≡ true)
-join_leaves span all new e h = by (value_of e.0 all) refl h
+join_leaves span all new e h = by (label_named e.name all) refl h
   where
     Leaves : Type 0
     Leaves = (tail : Labelled) × (new ≡ all ++ tail) × (is_settled new e ≡ true)
 
-    there : (l : Label) → value_of e.0 all ≡ Some l → (b : Bool) → same_label l e.1 ≡ b → cond {A = Result Labelled Fault} b (Ok all) (Err (conflict span e.0)) ≡ Ok new → Leaves
+    there : (l : Label) → label_named e.name all ≡ Some l → (b : Bool) → same_label l e.label ≡ b → cond {A = Result Labelled Fault} b (Ok all) (Err (conflict span e.name)) ≡ Ok new → Leaves
     there l at true same h =
         let is : new ≡ all = same_ok new all _ h refl in
-        ([], is ∙ sym (append-nil all), ap (λ n. is_settled n e) is ∙ ap (has_label e.1) at ∙ same)
+        ([], is ∙ sym (append-nil all), ap (λ n. is_settled n e) is ∙ ap (has_label e.label) at ∙ same)
     there l at false same h = cc
 
-    by : (o : Option Label) → value_of e.0 all ≡ o → join_by span all e o ≡ Ok new → Leaves
+    by : (o : Option Label) → label_named e.name all ≡ o → join_by span all e o ≡ Ok new → Leaves
     by None at h =
         let is : new ≡ all ++ e ∷ [] = same_ok new (all ++ e ∷ []) _ h refl in
-        (e ∷ [], is, ap (λ n. is_settled n e) is ∙ ap (has_label e.1) (value-append e.0 all (e ∷ []) ∙ ap (λ o. or_else o (value_of e.0 (e ∷ []))) at ∙ ap (λ b. cond b (Some e.1) None) (own_text e.0)) ∙ own_label e.1)
-    by (Some l) at h = there l at (same_label l e.1) refl h
+        (e ∷ [], is, ap (λ n. is_settled n e) is ∙ ap (has_label e.label) (label-append e.name all (e ∷ []) ∙ ap (λ o. or_else o (label_named e.name (e ∷ []))) at ∙ ap (λ b. cond b (Some e.label) None) (own_text e.name)) ∙ own_label e.label)
+    by (Some l) at h = there l at (same_label l e.label) refl h
 
 abbrev AllSettled : Labelled → Labelled → Type 0
 AllSettled all [] = Unit {0}
@@ -176,7 +178,7 @@ module _ (all names fresh : Labelled) (enough : IsEnough all names fresh) (span 
   whole_none e = whole_by ∙ ap (joined span all) e
 
   pub but_by : (ids : List NameAt) → joined span all (except ids names) ≡ joined span all (except ids fresh)
-  but_by ids = enough_some all names fresh enough span (λ e. not (is_among ids e.0))
+  but_by ids = enough_some all names fresh enough span (λ e. not (is_among ids e.name))
 
   pub but_none : (ids : List NameAt) → fresh ≡ [] → joined span all (except ids names) ≡ Ok all
   but_none ids e = but_by ids ∙ ap (λ f. joined span all (except ids f)) e
@@ -191,7 +193,7 @@ module _ (all names fresh : Labelled) (enough : IsEnough all names fresh) (span 
 
   pub but_leaves : (ids : List NameAt) (new : Labelled) → joined span all (except ids fresh) ≡ Ok new → IsEnough new names (only ids fresh)
   but_leaves ids new h =
-      subst (IsEnough new names) (filter_twice (λ e. is_among ids e.0) fresh) (enough_without all names fresh enough span (λ e. not (is_among ids e.0)) new h)
+      subst (IsEnough new names) (filter_twice (λ e. is_among ids e.name) fresh) (enough_without all names fresh enough span (λ e. not (is_among ids e.name)) new h)
 
 -- an `except` alone
 pub except_alone : (span : Span) (all names : Labelled) (ids : List NameAt) → steps_joined span all names (word.Except ids ∷ []) ≡ need names ids (joined span all (except ids names))
@@ -215,15 +217,15 @@ first_gives span all names left step steps h = sym (ap (λ r. (r >>= (λ t. turn
 
 -- names that are joined at one place are joined at any
 joined_one_at : (span other : Span) (all new : Labelled) (e : Entry) → join_one span all e ≡ Ok new → join_one other all e ≡ Ok new
-joined_one_at span other all new e h = by (value_of e.0 all) h
+joined_one_at span other all new e h = by (label_named e.name all) h
   where
-    there : (b : Bool) → cond {A = Result Labelled Fault} b (Ok all) (Err (conflict span e.0)) ≡ Ok new → cond {A = Result Labelled Fault} b (Ok all) (Err (conflict other e.0)) ≡ Ok new
+    there : (b : Bool) → cond {A = Result Labelled Fault} b (Ok all) (Err (conflict span e.name)) ≡ Ok new → cond {A = Result Labelled Fault} b (Ok all) (Err (conflict other e.name)) ≡ Ok new
     there true h = h
     there false h = cc
 
     by : (o : Option Label) → join_by span all e o ≡ Ok new → join_by other all e o ≡ Ok new
     by None h = h
-    by (Some l) h = there (same_label l e.1) h
+    by (Some l) h = there (same_label l e.label) h
 
 pub joined_at : (span other : Span) (es all new : Labelled) → joined span all es ≡ Ok new → joined other all es ≡ Ok new
 joined_at span other [] all new h = h

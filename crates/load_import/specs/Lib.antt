@@ -1,5 +1,6 @@
 pub mod Table
 pub mod Turns
+pub mod Imported
 pub mod Names
 pub mod Shared
 pub mod Sources

@@ -5,6 +5,7 @@ use Rattle.base_data.specs.Gives.{◌>>=◌}
 use Rattle.base_data.specs.Same.{same_name}
 use Rattle.base_data.specs.declared.fault.Fault.{Fault}
 use Rattle.base_data.specs.declared.fault.FaultKind.TheVariants.{ImportNameMissing, ImportConflict}
+use Rattle.base_data.specs.declared.imported_name.ImportedName.{ImportedName}
 use Rattle.base_data.specs.declared.name.Label.{Label}
 use Rattle.base_data.specs.declared.span.Span.{Span}
 use Rattle.load_import.specs.Table.{same_text, value_of}
@@ -17,7 +18,12 @@ use Rattle.load_import.specs.declared.set.ImportSet.{ImportSet}
 
 -- names with their labels, in order
 abbrev pub Labelled : Type 0
-Labelled = List (List ℕ × Label)
+Labelled = List ImportedName
+
+-- the label of a name: that of the first with it
+abbrev pub label_named : List ℕ → Labelled → Option Label
+label_named name [] = None
+label_named name (e ∷ es) = if same_text name e.name then Some e.label else label_named name es
 
 abbrev pub same_label : Label → Label → Bool
 same_label a b = same_name a.0 b.0
@@ -29,12 +35,12 @@ abbrev pub missing_at : NameAt → Fault
 missing_at id = record { kind = ImportNameMissing; span = id.span; words = id.name ∷ [] }
 
 -- a name that is there with this label is taken once, and one with another label is a conflict
-abbrev pub join_by : Span → Labelled → List ℕ × Label → Option Label → Result Labelled Fault
+abbrev pub join_by : Span → Labelled → ImportedName → Option Label → Result Labelled Fault
 join_by span names e None = Ok (names ++ e ∷ [])
-join_by span names e (Some label) = if same_label label e.1 then Ok names else Err (conflict span e.0)
+join_by span names e (Some label) = if same_label label e.label then Ok names else Err (conflict span e.name)
 
-abbrev pub join_one : Span → Labelled → List ℕ × Label → Result Labelled Fault
-join_one span names e = join_by span names e (value_of e.0 names)
+abbrev pub join_one : Span → Labelled → ImportedName → Result Labelled Fault
+join_one span names e = join_by span names e (label_named e.name names)
 
 -- names joined to others, in order
 abbrev pub joined : Span → Labelled → Labelled → Result Labelled Fault
@@ -44,7 +50,16 @@ abbrev pub is_among : List NameAt → List ℕ → Bool
 is_among ids name = list_any (λ id. same_text name id.name) ids
 
 abbrev pub has_name : Labelled → List ℕ → Bool
-has_name names name = is_some (value_of name names)
+has_name names name = is_some (label_named name names)
+
+-- a name at the end, unless it is there
+abbrev pub put_named : Labelled → ImportedName → Labelled
+put_named names e = if has_name names e.name then names else names ++ e ∷ []
+
+-- one name after another, each unless it is there
+abbrev pub put_each : Labelled → Labelled → Labelled
+put_each names [] = names
+put_each names (e ∷ es) = put_each (put_named names e) es
 
 -- the first identifier whose name isn't there is at fault
 abbrev pub need_by : {A : Type 0} → Option NameAt → Result A Fault → Result A Fault
@@ -55,13 +70,13 @@ abbrev pub need : {A : Type 0} → Labelled → List NameAt → Result A Fault �
 need names ids x = need_by (find (λ id. not (has_name names id.name)) ids) x
 
 abbrev pub only : List NameAt → Labelled → Labelled
-only ids names = filter (λ e. is_among ids e.0) names
+only ids names = filter (λ e. is_among ids e.name) names
 
 abbrev pub except : List NameAt → Labelled → Labelled
-except ids names = filter (λ e. not (is_among ids e.0)) names
+except ids names = filter (λ e. not (is_among ids e.name)) names
 
 abbrev pub prefixed : List ℕ → Labelled → Labelled
-prefixed symbol names = map (λ e. (symbol ++ e.0, e.1)) names
+prefixed symbol names = map (λ (e : ImportedName). record { name = symbol ++ e.name; label = e.label }) names
 
 -- where a name is renamed twice, the first counts
 abbrev pub pairs_of : List Renaming → List (List ℕ × List ℕ)
@@ -71,7 +86,7 @@ abbrev pub new_name : List Renaming → List ℕ → List ℕ
 new_name renamings name = unwrap_or (value_of name (pairs_of renamings)) name
 
 abbrev pub renamed : List Renaming → Labelled → Labelled
-renamed renamings names = map (λ e. (new_name renamings e.0, e.1)) names
+renamed renamings names = map (λ (e : ImportedName). record { name = new_name renamings e.name; label = e.label }) names
 
 abbrev pub sources : List Renaming → List NameAt
 sources renamings = map (λ r. r.from) renamings

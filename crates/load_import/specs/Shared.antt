@@ -4,7 +4,7 @@ use Rattle.std.specs.List.{list_any, filter_map}
 use Rattle.std.specs.Map.{keys_of}
 use Rattle.base_data.specs.Gives.{◌>>=◌}
 use Rattle.base_data.specs.declared.fault.Fault.{Fault}
-use Rattle.base_data.specs.declared.name.Label.{Label}
+use Rattle.base_data.specs.declared.imported_name.ImportedName.{ImportedName}
 use Rattle.base_data.specs.declared.span.Span.{Span}
 use Rattle.load_import.specs.Names.{Labelled, same_label, step_names, joined}
 use Rattle.load_import.specs.Table.{same_text}
@@ -18,7 +18,7 @@ steps_joined span all names steps = turns (step_names span) names steps >>= join
 
 -- these names are enough to join in place of all of a library, and of any part of all: the others are joined
 abbrev pub IsEnough : Labelled → Labelled → Labelled → Type 0
-IsEnough all names fresh = (span : Span) (more : Labelled) (test : List ℕ × Label → Bool) → joined span (all ++ more) (filter test names) ≡ joined span (all ++ more) (filter test fresh)
+IsEnough all names fresh = (span : Span) (more : Labelled) (test : ImportedName → Bool) → joined span (all ++ more) (filter test names) ≡ joined span (all ++ more) (filter test fresh)
 
 abbrev pub IsEnoughIf : Labelled → Labelled → Option Labelled → Type 0
 IsEnoughIf all names None = Unit {0}
@@ -32,8 +32,16 @@ place_of name rows = position (same_text name) (keys_of rows)
 abbrev pub IsOwn : {V : Type 0} → List (List ℕ × V) → Type 0
 IsOwn {V} rows = (k : ℕ) (e : List ℕ × V) → slice_get rows k ≡ Some e → place_of e.0 rows ≡ Some k
 
+-- the place of a name with its label
+abbrev pub place_named : List ℕ → Labelled → Option ℕ
+place_named name names = position (same_text name) (map (λ (e : ImportedName). e.name) names)
+
+-- each of these names stands once, so that its place is its own
+abbrev pub AreOwn : Labelled → Type 0
+AreOwn names = (k : ℕ) (e : ImportedName) → slice_get names k ≡ Some e → place_named e.name names ≡ Some k
+
 abbrev pub places_of : List NameAt → Labelled → List ℕ
-places_of ids names = filter_map (λ id. place_of id.name names) ids
+places_of ids names = filter_map (λ id. place_named id.name names) ids
 
 abbrev pub among : ℕ → List ℕ → Bool
 among n ns = list_any (λ m. nat_eq m n) ns

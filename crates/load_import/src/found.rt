@@ -4,10 +4,11 @@ ghost use Rattle.std.specs.List.{cons_option};
 ghost use Rattle.std.specs.List.Sorted.{IsStrictlyIncreasing};
 ghost use Rattle.std.specs.Prelude.{◌≡◌, ℕ, List, [], ◌∷◌, ◌++◌, IfOk, OnOk, slice_get};
 ghost use Rattle.load_import.specs.Names.{only};
-ghost use Rattle.load_import.specs.Shared.{IsOwn, places_of, among, names_at};
+ghost use Rattle.load_import.specs.Shared.{AreOwn, places_of, among, names_at};
 
-use crate::names::Names;
+use crate::imported::Names;
 use crate::set::NameAt;
+use base_data::imported_name::ImportedName;
 use base_data::items::Items;
 use base_data::memory::Memory;
 use base_data::name::Label;
@@ -27,7 +28,7 @@ fn push_some<T: Drop>(items: &mut Items<T>, item: Option<T>) -> Result<(), Memor
 // The places of the identifiers' names.
 fn places(alloc: Global, names: &Names, ids: &[NameAt]) -> Result<Items<usize>, Memory>
     ensures places { IfOk result (λ ps. ps ≡ places_of ids.now names.now) }
-    ensures own { IfOk result (λ _. IsOwn names.now) }
+    ensures own { IfOk result (λ _. AreOwn names.now) }
 {
     let count = names.at_most(ids.len());
     let mut places = Items::from_vec(Vec::with_capacity(alloc, count)?);
@@ -48,29 +49,25 @@ fn in_order(places: Items<usize>) -> Items<usize>
     Items::from_vec(list)
 }
 
-fn share_pair(name: &Symbol, label: &Label) -> Result<(Symbol, Label), Memory>
-    ensures { IfOk result (λ r. r ≡ (name.now, label.now)) }
+fn share_name(name: &Symbol, label: &Label) -> Result<ImportedName, Memory>
+    ensures { IfOk result (λ n. n ≡ record { name = name.now; label = label.now }) }
 {
     let name = name.share()?;
     let label = label.share()?;
-    Ok((name, label))
+    Ok(ImportedName { name, label })
 }
 
-fn row_at(names: &Names, place: usize) -> Result<Option<(Symbol, Label)>, Memory>
+fn row_at(names: &Names, place: usize) -> Result<Option<ImportedName>, Memory>
     ensures { IfOk result (λ r. r ≡ slice_get names.now place) }
 {
     match names.at(place) {
-        Some((name, label)) => Ok(Some(share_pair(name, label)?)),
+        Some((name, label)) => Ok(Some(share_name(name, label)?)),
         None => Ok(None),
     }
 }
 
 // The names at these places.
-fn names_at(
-    alloc: Global,
-    names: &Names,
-    places: &[usize],
-) -> Result<Items<(Symbol, Label)>, Memory>
+fn names_at(alloc: Global, names: &Names, places: &[usize]) -> Result<Items<ImportedName>, Memory>
     ensures { IfOk result (λ rows. rows ≡ names_at names.now places.now) }
 {
     let mut rows = Items::new(alloc);
@@ -86,7 +83,7 @@ pub(crate) fn found(
     alloc: Global,
     names: &Names,
     ids: &[NameAt],
-) -> Result<Items<(Symbol, Label)>, Memory>
+) -> Result<Items<ImportedName>, Memory>
     ensures { IfOk result (λ rows. rows ≡ only ids.now names.now) }
 {
     let places = in_order(places(alloc, names, ids)?);

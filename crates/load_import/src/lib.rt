@@ -18,6 +18,7 @@
 #![tactic(auto)]
 
 mod found;
+pub mod imported;
 pub mod names;
 pub mod set;
 pub mod shared;

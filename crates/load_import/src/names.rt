@@ -7,9 +7,11 @@ ghost use Rattle.load_import.specs.Table.{value_of, put_all};
 ghost use Rattle.load_import.specs.Turns.{turns};
 ghost use Rattle.base_data.specs.Same.{same_name};
 
+use crate::imported::Names;
 use crate::set::{ImportSet, ImportStep, NameAt, Renaming};
 use crate::table::NameTable;
 use base_data::fault::{Fault, FaultKind, Stop};
+use base_data::imported_name::ImportedName;
 use base_data::items::Items;
 use base_data::memory::Memory;
 use base_data::name::Label;
@@ -17,15 +19,12 @@ use base_data::span::Span;
 use base_data::symbol::Symbol;
 use std::alloc::Global;
 
-/// Names, each once, and the labels that they stand for.
-pub type Names = NameTable<Label>;
-
 pub(crate) fn taken(
     alloc: Global,
-    mut names: Items<(Symbol, Label)>,
+    mut names: Items<ImportedName>,
     steps: &[ImportStep],
     span: &Span,
-) -> Result<Items<(Symbol, Label)>, Stop>
+) -> Result<Items<ImportedName>, Stop>
     ensures { Gives (λ names. names) result (turns (step_names span.now) names steps.now) }
 {
     for step in steps {
@@ -36,10 +35,10 @@ pub(crate) fn taken(
 
 fn step_names(
     alloc: Global,
-    names: &[(Symbol, Label)],
+    names: &[ImportedName],
     step: &ImportStep,
     span: &Span,
-) -> Result<Items<(Symbol, Label)>, Stop>
+) -> Result<Items<ImportedName>, Stop>
     ensures { Gives (λ names. names) result (step_names span.now names.now step.now) }
 {
     match step {
@@ -51,11 +50,7 @@ fn step_names(
 }
 
 #[tactic(auto, using(crate::proofs::NameLemmas::need_met, crate::proofs::NameLemmas::need_stops))]
-fn only(
-    alloc: Global,
-    names: &[(Symbol, Label)],
-    ids: &[NameAt],
-) -> Result<Items<(Symbol, Label)>, Stop>
+fn only(alloc: Global, names: &[ImportedName], ids: &[NameAt]) -> Result<Items<ImportedName>, Stop>
     ensures { Gives (λ names. names) result (need names.now ids.now (Ok (only ids.now names.now))) }
 {
     need(alloc, names, ids)?;
@@ -65,9 +60,9 @@ fn only(
 #[tactic(auto, using(crate::proofs::NameLemmas::need_met, crate::proofs::NameLemmas::need_stops))]
 fn except(
     alloc: Global,
-    names: &[(Symbol, Label)],
+    names: &[ImportedName],
     ids: &[NameAt],
-) -> Result<Items<(Symbol, Label)>, Stop>
+) -> Result<Items<ImportedName>, Stop>
     ensures { Gives (λ names. names) result (need names.now ids.now (Ok (except ids.now names.now))) }
 {
     need(alloc, names, ids)?;
@@ -77,10 +72,10 @@ fn except(
 #[tactic(auto, using(crate::proofs::NameLemmas::need_met, crate::proofs::NameLemmas::need_stops))]
 fn rename(
     alloc: Global,
-    names: &[(Symbol, Label)],
+    names: &[ImportedName],
     renamings: &[Renaming],
     span: &Span,
-) -> Result<Items<(Symbol, Label)>, Stop>
+) -> Result<Items<ImportedName>, Stop>
     ensures { Gives (λ names. names) result (need names.now (sources renamings.now) (joined span.now [] (renamed renamings.now names.now))) }
 {
     let ids = sources(alloc, renamings)?;
@@ -90,7 +85,7 @@ fn rename(
 }
 
 // Each of the identifiers has a name that is there.
-fn need(alloc: Global, names: &[(Symbol, Label)], ids: &[NameAt]) -> Result<(), Stop>
+fn need(alloc: Global, names: &[ImportedName], ids: &[NameAt]) -> Result<(), Stop>
     ensures { Gives (λ u. u) result (need names.now ids.now (Ok tt)) }
 {
     let table = name_table(alloc, names)?;
@@ -165,12 +160,12 @@ fn fault_made(alloc: Global, kind: FaultKind, span: &Span, name: &Symbol) -> Res
     Ok(Fault { kind, span, words })
 }
 
-fn name_table(alloc: Global, names: &[(Symbol, Label)]) -> Result<Names, Memory>
+fn name_table(alloc: Global, names: &[ImportedName]) -> Result<Names, Memory>
     ensures { IfOk result (λ table. (name : List ℕ) → has_name table name ≡ has_name names.now name) }
 {
-    let mut table = NameTable::new(alloc);
-    for (name, label) in names {
-        table.put_first(name.share()?, label.share()?)?;
+    let mut table = Names::new(alloc);
+    for row in names {
+        table.put_first(row.share()?)?;
     }
     Ok(table)
 }
@@ -195,23 +190,11 @@ fn new_name_table(alloc: Global, renamings: &[Renaming]) -> Result<NameTable<Sym
     Ok(table)
 }
 
-pub(crate) fn share_row(row: &(Symbol, Label)) -> Result<(Symbol, Label), Memory>
-    ensures { IfOk result (λ r. r ≡ row.now) }
-{
-    let name = row.0.share()?;
-    let label = row.1.share()?;
-    Ok((name, label))
-}
-
-fn add_if(
-    rows: &mut Items<(Symbol, Label)>,
-    row: &(Symbol, Label),
-    is_wanted: bool,
-) -> Result<(), Memory>
+fn add_if(rows: &mut Items<ImportedName>, row: &ImportedName, is_wanted: bool) -> Result<(), Memory>
     ensures { OnOk result (rows.new ≡ rows.old ++ (if is_wanted then row.now ∷ [] else [])) }
 {
     if is_wanted {
-        rows.push(share_row(row)?)
+        rows.push(row.share()?)
     } else {
         Ok(())
     }
@@ -220,15 +203,15 @@ fn add_if(
 // The names that are among the identifiers'.
 pub(crate) fn kept(
     alloc: Global,
-    names: &[(Symbol, Label)],
+    names: &[ImportedName],
     ids: &[NameAt],
-) -> Result<Items<(Symbol, Label)>, Memory>
+) -> Result<Items<ImportedName>, Memory>
     ensures { IfOk result (λ rows. rows ≡ only ids.now names.now) }
 {
     let table = id_table(alloc, ids)?;
     let mut rows = Items::new(alloc);
     for row in names {
-        add_if(&mut rows, row, has_name(&table, &row.0))?;
+        add_if(&mut rows, row, has_name(&table, &row.name))?;
     }
     Ok(rows)
 }
@@ -236,30 +219,31 @@ pub(crate) fn kept(
 // The names that aren't.
 pub(crate) fn left(
     alloc: Global,
-    names: &[(Symbol, Label)],
+    names: &[ImportedName],
     ids: &[NameAt],
-) -> Result<Items<(Symbol, Label)>, Memory>
+) -> Result<Items<ImportedName>, Memory>
     ensures { IfOk result (λ rows. rows ≡ except ids.now names.now) }
 {
     let table = id_table(alloc, ids)?;
     let mut rows = Items::new(alloc);
     for row in names {
-        add_if(&mut rows, row, !has_name(&table, &row.0))?;
+        add_if(&mut rows, row, !has_name(&table, &row.name))?;
     }
     Ok(rows)
 }
 
 pub(crate) fn prefixed(
     alloc: Global,
-    names: &[(Symbol, Label)],
+    names: &[ImportedName],
     symbol: &Symbol,
-) -> Result<Items<(Symbol, Label)>, Memory>
+) -> Result<Items<ImportedName>, Memory>
     ensures { IfOk result (λ rows. rows ≡ prefixed symbol.now names.now) }
 {
     let mut rows = Items::from_vec(Vec::with_capacity(alloc, names.len())?);
-    for (name, label) in names {
-        let name = with_prefix(alloc, symbol, name)?;
-        rows.push((name, label.share()?))?;
+    for row in names {
+        let name = with_prefix(alloc, symbol, &row.name)?;
+        let label = row.label.share()?;
+        rows.push(ImportedName { name, label })?;
     }
     Ok(rows)
 }
@@ -277,16 +261,17 @@ fn with_prefix(alloc: Global, symbol: &Symbol, name: &Symbol) -> Result<Symbol, 
 
 pub(crate) fn renamed(
     alloc: Global,
-    names: &[(Symbol, Label)],
+    names: &[ImportedName],
     renamings: &[Renaming],
-) -> Result<Items<(Symbol, Label)>, Memory>
+) -> Result<Items<ImportedName>, Memory>
     ensures { IfOk result (λ rows. rows ≡ renamed renamings.now names.now) }
 {
     let table = new_name_table(alloc, renamings)?;
     let mut rows = Items::new(alloc);
-    for (name, label) in names {
-        let name = new_name(&table, name)?;
-        rows.push((name, label.share()?))?;
+    for row in names {
+        let name = new_name(&table, &row.name)?;
+        let label = row.label.share()?;
+        rows.push(ImportedName { name, label })?;
     }
     Ok(rows)
 }
@@ -303,9 +288,9 @@ fn new_name(table: &NameTable<Symbol>, name: &Symbol) -> Result<Symbol, Memory>
 // Names from a list in which some may come twice.
 pub(crate) fn joined(
     alloc: Global,
-    names: &[(Symbol, Label)],
+    names: &[ImportedName],
     span: &Span,
-) -> Result<Items<(Symbol, Label)>, Stop>
+) -> Result<Items<ImportedName>, Stop>
     ensures { Gives (λ rows. rows) result (joined span.now [] names.now) }
 {
     let all = joined_table(alloc, names, span)?;
@@ -315,18 +300,18 @@ pub(crate) fn joined(
 // The same in a table.
 pub(crate) fn joined_table(
     alloc: Global,
-    names: &[(Symbol, Label)],
+    names: &[ImportedName],
     span: &Span,
 ) -> Result<Names, Stop>
     ensures { Gives (λ rows. rows) result (joined span.now [] names.now) }
 {
-    let mut all = NameTable::new(alloc);
+    let mut all = Names::new(alloc);
     join_each(alloc, &mut all, names, span)?;
     Ok(all)
 }
 
 /// The names of a table, in order.
-pub fn rows(alloc: Global, names: &Names) -> Result<Items<(Symbol, Label)>, Memory>
+pub fn rows(alloc: Global, names: &Names) -> Result<Items<ImportedName>, Memory>
     ensures { IfOk result (λ rows. rows ≡ names.now) }
 {
     let mut rows = Items::new(alloc);
@@ -334,17 +319,14 @@ pub fn rows(alloc: Global, names: &Names) -> Result<Items<(Symbol, Label)>, Memo
         let Some((name, label)) = names.at(place) else {
             return Err(Memory);
         };
-        rows.push((name.share()?, label.share()?))?;
+        let name = name.share()?;
+        let label = label.share()?;
+        rows.push(ImportedName { name, label })?;
     }
     Ok(rows)
 }
 
-fn join_each(
-    alloc: Global,
-    all: &mut Names,
-    more: &[(Symbol, Label)],
-    span: &Span,
-) -> Result<(), Stop>
+fn join_each(alloc: Global, all: &mut Names, more: &[ImportedName], span: &Span) -> Result<(), Stop>
     ensures names { Gives (λ _. all.new) result (joined span.now all.old more.now) }
     ensures front { (tail : Labelled) × (all.new ≡ all.old ++ tail) }
 {
@@ -354,25 +336,25 @@ fn join_each(
     Ok(())
 }
 
-fn join_one(alloc: Global, all: &mut Names, row: &(Symbol, Label), span: &Span) -> Result<(), Stop>
+fn join_one(alloc: Global, all: &mut Names, row: &ImportedName, span: &Span) -> Result<(), Stop>
     ensures names { Gives (λ _. all.new) result (join_one span.now all.old row.now) }
     ensures front { (tail : Labelled) × (all.new ≡ all.old ++ tail) }
 {
-    if let Some(label) = all.get(&row.0) {
+    if let Some(label) = all.get(&row.name) {
         return join_again(alloc, label, row, span);
     }
-    all.put_new(row.0.share()?, row.1.share()?)?;
+    all.put_new(row.share()?)?;
     Ok(())
 }
 
 // A name that is there already.
-fn join_again(alloc: Global, label: &Label, row: &(Symbol, Label), span: &Span) -> Result<(), Stop>
-    ensures { Gives (λ u. u) result (if same_name label.now.0 row.now.1.0 then Ok tt else Err (conflict span.now row.now.0)) }
+fn join_again(alloc: Global, label: &Label, row: &ImportedName, span: &Span) -> Result<(), Stop>
+    ensures { Gives (λ u. u) result (if same_name label.now.0 row.now.label.0 then Ok tt else Err (conflict span.now row.now.name)) }
 {
-    if label.0 == row.1.0 {
+    if label.0 == row.label.0 {
         Ok(())
     } else {
-        Err(fault_at(alloc, FaultKind::ImportConflict, span, &row.0))
+        Err(fault_at(alloc, FaultKind::ImportConflict, span, &row.name))
     }
 }
 
@@ -382,7 +364,7 @@ fn join_again(alloc: Global, label: &Label, row: &(Symbol, Label), span: &Span) 
 pub(crate) fn join_names(
     alloc: Global,
     all: &mut Names,
-    more: &[(Symbol, Label)],
+    more: &[ImportedName],
     span: &Span,
 ) -> Result<(), Stop>
     ensures names { Gives (λ _. all.new) result (joined span.now all.old more.now) }

@@ -11,18 +11,17 @@ ghost use Rattle.load_import.specs.Shared.{steps_joined, IsEnough, IsEnoughIf};
 ghost use Rattle.load_import.specs.declared.set.ImportStep.TheVariants as word;
 
 use crate::found::found;
+use crate::imported::Names;
 use crate::names::{
-    Names, join_names, joined, joined_table, kept, left, need_in, prefixed, renamed, rows, sources,
-    taken,
+    join_names, joined, joined_table, kept, left, need_in, prefixed, renamed, rows, sources, taken,
 };
 use crate::set::{ImportStep, NameAt, Renaming};
 use crate::sources::ImportSource;
 use base_data::fault::Stop;
+use base_data::imported_name::ImportedName;
 use base_data::items::Items;
 use base_data::memory::Memory;
-use base_data::name::Label;
 use base_data::span::Span;
-use base_data::symbol::Symbol;
 use std::alloc::Global;
 use std::marker::Model;
 use std::rc::Rc;
@@ -30,15 +29,15 @@ use std::rc::Rc;
 // Names in order and by name.
 #[derive(Drop)]
 struct Listing {
-    rows: Items<(Symbol, Label)>,
+    rows: Items<ImportedName>,
     names: Names,
 }
 
 impl Model for Listing {
-    ghost use Rattle.std.specs.Prelude.{◌≡◌, List, ℕ};
-    ghost use Rattle.base_data.specs.declared.name.Label.{Label};
+    ghost use Rattle.std.specs.Prelude.{◌≡◌, List};
+    ghost use Rattle.base_data.specs.declared.imported_name.ImportedName.{ImportedName};
 
-    ghost Value = { List (List ℕ × Label) };
+    ghost Value = { List ImportedName };
 
     ghost view = { λ l. l.names };
 
@@ -46,7 +45,7 @@ impl Model for Listing {
 }
 
 impl Listing {
-    fn rows(&self) -> &[(Symbol, Label)]
+    fn rows(&self) -> &[ImportedName]
         ensures { result.now ≡ self.now }
     {
         self.rows.as_slice()
@@ -66,10 +65,10 @@ pub struct Exports {
 }
 
 impl Model for Exports {
-    ghost use Rattle.std.specs.Prelude.{List, ℕ};
-    ghost use Rattle.base_data.specs.declared.name.Label.{Label};
+    ghost use Rattle.std.specs.Prelude.{List};
+    ghost use Rattle.base_data.specs.declared.imported_name.ImportedName.{ImportedName};
 
-    ghost Value = { List (List ℕ × Label) };
+    ghost Value = { List ImportedName };
 
     ghost view = { λ e. e.listing.value };
 }
@@ -84,7 +83,7 @@ fn listed(alloc: Global, names: Names) -> Result<Exports, Memory>
 
 impl Exports {
     /// The names of a list in which some may come twice. One that stands for two labels is `ImportConflict` at a set.
-    pub fn new(alloc: Global, names: &[(Symbol, Label)], span: &Span) -> Result<Exports, Stop>
+    pub fn new(alloc: Global, names: &[ImportedName], span: &Span) -> Result<Exports, Stop>
         ensures { Gives (λ e. e) result (joined span.now [] names.now) }
     {
         let names = joined_table(alloc, names, span)?;
@@ -100,7 +99,7 @@ impl Exports {
     }
 
     /// The names in order.
-    pub fn rows(&self) -> &[(Symbol, Label)]
+    pub fn rows(&self) -> &[ImportedName]
         ensures { result.now ≡ self.now }
     {
         let listing: &Listing = &self.listing;
@@ -117,7 +116,7 @@ impl Exports {
 }
 
 #[tactic(auto, using(crate::proofs::NameLemmas::need_met, crate::proofs::NameLemmas::need_stops))]
-fn only(alloc: Global, exports: &Exports, ids: &[NameAt]) -> Result<Items<(Symbol, Label)>, Stop>
+fn only(alloc: Global, exports: &Exports, ids: &[NameAt]) -> Result<Items<ImportedName>, Stop>
     ensures { Gives (λ names. names) result (need exports.now ids.now (Ok (only ids.now exports.now))) }
 {
     need_in(alloc, exports.names(), ids)?;
@@ -125,7 +124,7 @@ fn only(alloc: Global, exports: &Exports, ids: &[NameAt]) -> Result<Items<(Symbo
 }
 
 #[tactic(auto, using(crate::proofs::NameLemmas::need_met, crate::proofs::NameLemmas::need_stops))]
-fn except(alloc: Global, exports: &Exports, ids: &[NameAt]) -> Result<Items<(Symbol, Label)>, Stop>
+fn except(alloc: Global, exports: &Exports, ids: &[NameAt]) -> Result<Items<ImportedName>, Stop>
     ensures { Gives (λ names. names) result (need exports.now ids.now (Ok (except ids.now exports.now))) }
 {
     need_in(alloc, exports.names(), ids)?;
@@ -138,7 +137,7 @@ fn rename(
     exports: &Exports,
     renamings: &[Renaming],
     span: &Span,
-) -> Result<Items<(Symbol, Label)>, Stop>
+) -> Result<Items<ImportedName>, Stop>
     ensures { Gives (λ names. names) result (need exports.now (sources renamings.now) (joined span.now [] (renamed renamings.now exports.now))) }
 {
     let ids = sources(alloc, renamings)?;
@@ -153,7 +152,7 @@ fn first_names(
     exports: &Exports,
     step: &ImportStep,
     span: &Span,
-) -> Result<Items<(Symbol, Label)>, Stop>
+) -> Result<Items<ImportedName>, Stop>
     ensures { Gives (λ names. names) result (step_names span.now exports.now step.now) }
 {
     match step {
@@ -190,7 +189,7 @@ fn join_others(
 fn join_taken(
     alloc: Global,
     all: &mut Names,
-    names: Items<(Symbol, Label)>,
+    names: Items<ImportedName>,
     steps: &[ImportStep],
     span: &Span,
 ) -> Result<(), Stop>
@@ -206,7 +205,7 @@ fn join_whole(
     all: &mut Names,
     source: &ImportSource,
     span: &Span,
-) -> Result<Option<Items<(Symbol, Label)>>, Stop>
+) -> Result<Option<Items<ImportedName>>, Stop>
     requires { IsEnough all.old source.now.exports source.now.fresh }
     ensures names { Gives (λ _. all.new) result (joined span.now all.old source.now.exports) }
     ensures front { OnOk result ((tail : Labelled) × (all.new ≡ all.old ++ tail)) }
@@ -227,7 +226,7 @@ fn join_but(
     source: &ImportSource,
     ids: &[NameAt],
     span: &Span,
-) -> Result<Option<Items<(Symbol, Label)>>, Stop>
+) -> Result<Option<Items<ImportedName>>, Stop>
     requires { IsEnough all.old source.now.exports source.now.fresh }
     ensures names { Gives (λ _. all.new) result (joined span.now all.old (except ids.now source.now.exports)) }
     ensures front { OnOk result ((tail : Labelled) × (all.new ≡ all.old ++ tail)) }
@@ -250,7 +249,7 @@ fn join_except(
     source: &ImportSource,
     ids: &[NameAt],
     span: &Span,
-) -> Result<Option<Items<(Symbol, Label)>>, Stop>
+) -> Result<Option<Items<ImportedName>>, Stop>
     requires { IsEnough all.old source.now.exports source.now.fresh }
     ensures names { Gives (λ _. all.new) result (need source.now.exports ids.now (joined span.now all.old (except ids.now source.now.exports))) }
     ensures front { OnOk result ((tail : Labelled) × (all.new ≡ all.old ++ tail)) }
@@ -276,7 +275,7 @@ fn join_steps(
     source: &ImportSource,
     steps: &ImportSteps,
     span: &Span,
-) -> Result<Option<Items<(Symbol, Label)>>, Stop>
+) -> Result<Option<Items<ImportedName>>, Stop>
     requires { IsEnough all.old source.now.exports source.now.fresh }
     ensures names { Gives (λ _. all.new) result (steps_joined span.now all.old source.now.exports (steps.now.innermost.now ∷ steps.now.others.now)) }
     ensures front { OnOk result ((tail : Labelled) × (all.new ≡ all.old ++ tail)) }
@@ -297,7 +296,7 @@ pub(crate) fn join_set(
     source: &ImportSource,
     steps: &[ImportStep],
     span: &Span,
-) -> Result<Option<Items<(Symbol, Label)>>, Stop>
+) -> Result<Option<Items<ImportedName>>, Stop>
     requires { IsEnough all.old source.now.exports source.now.fresh }
     ensures names { Gives (λ _. all.new) result (steps_joined span.now all.old source.now.exports steps.now) }
     ensures front { OnOk result ((tail : Labelled) × (all.new ≡ all.old ++ tail)) }

@@ -10,17 +10,17 @@ ghost use Rattle.load_import.specs.Shared.{steps_joined, IsEnough, IsEnoughIf};
 ghost use Rattle.load_import.specs.Sources.{source_in, names_in, AreEnough};
 ghost use Rattle.load_import.specs.declared.sources.ImportSource.{ImportSource};
 
-use crate::names::{Names, rows};
+use crate::imported::Names;
+use crate::names::rows;
 use crate::set::ImportSet;
 use crate::shared::{Exports, join_set};
 use base_data::fault::Stop;
+use base_data::imported_name::ImportedName;
 use base_data::items::Items;
 use base_data::library::LibName;
 use base_data::map::NameMap;
 use base_data::memory::Memory;
-use base_data::name::Label;
 use base_data::span::Span;
-use base_data::symbol::Symbol;
 use std::alloc::Global;
 
 /// A library that a form imports from.
@@ -28,7 +28,7 @@ use std::alloc::Global;
 pub struct ImportSource {
     pub exports: Exports,
     /// These names are enough to join all of the library: the others are joined.
-    pub fresh: Items<(Symbol, Label)>,
+    pub fresh: Items<ImportedName>,
 }
 
 /// Libraries that a form imports from, by their names.
@@ -74,7 +74,7 @@ fn join_from(
     all: &mut Names,
     set: &ImportSet,
     span: &Span,
-) -> Result<Option<Items<(Symbol, Label)>>, Stop>
+) -> Result<Option<Items<ImportedName>>, Stop>
     requires { AreEnough all.old sources.now.entries }
     ensures given { (names : Labelled) → names_in set.now.library sources.now.entries ≡ Some names → Gives (λ _. all.new) result (steps_joined span.now all.old names set.now.steps) }
     ensures front { OnOk result ((tail : Labelled) × (all.new ≡ all.old ++ tail)) }
@@ -90,7 +90,7 @@ fn join_from(
 fn keep_fresh(
     sources: &mut Sources,
     library: &LibName,
-    fresh: Items<(Symbol, Label)>,
+    fresh: Items<ImportedName>,
 ) -> Result<(), Memory>
     ensures names { OnOk result ((l : LibName) → names_in l sources.new.entries ≡ names_in l sources.old.entries) }
     ensures enough { OnOk result ((all : Labelled) → AreEnough all sources.old.entries

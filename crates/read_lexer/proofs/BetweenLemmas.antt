@@ -107,7 +107,7 @@ module _ (file : List ℕ) where
   block_sound (p ∷ q ∷ rest) os depth at to len e =
       block_first os depth at to p q rest (is_none p.char) len refl (block_sound rest) (block_sound (q ∷ rest)) e
 
-some_of : (c : ℕ) (char : Option ℕ) → is_char c char ≡ true → is_none char ≡ false
+pub some_of : (c : ℕ) (char : Option ℕ) → is_char c char ≡ true → is_none char ≡ false
 some_of c None h = absurd (cc)
 some_of c (Some d) h = refl
 
@@ -119,7 +119,7 @@ pub right : (a b : Bool) → (a && b) ≡ true → b ≡ true
 right true b h = h
 right false b h = absurd (cc)
 
-other_char : (c d : ℕ) (char : Option ℕ) → (c ≡ d → ⊥) → is_char c char ≡ true → is_char d char ≡ false
+pub other_char : (c d : ℕ) (char : Option ℕ) → (c ≡ d → ⊥) → is_char c char ≡ true → is_char d char ≡ false
 other_char c d None differ h = refl
 other_char c d (Some e) differ h = grind (arith, nat_tests)
 
@@ -127,7 +127,7 @@ not_both : (a b : Bool) → a ≡ false → (a && b) ≡ false
 not_both a b h = rw h refl
 
 -- a `#|` is no `|#`
-opens_alone : (p q : Decoded) (rest : List Decoded) → opens (p ∷ q ∷ rest) ≡ true → closes (p ∷ q ∷ rest) ≡ false
+pub opens_alone : (p q : Decoded) (rest : List Decoded) → opens (p ∷ q ∷ rest) ≡ true → closes (p ∷ q ∷ rest) ≡ false
 opens_alone p q rest h =
     not_both (is_char 0x7C p.char) (is_char 0x23 q.char) (other_char 0x23 0x7C p.char (λ e. cc) (left (is_char 0x23 p.char) (is_char 0x7C q.char) h))
 
@@ -209,12 +209,12 @@ pub first_ascii : (bytes : List ℕ) (c size b : ℕ) (ps : List Decoded) → ch
 first_ascii bytes c size b ps e h small =
     first_of bytes c size b (first_char bytes (piece (Some c) size) ps e) (some_bytes bytes (piece (Some c) size) ps e) h small
 
-starts_block : (bytes : List ℕ) → starts_with nat_eq bytes (codes "#|") ≡ true → (slice_index bytes 0 ≡ 0x23) × (slice_index bytes 1 ≡ 0x7C)
+pub starts_block : (bytes : List ℕ) → starts_with nat_eq bytes (codes "#|") ≡ true → (slice_index bytes 0 ≡ 0x23) × (slice_index bytes 1 ≡ 0x7C)
 starts_block [] h = absurd (cc)
 starts_block (b ∷ []) h = absurd (grind (arith, nat_tests))
 starts_block (b ∷ c ∷ cs) h = (grind (arith, nat_tests), grind (arith, nat_tests))
 
-starts_mark : (bytes : List ℕ) → starts_with nat_eq bytes (codes "#!r6rs") ≡ true → (slice_index bytes 0 ≡ 0x23) × (slice_index bytes 1 ≡ 0x21)
+pub starts_mark : (bytes : List ℕ) → starts_with nat_eq bytes (codes "#!r6rs") ≡ true → (slice_index bytes 0 ≡ 0x23) × (slice_index bytes 1 ≡ 0x21)
 starts_mark [] h = absurd (cc)
 starts_mark (b ∷ []) h = absurd (grind (arith, nat_tests))
 starts_mark (b ∷ c ∷ cs) h = (grind (arith, nat_tests), grind (arith, nat_tests))
@@ -270,7 +270,7 @@ by_first [] b some h = absurd (omega arith)
 by_first (a ∷ bs) b some h = omega arith
 
 -- it takes some bytes
-atmosphere_some : (bytes : List ℕ) (n : ℕ) → Atmosphere bytes n → (0 < n) × (0 < length bytes)
+pub atmosphere_some : (bytes : List ℕ) (n : ℕ) → Atmosphere bytes n → (0 < n) × (0 < length bytes)
 atmosphere_some _ _ (Atmosphere.whitespace bytes c size rest e white) = (first_some bytes c size rest e, some_bytes bytes (piece (Some c) size) rest e)
 atmosphere_some _ _ (Atmosphere.line_comment bytes n h line) = (omega arith, by_first bytes 0x3B (omega arith) h)
 atmosphere_some _ _ (Atmosphere.block_comment bytes n h block) = (omega arith, by_first bytes 0x23 (omega arith) (starts_block bytes h).0)

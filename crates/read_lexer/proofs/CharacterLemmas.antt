@@ -17,7 +17,7 @@ use Rattle.read_spelling.specs.Numbers.{is_digits}
 use Rattle.read_spelling.specs.Source.{characters, piece}
 use Rattle.read_spelling.specs.Whitespace.{is_delimited, runs_on}
 
-number_same : (a b : ℕ) → ◌≡◌ {A = Result ℕ Fault} (Ok a) (Ok b) → a ≡ b
+pub number_same : (a b : ℕ) → ◌≡◌ {A = Result ℕ Fault} (Ok a) (Ok b) → a ≡ b
 number_same a b e = cc
 
 both : (a b : Bool) → a ≡ true → b ≡ true → (a && b) ≡ true

@@ -242,7 +242,7 @@ four from t a b c d false false false true rest h = ok_lexeme d t from (from + 2
 four from t a b c d false false false false rest h = absurd (cc)
 
 -- a byte that passes a test is none that doesn't
-tells : (test : ℕ → Bool) (b c : ℕ) → test b ≡ true → test c ≡ false → b == c ≡ false
+pub tells : (test : ℕ → Bool) (b c : ℕ) → test b ≡ true → test c ≡ false → b == c ≡ false
 tells test b c h n = not_equal b c (λ e. let f = sym h ∙ ap test e ∙ n in cc)
 
 bind_ok : (r : Result ℕ Fault) (to : ℕ) (k : ℕ → Result Lexeme Fault) → r ≡ Ok to → (r >>= k) ≡ k to

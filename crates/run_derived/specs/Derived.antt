@@ -1,11 +1,11 @@
 -- The derived library: the forms that are defined in terms of core forms (R6RS 11; libraries report 5 and 12), as a text that is expanded
 -- before all other libraries of a run.
 use Rattle.std.specs.Prelude.{ℕ, List, [], ◌∷◌, ◌++◌, Option, None, Some, Result, Ok, Err, if◌then◌else◌}
-use Rattle.std.specs.Map.{lookup}
 use Rattle.base_data.specs.Datum.{PlainDatum}
 use Rattle.base_data.specs.Gives.{◌>>=◌}
 use Rattle.base_data.specs.Same.{same_library}
 use Rattle.base_data.specs.declared.fault.Fault.{Fault}
+use Rattle.base_data.specs.declared.imported_name.ImportedName.{ImportedName}
 use Rattle.base_data.specs.declared.library.LibName.TheVariants as library
 use Rattle.base_data.specs.declared.name.Label.{Label}
 use Rattle.load_builtin.specs.Exports.{derived}
@@ -13,7 +13,7 @@ use Rattle.load_builtin.specs.declared.derived.TheConstants.{DERIVED_SOURCE}
 use Rattle.core_language.specs.declared.record.CompiledLibrary.{CompiledLibrary}
 use Rattle.eval_code.specs.Codes.{Codes}
 use Rattle.expand_forms.specs.Expanding.{ready, library_record, library_spent}
-use Rattle.load_import.specs.Table.{same_text}
+use Rattle.load_import.specs.Names.{label_named}
 use Rattle.run_prelude.specs.Prelude.{at_place}
 use Rattle.run_prelude.specs.Spent.{spent_behind}
 use Rattle.read_reader.specs.Read.{data_of, file_nesting}
@@ -57,5 +57,5 @@ abbrev pub label_or : Label → Option Label → Label
 label_or l None = l
 label_or l (Some m) = m
 
-abbrev pub relabelled_in : CompiledLibrary → List ℕ × Label → List ℕ × Label
-relabelled_in r e = if same_library e.1.0.library library.Derived then (e.0, label_or e.1 (lookup (same_text e.0) r.exports)) else e
+abbrev pub relabelled_in : CompiledLibrary → ImportedName → ImportedName
+relabelled_in r e = if same_library e.label.0.library library.Derived then record { name = e.name; label = label_or e.label (label_named e.name r.exports) } else e

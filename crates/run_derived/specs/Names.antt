@@ -2,8 +2,8 @@
 use Rattle.std.specs.Prelude.{ℕ, zero, suc, ◌+◌, List, [], ◌∷◌, ◌++◌, codes, Bool, true, false, Option, None, Some, if◌then◌else◌}
 use Rattle.std.specs.List.{flat_map}
 use Rattle.base_data.specs.Op.{name_count, op_text}
+use Rattle.base_data.specs.declared.imported_name.ImportedName.{ImportedName}
 use Rattle.base_data.specs.declared.library.LibName.TheVariants as library
-use Rattle.base_data.specs.declared.name.Label.{Label}
 use Rattle.base_data.specs.declared.span.Span.{Span}
 use Rattle.load_builtin.specs.Exports.{derived, is_number, label_at}
 use Rattle.stx_tree.specs.Context.{blank}
@@ -21,15 +21,19 @@ abbrev pub is_defined : ℕ → List (Option ℕ) → Bool
 is_defined n [] = false
 is_defined n (d ∷ ds) = if is_number n d then true else is_defined n ds
 
-abbrev pub name_at : List (Option ℕ) → ℕ → List (List ℕ × Label)
-name_at ds n = if is_defined n ds then [] else (op_text n, label_at library.Core n) ∷ []
+-- a name of the implementation that stands for itself
+abbrev pub core_name : ℕ → ImportedName
+core_name n = record { name = op_text n; label = label_at library.Core n }
+
+abbrev pub name_at : List (Option ℕ) → ℕ → List ImportedName
+name_at ds n = if is_defined n ds then [] else core_name n ∷ []
 
 -- so many names, from a number on, without those of these definitions
-unfoldable pub names_from : List (Option ℕ) → ℕ → ℕ → List (List ℕ × Label)
+unfoldable pub names_from : List (Option ℕ) → ℕ → ℕ → List ImportedName
 names_from ds n zero = []
 names_from ds n (suc count) = name_at ds n ++ names_from ds (n + 1) count
 
-abbrev pub names : List (List ℕ × Label)
+abbrev pub names : List ImportedName
 names = names_from derived 0 name_count
 
 -- It exports, in the order of definition, what isn't for itself alone.

@@ -1,9 +1,8 @@
 //! The record of the derived library.
 
 ghost use Rattle.std.specs.Prelude.{◌≡◌, ◌<◌, ◌+◌, ◌^◌, length, [], false, IfOk, OnOk, Ok};
-ghost use Rattle.std.specs.Map.{lookup};
 ghost use Rattle.base_data.specs.Gives.{Gives};
-ghost use Rattle.load_import.specs.Table.{same_text};
+ghost use Rattle.load_import.specs.Names.{label_named};
 ghost use Rattle.base_data.specs.declared.library.LibName.TheVariants as library;
 ghost use Rattle.load_builtin.specs.Exports.{derived};
 ghost use Rattle.eval_code.specs.Codes as table;
@@ -16,6 +15,7 @@ use crate::implementation::Implementation;
 use crate::names::{exports, names, path, start};
 use base_data::datum::Datum;
 use base_data::fault::{Bare, BareStop, Fault, Stop};
+use base_data::imported_name::ImportedName;
 use base_data::items::Items;
 use base_data::library::LibName;
 use base_data::memory::Memory;
@@ -80,14 +80,14 @@ struct DerivedText<'a> {
     alloc: Global,
     /// Its start.
     place: &'a Span,
-    imports: &'a [(Symbol, Label)],
+    imports: &'a [ImportedName],
     exports: &'a [(Symbol, Syn)],
 }
 
 // An expander behind no records.
 fn expander_of<L: Ledger>(
     alloc: Global,
-    names: &[(Symbol, Label)],
+    names: &[ImportedName],
     supplies: Supplies<L>,
 ) -> Result<Expander<L>, Stop>
     ensures { Gives (λ e. e) result (Ok (ready library.Derived path [] names.now (table.seen supplies.codes.entries))) }
@@ -177,27 +177,24 @@ pub fn derived_record<N: Ledger, L: Ledger>(
 
 // The label under which a record exports a name, or another.
 fn label_in(derived: &CompiledLibrary, name: &Symbol, label: &Label) -> Result<Label, Memory>
-    ensures { IfOk result (λ l. l ≡ label_or label.now (lookup (same_text name.now) derived.now.exports)) }
+    ensures { IfOk result (λ l. l ≡ label_or label.now (label_named name.now derived.now.exports)) }
 {
-    for (exported, own) in derived.exports.as_slice() {
-        if *name == *exported {
-            return own.share();
+    for exported in derived.exports.as_slice() {
+        if *name == exported.name {
+            return exported.label.share();
         }
     }
     label.share()
 }
 
 /// A name of the implementation with what it stands for: a derived one for the label under which the record exports it.
-pub fn relabelled(
-    derived: &CompiledLibrary,
-    name: &Symbol,
-    label: &Label,
-) -> Result<(Symbol, Label), Memory>
-    ensures { IfOk result (λ e. e ≡ relabelled_in derived.now (name.now, label.now)) }
+pub fn relabelled(derived: &CompiledLibrary, given: &ImportedName) -> Result<ImportedName, Memory>
+    ensures { IfOk result (λ e. e ≡ relabelled_in derived.now given.now) }
 {
-    let shared = name.share()?;
-    if *label.0.library != LibName::Derived {
-        return Ok((shared, label.share()?));
+    if *given.label.0.library != LibName::Derived {
+        return given.share();
     }
-    Ok((shared, label_in(derived, name, label)?))
+    let name = given.name.share()?;
+    let label = label_in(derived, &given.name, &given.label)?;
+    Ok(ImportedName { name, label })
 }

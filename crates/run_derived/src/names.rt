@@ -6,6 +6,7 @@ ghost use Rattle.base_data.specs.declared.library.LibName.TheVariants as library
 ghost use Rattle.load_builtin.specs.Exports.{derived};
 ghost use Rattle.run_derived.specs.Names.{path, start, is_defined, name_at, names_from, names, export_at, exports_of};
 
+use base_data::imported_name::ImportedName;
 use base_data::items::Items;
 use base_data::library::LibName;
 use base_data::memory::Memory;
@@ -54,7 +55,7 @@ fn push_name(
     core: &Rc<LibName>,
     definitions: &[Option<u16>],
     number: u16,
-    names: &mut Items<(Symbol, Label)>,
+    names: &mut Items<ImportedName>,
 ) -> Result<(), Memory>
     requires known { number < name_count }
     requires core { core.now.value ≡ library.Core }
@@ -63,13 +64,13 @@ fn push_name(
     if is_defined(definitions, number) {
         return Ok(());
     }
-    let symbol = Symbol::new(alloc, op_text(&Op(number)))?;
+    let name = Symbol::new(alloc, op_text(&Op(number)))?;
     let library = core.clone()?;
-    let name = Name {
+    let label = Label(Name {
         library,
         number: number as u64,
-    };
-    names.push((symbol, Label(name)))
+    });
+    names.push(ImportedName { name, label })
 }
 
 // So many names, without those of these definitions.
@@ -77,7 +78,7 @@ fn names_of(
     alloc: Global,
     definitions: &[Option<u16>],
     count: u16,
-) -> Result<Items<(Symbol, Label)>, Memory>
+) -> Result<Items<ImportedName>, Memory>
     requires { count ≤ name_count }
     ensures { IfOk result (λ es. es ≡ names_from definitions.now 0 count) }
 {
@@ -90,7 +91,7 @@ fn names_of(
 }
 
 /// The names that the library imports: all that it doesn't define, in the order of their numbers.
-pub(crate) fn names(alloc: Global) -> Result<Items<(Symbol, Label)>, Memory>
+pub(crate) fn names(alloc: Global) -> Result<Items<ImportedName>, Memory>
     ensures { IfOk result (λ es. es ≡ names) }
 {
     names_of(alloc, &DERIVED, NAME_COUNT)

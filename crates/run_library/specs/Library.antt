@@ -4,8 +4,8 @@ use Rattle.base_data.specs.Datum.{PlainDatum, span_of}
 use Rattle.base_data.specs.Gives.{◌>>=◌}
 use Rattle.base_data.specs.declared.fault.Bare.{Bare}
 use Rattle.base_data.specs.declared.fault.Fault.{Fault}
+use Rattle.base_data.specs.declared.imported_name.ImportedName.{ImportedName}
 use Rattle.base_data.specs.declared.span.Span.{Span}
-use Rattle.base_data.specs.declared.name.Label.{Label}
 use Rattle.stx_tree.specs.Context.{blank}
 use Rattle.stx_tree.specs.Measures.{within}
 use Rattle.stx_tree.specs.Tree.{Tree, leaf}
@@ -49,7 +49,7 @@ export_tree e = (e.0, leaf (Some e.1.span) e.1.name blank)
 -- ---- the record
 
 -- an expander behind these records, which knows what the procedures mean that are texts
-abbrev pub expander_of : Result Codes Fault → LibName → List ℕ → List CompiledLibrary → List (List ℕ × Label) → Result Expanding Fault
+abbrev pub expander_of : Result Codes Fault → LibName → List ℕ → List CompiledLibrary → List ImportedName → Result Expanding Fault
 expander_of prelude name path records names = prelude >>= (λ codes. Ok (ready name path records names codes))
 
 -- the names that the form imports, and the forms of its body

@@ -13,23 +13,21 @@ ghost use Rattle.load_files.specs.Load.{fitting, builtin_version};
 
 use crate::records::Needed;
 use base_data::fault::{FaultKind, Stop};
+use base_data::imported_name::ImportedName;
 use base_data::items::Items;
 use base_data::library::LibName;
 use base_data::map::new_map;
 use base_data::memory::Memory;
-use base_data::name::Label;
 use base_data::span::Span;
-use base_data::symbol::Symbol;
 use core_language::record::CompiledLibrary;
 use core_language::share::share_library;
 use load_builtin::exports::exports;
 use load_files::refer::{VERSION, about, check_version, is_builtin};
 use load_forms::set::Import;
-use load_import::names::Names;
+use load_import::imported::Names;
 use load_import::set::ImportSet;
 use load_import::shared::Exports;
 use load_import::sources::{Sources, add_source, has_source, join_source};
-use load_import::table::NameTable;
 use run_derived::derived::relabelled;
 use std::alloc::Global;
 
@@ -79,7 +77,7 @@ fn record_referred(
 fn import_all(alloc: Global, needed: &Needed, imports: &[Import]) -> Result<Names, Stop>
     ensures { Gives (λ names. names) result (turns (import_into (needed_records needed.now.records.now needed.now.marks.now)) [] imports.now) }
 {
-    let mut names = NameTable::new(alloc);
+    let mut names = Names::new(alloc);
     let mut sources = new_map(alloc);
     for import in imports {
         import_into(alloc, needed, &mut sources, &mut names, import)?;
@@ -133,7 +131,7 @@ fn exported(
     alloc: Global,
     needed: &Needed,
     library: &LibName,
-) -> Result<Items<(Symbol, Label)>, Memory>
+) -> Result<Items<ImportedName>, Memory>
     ensures { IfOk result (λ names. names ≡ exported (needed_records needed.now.records.now needed.now.marks.now) library.now) }
 {
     match exports(alloc, library)? {
@@ -146,8 +144,8 @@ fn exported(
 fn given_names(
     alloc: Global,
     derived: Option<&CompiledLibrary>,
-    names: Items<(Symbol, Label)>,
-) -> Result<Items<(Symbol, Label)>, Memory>
+    names: Items<ImportedName>,
+) -> Result<Items<ImportedName>, Memory>
     ensures { IfOk result (λ es. es ≡ given_names (option_map (λ r. r.now) derived.entry) names) }
 {
     match derived {
@@ -159,13 +157,13 @@ fn given_names(
 fn all_relabelled(
     alloc: Global,
     derived: &CompiledLibrary,
-    names: &[(Symbol, Label)],
-) -> Result<Items<(Symbol, Label)>, Memory>
+    names: &[ImportedName],
+) -> Result<Items<ImportedName>, Memory>
     ensures { IfOk result (λ es. es ≡ map (λ e. relabelled_in derived.now e) names.now) }
 {
     let mut all = Items::new(alloc);
-    for (name, label) in names {
-        let one = relabelled(derived, name, label)?;
+    for name in names {
+        let one = relabelled(derived, name)?;
         all.push(one)?;
     }
     Ok(all)
@@ -174,7 +172,7 @@ fn all_relabelled(
 fn record_exports(
     alloc: Global,
     one: Option<&CompiledLibrary>,
-) -> Result<Items<(Symbol, Label)>, Memory>
+) -> Result<Items<ImportedName>, Memory>
     ensures { IfOk result (λ names. names ≡ record_exports (option_map (λ r. r.now) one.entry)) }
 {
     match one {
@@ -183,12 +181,12 @@ fn record_exports(
     }
 }
 
-fn share_names(alloc: Global, names: &[(Symbol, Label)]) -> Result<Items<(Symbol, Label)>, Memory>
+fn share_names(alloc: Global, names: &[ImportedName]) -> Result<Items<ImportedName>, Memory>
     ensures { IfOk result (λ shared. shared ≡ names.now) }
 {
     let mut shared = Items::new(alloc);
-    for (name, label) in names {
-        shared.push((name.share()?, label.share()?))?;
+    for name in names {
+        shared.push(name.share()?)?;
     }
     Ok(shared)
 }

@@ -12,10 +12,10 @@ use crate::imports::form_names;
 use crate::records::Needed;
 use base_data::datum::Datum;
 use base_data::fault::{Bare, BareStop, Fault, Stop};
+use base_data::imported_name::ImportedName;
 use base_data::items::Items;
 use base_data::library::LibName;
 use base_data::memory::Memory;
-use base_data::name::Label;
 use base_data::span::Span;
 use base_data::symbol::Symbol;
 use base_fuel::fuel::Unspent;
@@ -41,7 +41,7 @@ use stx_tree::marks::Marks;
 /// What the body of a library or a program is expanded from: the names that its form imports, and its forms.
 #[derive(Drop)]
 pub struct LibrarySource {
-    pub names: Items<(Symbol, Label)>,
+    pub names: Items<ImportedName>,
     pub forms: Items<Syn>,
 }
 
@@ -163,7 +163,7 @@ fn expander_behind<L: Ledger>(
     alloc: Global,
     origin: Origin,
     needed: &Needed,
-    names: &[(Symbol, Label)],
+    names: &[ImportedName],
     supplies: Supplies<L>,
 ) -> Result<Expander<L>, Stop>
     ensures { Gives (λ e. e) result (Ok (ready origin.name origin.path

@@ -8,10 +8,10 @@ use Rattle.base_data.specs.Same.{same_library}
 use Rattle.base_data.specs.declared.fault.Bare.{Bare}
 use Rattle.base_data.specs.declared.fault.Fault.{Fault}
 use Rattle.base_data.specs.declared.fault.FaultKind.TheVariants as kind
+use Rattle.base_data.specs.declared.imported_name.ImportedName.{ImportedName}
 use Rattle.base_data.specs.declared.library.LibName.{LibName}
 use Rattle.base_data.specs.declared.library.LibName.TheVariants as library
 use Rattle.base_data.specs.declared.name.CodeNo.{CodeNo}
-use Rattle.base_data.specs.declared.name.Label.{Label}
 use Rattle.base_data.specs.declared.span.Span.{Span}
 use Rattle.base_data.specs.declared.op.names.TheConstants as ops
 use Rattle.load_builtin.specs.Exports.{exports}
@@ -39,17 +39,17 @@ procedures = ops.MAP ∷ ops.FOR_EACH ∷ ops.FOR_ALL ∷ ops.EXISTS ∷ ops.FIL
 
 -- The names of `(rnrs)`, but those that the derived library defines.
 
-abbrev pub is_core : List ℕ × Label → Bool
-is_core e = same_library e.1.0.library library.Core
+abbrev pub is_core : ImportedName → Bool
+is_core e = same_library e.label.0.library library.Core
 
-abbrev pub core_names : Option (List (List ℕ × Label)) → List (List ℕ × Label)
+abbrev pub core_names : Option (List ImportedName) → List ImportedName
 core_names None = []
 core_names (Some es) = filter is_core es
 
-unfoldable pub names_of : LibName → List (List ℕ × Label)
+unfoldable pub names_of : LibName → List ImportedName
 names_of l = core_names (exports l)
 
-abbrev pub names : List (List ℕ × Label)
+abbrev pub names : List ImportedName
 names = names_of (library.User (codes "rnrs" ∷ []))
 
 -- One text.

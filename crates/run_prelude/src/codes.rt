@@ -13,11 +13,12 @@ ghost use Rattle.run_prelude.specs.Spent.{UnlessMemory};
 
 use base_data::datum::Datum;
 use base_data::fault::{Bare, BareStop, Fault, FaultKind, Stop};
+use base_data::imported_name::ImportedName;
 use base_data::items::Items;
 use base_data::library::LibName;
 use base_data::map::new_map;
 use base_data::memory::Memory;
-use base_data::name::{CodeNo, FrameNo, Label, Name};
+use base_data::name::{CodeNo, FrameNo, Name};
 use base_data::op::names::{
     EXISTS, FILTER, FIND, FOLD_LEFT, FOLD_RIGHT, FOR_ALL, FOR_EACH, MAP, MEMP, REMP,
 };
@@ -56,7 +57,7 @@ const PROCEDURES: [Op; 10] = [
 ];
 
 /// The names of `(rnrs)`, but those that the derived library defines.
-fn names(alloc: Global) -> Result<Items<(Symbol, Label)>, Memory>
+fn names(alloc: Global) -> Result<Items<ImportedName>, Memory>
     ensures { IfOk result (λ es. es ≡ names) }
 {
     let mut parts = Items::new(alloc);
@@ -65,7 +66,7 @@ fn names(alloc: Global) -> Result<Items<(Symbol, Label)>, Memory>
 }
 
 #[tactic(auto, unfolding(crate::specs::Prelude::names_of))]
-fn names_of(alloc: Global, library: &LibName) -> Result<Items<(Symbol, Label)>, Memory>
+fn names_of(alloc: Global, library: &LibName) -> Result<Items<ImportedName>, Memory>
     ensures { IfOk result (λ es. es ≡ names_of library.now) }
 {
     core_names(alloc, exports(alloc, library)?)
@@ -73,8 +74,8 @@ fn names_of(alloc: Global, library: &LibName) -> Result<Items<(Symbol, Label)>, 
 
 fn core_names(
     alloc: Global,
-    exported: Option<Items<(Symbol, Label)>>,
-) -> Result<Items<(Symbol, Label)>, Memory>
+    exported: Option<Items<ImportedName>>,
+) -> Result<Items<ImportedName>, Memory>
     ensures { IfOk result (λ es. es ≡ core_names exported) }
 {
     match exported {
@@ -83,13 +84,13 @@ fn core_names(
     }
 }
 
-fn only_core(alloc: Global, all: &[(Symbol, Label)]) -> Result<Items<(Symbol, Label)>, Memory>
+fn only_core(alloc: Global, all: &[ImportedName]) -> Result<Items<ImportedName>, Memory>
     ensures { IfOk result (λ es. es ≡ filter (λ e. is_core e) all.now) }
 {
     let mut names = Items::new(alloc);
-    for (name, label) in all {
-        if *label.0.library == LibName::Core {
-            names.push((name.share()?, label.share()?))?;
+    for name in all {
+        if *name.label.0.library == LibName::Core {
+            names.push(name.share()?)?;
         }
     }
     Ok(names)

@@ -23,7 +23,7 @@ acts-more xs x c = acts-append xs (x ∷ []) c
 pub left-entered : (m : Mark) (f : Option FrameNo) (c : LeafContext) → left m f (entered m c) ≡ c
 left-entered m f c = ap (λ b. cond b c (framed f (entered m (entered m c)))) (same_mark-refl m)
 
-marks-framed : (f : Option FrameNo) (c : LeafContext) → (framed f c).marks ≡ c.marks
+pub marks-framed : (f : Option FrameNo) (c : LeafContext) → (framed f c).marks ≡ c.marks
 marks-framed None c = refl
 marks-framed (Some f) c = refl
 

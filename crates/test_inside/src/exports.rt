@@ -42,14 +42,18 @@ fn told(alloc: Global, library: &LibName, place: usize) -> Result<String, Fail> 
     let Some(names) = exports(alloc, library)? else {
         return Ok(String::from_str(alloc, "none")?);
     };
-    let (symbol, label) = names.as_slice().get(place).ok_or("no name")?;
-    let library = if *label.0.library == LibName::Core {
+    let name = names.as_slice().get(place).ok_or("no name")?;
+    let library = if *name.label.0.library == LibName::Core {
         "core"
     } else {
         "derived"
     };
     let count = names.as_slice().len();
-    Ok(format!(in alloc; "{count} {} {library} {}", symbol.as_str(), label.0.number)?)
+    Ok(format!(in alloc;
+        "{count} {} {library} {}",
+        name.name.as_str(),
+        name.label.0.number
+    )?)
 }
 
 fn check(rt: &impl Abort, alloc: Global, rows: &str) -> Result<(), Fail> {

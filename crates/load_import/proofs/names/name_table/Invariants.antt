@@ -1,6 +1,6 @@
 use Rattle.std.proofs.Common.{◌≡◌, ◌++◌, [], drop, map, ℕ, List, length}
-use Rattle.load_import.specs.Table.{put_all}
+use Rattle.load_import.specs.Names.{put_each}
 use Rattle.load_import.proofs.names.name_table.Given as goal
 
-abbrev pub invariant-loop-name : goal.invariant-loop-name
-invariant-loop-name l = put_all l.table (drop l.name-index l.names) ≡ put_all [] l.names
+abbrev pub invariant-loop-row : goal.invariant-loop-row
+invariant-loop-row l = put_each l.table (drop l.row-index l.names) ≡ put_each [] l.names

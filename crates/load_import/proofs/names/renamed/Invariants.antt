@@ -2,5 +2,5 @@ use Rattle.std.proofs.Common.{◌≡◌, ◌++◌, [], drop, map, ℕ, List, len
 use Rattle.load_import.specs.Names.{renamed}
 use Rattle.load_import.proofs.names.renamed.Given as goal
 
-abbrev pub invariant-loop-name : goal.invariant-loop-name
-invariant-loop-name l = l.rows ++ renamed l.renamings (drop l.name-index l.names) ≡ renamed l.renamings l.names
+abbrev pub invariant-loop-row : goal.invariant-loop-row
+invariant-loop-row l = l.rows ++ renamed l.renamings (drop l.row-index l.names) ≡ renamed l.renamings l.names
