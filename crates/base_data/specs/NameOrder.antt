@@ -1,4 +1,4 @@
--- FreeNames rise by library, then by number.
+-- Names rise by library, then by number.
 use Rattle.std.specs.Prelude.{◌≡◌, Bool, true, false, ◌&&◌, nat_eq, refl}
 use Rattle.std.proofs.Common.{◌∙◌}
 use Rattle.std.specs.declared.cmp.Ordering.{Ordering}

@@ -1,11 +1,11 @@
-//! FreeNames of libraries.
+//! Names of libraries.
 
 ghost use Rattle.std.specs.Prelude.{◌≡◌};
 
 use crate::items::Items;
 use crate::symbol::Symbol;
 
-/// The name of a library, without its version. FreeNames rise in the order of the variants; those that
+/// The name of a library, without its version. Names rise in the order of the variants; those that
 /// users write rise by the number of their parts, and then part by part.
 #[derive(PartialEq, Eq, PartialOrd, Ord, Hash, Drop)]
 pub enum LibName {

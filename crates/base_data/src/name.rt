@@ -1,4 +1,4 @@
-//! FreeNames: a library, and a number of its own.
+//! Names: a library, and a number of its own.
 
 ghost use Rattle.std.specs.Cmp.{po};
 ghost use Rattle.std.specs.Ordering.{as_partial_cmp};

@@ -33,7 +33,7 @@ impl Calls {
         }
     }
 
-    /// CountsCall the next call. Where it is listed it fails.
+    /// Counts the next call. Where it is listed it fails.
     pub(crate) fn count(&mut self) -> Result<(), OutsideError>
         ensures listed { IsErr result ↔ IsTrue (fails_now self.old) }
         ensures error { IfErr result (λ error. error ≡ OutsideError.Failed) }
@@ -48,7 +48,7 @@ impl Calls {
         Ok(())
     }
 
-    /// CountsCall a failure that is no call of its own.
+    /// Counts a failure that is no call of its own.
     pub(crate) fn fail(&mut self) -> OutsideError
         ensures error { result ≡ OutsideError.Failed }
         ensures calls { self.new ≡ faulted self.old }

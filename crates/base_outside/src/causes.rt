@@ -23,7 +23,7 @@ impl From<Memory> for OutsideError {
     }
 }
 
-/// CountsCall a fault, and gives the error that tells of it.
+/// Counts a fault, and gives the error that tells of it.
 pub(crate) fn failed(faults: &mut u64) -> OutsideError
     ensures error { result ≡ OutsideError.Failed }
     ensures count { faults.new ≡ raised faults.old }

@@ -121,7 +121,7 @@ impl MemStore {
         add_pair(self.alloc, &mut self.pairs, place, bytes)
     }
 
-    /// CountsCall a failure that is no call of its own.
+    /// Counts a failure that is no call of its own.
     pub(crate) fn fail(&mut self) -> OutsideError
         ensures error { result ≡ OutsideError.Failed }
         ensures contents { self.new.contents ≡ self.old.contents }

@@ -1,4 +1,4 @@
--- How a check ends, by its definition: what `specs/CheckHeadline` says by the cases of the grammar.
+-- How a check ends, by its definition: what `specs/Headline` says by the cases of the grammar.
 use Rattle.std.specs.Prelude.{◌≡◌, ℕ, List, Option, None, Some, IfSome, string_bytes}
 use Rattle.check_verdict.specs.declared.run.FileReport.{FileReport}
 use Rattle.check_verdict.specs.declared.status.CheckStatus.{CheckStatus}

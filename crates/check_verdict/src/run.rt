@@ -167,8 +167,22 @@ pub fn check_run<F: Files, O: Sink, E: Sink>(
     err: &mut E,
 ) -> CheckStatus
     ensures headline { CheckHeadline (F.told files.old) (texts words.now) (F.faults files.old) (F.faults files.new)
-        (record { before = O.told out.old; after = O.told out.new; faults_before = O.faults out.old; faults_after = O.faults out.new; puts_before = O.puts out.old; puts_after = O.puts out.new })
-        (record { before = E.told err.old; after = E.told err.new; faults_before = E.faults err.old; faults_after = E.faults err.new; puts_before = E.puts err.old; puts_after = E.puts err.new }) result }
+        (record {
+          before = O.told out.old;
+          after = O.told out.new;
+          faults_before = O.faults out.old;
+          faults_after = O.faults out.new;
+          puts_before = O.puts out.old;
+          puts_after = O.puts out.new;
+        })
+        (record {
+          before = E.told err.old;
+          after = E.told err.new;
+          faults_before = E.faults err.old;
+          faults_after = E.faults err.new;
+          puts_before = E.puts err.old;
+          puts_after = E.puts err.new;
+        }) result }
     ensures complete { Complete (F.told files.old) (texts words.now) (Rose (F.faults files.old) (F.faults files.new))
         (Rose (O.faults out.old) (O.faults out.new)) (Rose (E.faults err.old) (E.faults err.new)) result }
 {
@@ -184,8 +198,22 @@ fn run_words<F: Files, O: Sink, E: Sink>(
     err: &mut E,
 ) -> CheckStatus
     ensures { Ended (F.told files.old) (texts words.now) (F.faults files.old) (F.faults files.new)
-        (record { before = O.told out.old; after = O.told out.new; faults_before = O.faults out.old; faults_after = O.faults out.new; puts_before = O.puts out.old; puts_after = O.puts out.new })
-        (record { before = E.told err.old; after = E.told err.new; faults_before = E.faults err.old; faults_after = E.faults err.new; puts_before = E.puts err.old; puts_after = E.puts err.new }) result }
+        (record {
+          before = O.told out.old;
+          after = O.told out.new;
+          faults_before = O.faults out.old;
+          faults_after = O.faults out.new;
+          puts_before = O.puts out.old;
+          puts_after = O.puts out.new;
+        })
+        (record {
+          before = E.told err.old;
+          after = E.told err.new;
+          faults_before = E.faults err.old;
+          faults_after = E.faults err.new;
+          puts_before = E.puts err.old;
+          puts_after = E.puts err.new;
+        }) result }
 {
     let Some(path) = file_named(words) else {
         return put_line(err, USAGE, CheckStatus::Usage);

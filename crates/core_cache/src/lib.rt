@@ -1,7 +1,7 @@
 //! Entries of a cache: what is kept of a library that was expanded, so that a later run need not expand it again.
 //!
 //! An entry is the path of the library's file, the roots under which libraries were looked for, the sources that its
-//! expansion read, and its record. A source is a path with the bytes that stood there, or the fact that nothing did.
+//! expansion read, and the compiled library, or record. A source is a path with the bytes that stood there, or the fact that nothing did.
 //! A later run takes the record instead of an expansion where it would read just these roots and sources.
 //!
 //! An entry is kept at a *place*: in the directory of the cache, a name that is the digest of the library's path and

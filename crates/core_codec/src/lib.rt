@@ -1,4 +1,4 @@
-//! How the record of a library is spelled as bytes.
+//! How a compiled library, or record, is spelled as bytes.
 //!
 //! `base_bytes` spells numbers, texts, lists, choices and names. Here its combinators make the codecs of everything else
 //! that a record holds: syntax trees and data, patterns, templates and core code, bindings, frame rows and lines of

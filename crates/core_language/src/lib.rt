@@ -3,7 +3,7 @@
 //! After expansion no keyword is left. A program is core expressions of a dozen kinds, in which every
 //! variable is known by its *label*. `(define (f x) (if x 1 2))` is the line that defines the label of
 //! `f` as the procedure with the formals (l), whose body is the `if` of the variable l and the quoted
-//! 1 and 2. A library's *record* has its lines, what its labels are bound to, and what it exports.
+//! 1 and 2. A *compiled library*, or record, has its lines, what its labels are bound to, and what it exports.
 //! `syntax` and `syntax-case` stay in the code of transformers, with their patterns and templates.
 //!
 //! Each type is seen as plain data: an expression as `PlainCore`, whose parts are expressions and

@@ -1,4 +1,4 @@
-//! Records of libraries: what expansion makes of a library.
+//! Compiled libraries: what expansion makes of a library or a program.
 
 use crate::binding::Binding;
 use crate::code::Core;

@@ -1,6 +1,6 @@
-//! Records of libraries as bytes: what a cache keeps of a library that was expanded.
+//! Compiled libraries as bytes: what a cache keeps of a library that was expanded.
 //!
-//! A record is its fields in their order: the path of its file, its name, its version, its exports, its bindings,
+//! A compiled library, or record, is its fields in their order: the path of its file, its name, its version, its exports, its bindings,
 //! the rows of its frames, its run lines and the libraries that these refer to. Bindings rise by their labels, and
 //! rows of frames by their frames, so that no record has two spellings.
 //!

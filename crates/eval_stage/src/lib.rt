@@ -26,8 +26,8 @@
 //! and counts exactly the fuel that was spent. Only want of memory is free. It is also the answer at cells that
 //! don't fit, for which the definition has the fault `Stuck`; no run has such cells.
 //!
-//! Evaluation is that of eval_code. The expander stands on this crate: it says when keywords begin, are finished
-//! and are used, and it counts the uses.
+//! Evaluation is that of eval_code. The expander stands on this crate: it says when keywords begin to wait, when
+//! their transformers are evaluated and used, and it counts the uses.
 #![tactic(auto)]
 
 pub mod context;

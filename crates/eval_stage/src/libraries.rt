@@ -16,7 +16,7 @@ use indexmap::IndexSet;
 use std::alloc::Global;
 use std::marker::Model;
 
-/// LibraryList, each once, in the order of coming.
+/// Libraries, each once, in the order in which they came.
 #[derive(Drop)]
 pub struct LibraryList {
     set: IndexSet<LibName>,

@@ -1,4 +1,4 @@
-//! Whether the record of a library may stand behind earlier ones.
+//! Whether a compiled library, or record, may stand behind earlier ones.
 //!
 //! A record that comes out of a store was made by another run, or by no run at all. Before an expansion imports from it,
 //! it is looked through:

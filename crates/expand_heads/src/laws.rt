@@ -30,5 +30,6 @@ pub fn a_bind_changes_its_symbol_alone()
 /// there before the binder's. This holds for heads that stood for keywords, and for all heads.
 pub fn no_changed_head_is_lost()
     ensures { (keyword : Bool) (s : State) (f : FrameNo) (r : Row) (b : Binding) (ks : List KeptHead) → AreNamed ks → AreOthers r.label ks →
-        any_changed keyword s ks ≡ false → any_changed keyword (with_binder s f r b) (heads_of r.symbol (kept_all [] ks)) ≡ any_changed keyword (with_binder s f r b) ks }
+        any_changed keyword s ks ≡ false → any_changed keyword (with_binder s f r b) (heads_of r.symbol (kept_all [] ks))
+        ≡ any_changed keyword (with_binder s f r b) ks }
 {}

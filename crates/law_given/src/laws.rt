@@ -20,7 +20,8 @@ ghost use Rattle.law_given.specs.Texts.{HasTexts, Includes, written_table};
 pub fn numbers_are_by_name()
     ensures { map op_named (codes "map" ∷ codes "for-each" ∷ codes "filter" ∷ codes "remp" ∷ codes "find" ∷ codes "memp" ∷ codes "for-all"
         ∷ codes "exists" ∷ codes "fold-left" ∷ codes "fold-right" ∷ []) ≡
-        Some names.MAP ∷ Some names.FOR_EACH ∷ Some names.FILTER ∷ Some names.REMP ∷ Some names.FIND ∷ Some names.MEMP ∷ Some names.FOR_ALL ∷ Some names.EXISTS ∷ Some names.FOLD_LEFT ∷ Some names.FOLD_RIGHT ∷ [] }
+        Some names.MAP ∷ Some names.FOR_EACH ∷ Some names.FILTER ∷ Some names.REMP ∷ Some names.FIND ∷ Some names.MEMP ∷ Some names.FOR_ALL
+        ∷ Some names.EXISTS ∷ Some names.FOLD_LEFT ∷ Some names.FOLD_RIGHT ∷ [] }
 {}
 
 /// A call that gives a value with some fuel gives that value and that state with any more.

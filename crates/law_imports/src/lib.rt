@@ -25,8 +25,10 @@ ghost use Rattle.load_import.specs.declared.set.Renaming.{Renaming};
 /// Of the names of an import set `only` selects those that it lists and `except` the others; `prefix`
 /// moves each to its new name, and so does `rename` (R6RS 7.1).
 pub fn words_select_and_move()
-    ensures only { (ids : List NameAt) (names : Labelled) (n : List ℕ) → label_named n (only ids names) ≡ (if is_among ids n then label_named n names else None) }
-    ensures except { (ids : List NameAt) (names : Labelled) (n : List ℕ) → label_named n (except ids names) ≡ (if is_among ids n then None else label_named n names) }
+    ensures only { (ids : List NameAt) (names : Labelled) (n : List ℕ)
+        → label_named n (only ids names) ≡ (if is_among ids n then label_named n names else None) }
+    ensures except { (ids : List NameAt) (names : Labelled) (n : List ℕ)
+        → label_named n (except ids names) ≡ (if is_among ids n then None else label_named n names) }
     ensures prefix { (p : List ℕ) (names : Labelled) (n : List ℕ) → label_named (p ++ n) (prefixed p names) ≡ label_named n names }
     ensures rename { (span : Span) (rs : List Renaming) (names r : Labelled) → joined span [] (renamed rs names) ≡ Ok r → Has r (renamed rs names) }
 {}

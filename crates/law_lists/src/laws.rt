@@ -108,7 +108,8 @@ pub fn strings_are_by_their_characters()
     ensures append { (cells : List Cell) (css : List (List ℕ)) (args : List Value) → AreStrings cells css args →
         string_made names.STRING_APPEND args cells ≡ Some (made.Text (encode_utf8_all (all_chars css))) }
     ensures substring { (cells : List Cell) (cs : List ℕ) (x : Value) (start end : ℕ) → IsString cells cs x → start ≤ end → end ≤ length cs →
-        string_made names.SUBSTRING (x ∷ value.Atom (a.Int (pos start)) ∷ value.Atom (a.Int (pos end)) ∷ []) cells ≡ Some (made.Text (encode_utf8_all (take (end - start) (drop start cs)))) }
+        string_made names.SUBSTRING (x ∷ value.Atom (a.Int (pos start)) ∷ value.Atom (a.Int (pos end)) ∷ []) cells
+        ≡ Some (made.Text (encode_utf8_all (take (end - start) (drop start cs)))) }
     ensures listed { (cells : List Cell) (cs : List ℕ) (x : Value) → IsString cells cs x
         → unpacked_made names.STRING_TO_LIST (x ∷ []) cells ≡ Some (made.List (map char_value cs) nil) }
     ensures stored { (cells : List Cell) (cs : List ℕ) (name : Named) → all_scalars cs ≡ true →

@@ -56,7 +56,8 @@ abbrev pub first_with : List (List ℕ) → List Library → Option Library
 first_with parts libraries = find (λ library. has_parts (library_parts library) parts) libraries
 
 abbrev pub libraries : List Library
-libraries = l.Rnrs ∷ l.Base ∷ l.Lists ∷ l.Control ∷ l.SyntaxCase ∷ l.Exceptions ∷ l.IoSimple ∷ l.Hashtables ∷ l.Sorting ∷ l.Files ∷ l.Programs ∷ l.RecordsProcedural ∷ l.RecordsSyntactic ∷ []
+libraries = l.Rnrs ∷ l.Base ∷ l.Lists ∷ l.Control ∷ l.SyntaxCase ∷ l.Exceptions ∷ l.IoSimple ∷ l.Hashtables ∷ l.Sorting ∷ l.Files
+    ∷ l.Programs ∷ l.RecordsProcedural ∷ l.RecordsSyntactic ∷ []
 
 abbrev pub library_named : List (List ℕ) → Option Library
 library_named parts = first_with parts libraries

@@ -13,5 +13,6 @@ pub fn each_name_stands_once()
 /// Each name that a given library exports is exported by `(rnrs)` too, with the same label, unless the
 /// library is one of the two on records.
 pub fn rnrs_has_the_others_names()
-    ensures { (library : AnyLibrary) (n : ℕ) → is_on_records library ≡ false → among n (library_numbers library) ≡ true → among n (library_numbers Rnrs) ≡ true }
+    ensures { (library : AnyLibrary) (n : ℕ) → is_on_records library ≡ false → among n (library_numbers library) ≡ true
+        → among n (library_numbers Rnrs) ≡ true }
 {}

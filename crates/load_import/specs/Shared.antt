@@ -18,7 +18,8 @@ steps_joined span all names steps = turns (step_names span) names steps >>= join
 
 -- these names are enough to join in place of all of a library, and of any part of all: the others are joined
 abbrev pub IsEnough : Labelled → Labelled → Labelled → Type 0
-IsEnough all names fresh = (span : Span) (more : Labelled) (test : ImportedName → Bool) → joined span (all ++ more) (filter test names) ≡ joined span (all ++ more) (filter test fresh)
+IsEnough all names fresh = (span : Span) (more : Labelled) (test : ImportedName → Bool)
+    → joined span (all ++ more) (filter test names) ≡ joined span (all ++ more) (filter test fresh)
 
 abbrev pub IsEnoughIf : Labelled → Labelled → Option Labelled → Type 0
 IsEnoughIf all names None = Unit {0}

@@ -58,7 +58,8 @@ pub fn add_source(
     library: LibName,
     exports: Exports,
 ) -> Result<(), Memory>
-    ensures names { OnOk result ((l : LibName) → names_in l sources.new.entries ≡ (if same_library library l then Some exports else names_in l sources.old.entries)) }
+    ensures names { OnOk result ((l : LibName) → names_in l sources.new.entries
+        ≡ (if same_library library l then Some exports else names_in l sources.old.entries)) }
     ensures enough { OnOk result ((all : Labelled) → AreEnough all sources.old.entries → AreEnough all sources.new.entries) }
     ensures err { OnErr result (sources.new.entries ≡ sources.old.entries) }
 {
@@ -76,7 +77,8 @@ fn join_from(
     span: &Span,
 ) -> Result<Option<Items<ImportedName>>, Stop>
     requires { AreEnough all.old sources.now.entries }
-    ensures given { (names : Labelled) → names_in set.now.library sources.now.entries ≡ Some names → Gives (λ _. all.new) result (steps_joined span.now all.old names set.now.steps) }
+    ensures given { (names : Labelled) → names_in set.now.library sources.now.entries ≡ Some names
+        → Gives (λ _. all.new) result (steps_joined span.now all.old names set.now.steps) }
     ensures front { OnOk result ((tail : Labelled) × (all.new ≡ all.old ++ tail)) }
     ensures fresh { IfOk result (λ f. (s : ImportSource) → source_in set.now.library sources.now.entries ≡ Some s → IsEnoughIf all.new s.exports f) }
 {
@@ -112,7 +114,8 @@ pub fn join_source(
     span: &Span,
 ) -> Result<(), Stop>
     requires { AreEnough all.old sources.old.entries }
-    ensures given { (names : Labelled) → names_in set.now.library sources.old.entries ≡ Some names → Gives (λ _. all.new) result (steps_joined span.now all.old names set.now.steps) }
+    ensures given { (names : Labelled) → names_in set.now.library sources.old.entries ≡ Some names
+        → Gives (λ _. all.new) result (steps_joined span.now all.old names set.now.steps) }
     ensures names { OnOk result ((l : LibName) → names_in l sources.new.entries ≡ names_in l sources.old.entries) }
     ensures enough { OnOk result (AreEnough all.new sources.new.entries) }
 {

@@ -1,4 +1,4 @@
-//! Libraries and programs: from their forms to their records, and the core text of a program.
+//! Libraries and programs: from their forms to compiled libraries, or records, and the core text of a program.
 //!
 //! A library or a program imports names (R6RS 7.1), and its body is expanded where these names stand for
 //! what they stand for in the libraries that export them:

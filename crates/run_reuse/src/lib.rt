@@ -1,4 +1,4 @@
-//! Libraries in the order of loading, each with its record: reused from a store, or expanded and kept in it.
+//! Libraries in the order of loading, each compiled: its record is reused from a store, or expanded and kept in it.
 //!
 //! ```text
 //! (a)   asks for its entry; there is none: it is expanded, and its entry is put

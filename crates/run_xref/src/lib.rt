@@ -22,7 +22,7 @@
 //! The promise: the map has exactly the pairs that the links tell, each once and in order; its text is exactly that of
 //! the definition; only want of memory is free. `laws` has the map as a relation.
 //!
-//! MarkedSource and columns come of marks along each file: to find one place costs the same wherever it stands.
+//! Lines and columns come of marks along each file: to find one place costs the same wherever it stands.
 #![tactic(auto)]
 
 pub mod binders;

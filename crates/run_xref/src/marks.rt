@@ -1,4 +1,4 @@
-//! MarkedSource and columns of a file, found from marks along it.
+//! Lines and columns of a file, found from marks along it.
 
 ghost use Rattle.std.specs.Prelude.{◌≡◌, ◌<◌, ◌≤◌, length, min, IfOk, OnOk};
 ghost use Rattle.base_data.specs.Place.{place, piece, char_size};
