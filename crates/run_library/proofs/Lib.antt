@@ -5,5 +5,6 @@ pub mod PlaceLemmas
 pub mod LinkLemmas
 pub mod LoadedLemmas
 pub mod SourceLemmas
+pub mod GivenLemmas
 pub mod BodyLemmas
 pub mod SpentLemmas

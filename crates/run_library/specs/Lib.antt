@@ -4,3 +4,4 @@ pub mod Chosen
 pub mod Records
 pub mod Loaded
 pub mod Listed
+pub mod Given

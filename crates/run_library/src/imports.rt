@@ -11,6 +11,7 @@ ghost use Rattle.run_library.specs.Listed.{AreListed};
 ghost use Rattle.run_library.specs.Records.{needed_records};
 ghost use Rattle.load_files.specs.Load.{fitting, builtin_version};
 
+use crate::given::GivenNames;
 use crate::records::Needed;
 use base_data::fault::{FaultKind, Stop};
 use base_data::imported_name::ImportedName;
@@ -21,7 +22,6 @@ use base_data::memory::Memory;
 use base_data::span::Span;
 use core_language::record::CompiledLibrary;
 use core_language::share::share_library;
-use load_builtin::exports::exports;
 use load_files::refer::{VERSION, about, check_version, is_builtin};
 use load_forms::set::Import;
 use load_import::imported::Names;
@@ -34,11 +34,15 @@ use std::alloc::Global;
 /// The names that the imports of a form give, each once and in order, with their labels. First each library
 /// must be there in a version that fits, and then each name is looked for.
 #[tactic(auto, unfolding(crate::specs::Imports::form_names))]
-pub(crate) fn form_names(alloc: Global, needed: &Needed, imports: &[Import]) -> Result<Names, Stop>
+pub(crate) fn form_names(
+    needed: &Needed,
+    given: &mut GivenNames,
+    imports: &[Import],
+) -> Result<Names, Stop>
     ensures { Gives (λ names. names) result (form_names (needed_records needed.now.records.now needed.now.marks.now) imports.now) }
 {
-    refer_all(alloc, needed, imports)?;
-    import_all(alloc, needed, imports)
+    refer_all(given.alloc(), needed, imports)?;
+    import_all(needed, given, imports)
 }
 
 fn refer_all(alloc: Global, needed: &Needed, imports: &[Import]) -> Result<(), Stop>
@@ -74,21 +78,22 @@ fn record_referred(
 }
 
 #[tactic(auto, using(crate::proofs::SourceLemmas::no_names, crate::proofs::SourceLemmas::none_enough))]
-fn import_all(alloc: Global, needed: &Needed, imports: &[Import]) -> Result<Names, Stop>
+fn import_all(needed: &Needed, given: &mut GivenNames, imports: &[Import]) -> Result<Names, Stop>
     ensures { Gives (λ names. names) result (turns (import_into (needed_records needed.now.records.now needed.now.marks.now)) [] imports.now) }
 {
+    let alloc = given.alloc();
     let mut names = Names::new(alloc);
     let mut sources = new_map(alloc);
     for import in imports {
-        import_into(alloc, needed, &mut sources, &mut names, import)?;
+        import_into(needed, given, &mut sources, &mut names, import)?;
     }
     Ok(names)
 }
 
 // The names of a library are listed with its first import set, and then each set asks the list.
 fn import_into(
-    alloc: Global,
     needed: &Needed,
+    given: &mut GivenNames,
     sources: &mut Sources,
     names: &mut Names,
     import: &Import,
@@ -99,49 +104,61 @@ fn import_into(
     ensures listed { OnOk result (AreListed (needed_records needed.now.records.now needed.now.marks.now) sources.new.entries) }
     ensures enough { OnOk result (AreEnough names.new sources.new.entries) }
 {
-    list_source(alloc, needed, sources, &import.set.library, &import.span)?;
-    join_source(alloc, sources, names, &import.set, &import.span)
+    list_source(needed, given, sources, import)?;
+    join_source(given.alloc(), sources, names, &import.set, &import.span)
 }
 
-// Lists the names of a library, unless they are listed.
+// Lists the names of the library of an import, unless they are listed.
 fn list_source(
-    alloc: Global,
     needed: &Needed,
+    given: &mut GivenNames,
     sources: &mut Sources,
-    library: &LibName,
-    span: &Span,
+    import: &Import,
 ) -> Result<(), Stop>
     requires { AreListed (needed_records needed.now.records.now needed.now.marks.now) sources.old.entries }
-    ensures stop { IfErr result (λ stop. Stops stop (joined span.now [] (exported (needed_records needed.now.records.now needed.now.marks.now) library.now))) }
+    ensures stop { IfErr result (λ stop. Stops stop (joined import.now.span []
+        (exported (needed_records needed.now.records.now needed.now.marks.now) import.now.set.library))) }
     ensures listed { OnOk result (AreListed (needed_records needed.now.records.now needed.now.marks.now) sources.new.entries) }
-    ensures there { OnOk result (is_some (names_in library.now sources.new.entries) ≡ true) }
+    ensures there { OnOk result (is_some (names_in import.now.set.library sources.new.entries) ≡ true) }
     ensures enough { OnOk result ((all : Labelled) → AreEnough all sources.old.entries → AreEnough all sources.new.entries) }
 {
+    let library = &import.set.library;
     if has_source(sources, library) {
         return Ok(());
     }
-    let exports = exported(alloc, needed, library)?;
-    let exports = Exports::new(alloc, exports.as_slice(), span)?;
+    let exports = exported(needed, given, library, &import.span)?;
+    let alloc = given.alloc();
     let name = share_library(alloc, library)?;
     add_source(alloc, sources, name, exports)?;
     Ok(())
 }
 
+// What a library exports, each name once. The names of a library that is given with the implementation are listed once a run.
+#[tactic(auto, using(crate::proofs::GivenLemmas::gives_given, crate::proofs::GivenLemmas::gives_own))]
 fn exported(
-    alloc: Global,
     needed: &Needed,
+    given: &mut GivenNames,
     library: &LibName,
-) -> Result<Items<ImportedName>, Memory>
-    ensures { IfOk result (λ names. names ≡ exported (needed_records needed.now.records.now needed.now.marks.now) library.now) }
+    span: &Span,
+) -> Result<Exports, Stop>
+    ensures { Gives (λ e. e) result (joined span.now [] (exported (needed_records needed.now.records.now needed.now.marks.now) library.now)) }
 {
-    match exports(alloc, library)? {
-        Some(names) => given_names(alloc, needed.named(&LibName::Derived), names),
-        None => record_exports(alloc, needed.named(library)),
+    if is_builtin(library) {
+        return given.exported(needed.named(&LibName::Derived), library, span);
     }
+    own_exports(given.alloc(), needed.named(library), span)
+}
+
+// What a record exports, each name once.
+fn own_exports(alloc: Global, one: Option<&CompiledLibrary>, span: &Span) -> Result<Exports, Stop>
+    ensures { Gives (λ e. e) result (joined span.now [] (record_exports (option_map (λ r. r.now) one.entry))) }
+{
+    let names = record_exports(alloc, one)?;
+    Exports::new(alloc, names.as_slice(), span)
 }
 
 // The names of the implementation, behind the record of the derived library.
-fn given_names(
+pub(crate) fn given_names(
     alloc: Global,
     derived: Option<&CompiledLibrary>,
     names: Items<ImportedName>,
@@ -181,7 +198,10 @@ fn record_exports(
     }
 }
 
-fn share_names(alloc: Global, names: &[ImportedName]) -> Result<Items<ImportedName>, Memory>
+pub(crate) fn share_names(
+    alloc: Global,
+    names: &[ImportedName],
+) -> Result<Items<ImportedName>, Memory>
     ensures { IfOk result (λ shared. shared ≡ names.now) }
 {
     let mut shared = Items::new(alloc);

@@ -18,6 +18,7 @@
 //! version that fits, then each name, and then the body is expanded.
 #![tactic(auto)]
 
+pub mod given;
 pub mod imports;
 pub mod library;
 pub mod loaded;

@@ -8,6 +8,7 @@ ghost use Rattle.run_prelude.specs.Prelude.{kept};
 ghost use Rattle.run_library.specs.Records.{needed_records};
 ghost use Rattle.run_library.specs.Library.{at_datum, tree_at, trees_at, export_tree, expander_of, body_of, expand_body, body_spent};
 
+use crate::given::GivenNames;
 use crate::imports::form_names;
 use crate::records::Needed;
 use base_data::datum::Datum;
@@ -65,14 +66,15 @@ struct Origin {
 /// that it imports must fit, and then each name.
 #[tactic(auto, unfolding(crate::specs::Library::body_of))]
 pub fn body_of(
-    alloc: Global,
     needed: &Needed,
+    given: &mut GivenNames,
     form: &LibraryForm,
     body: &[Datum],
 ) -> Result<LibrarySource, Stop>
     ensures { Gives (λ b. b) result (body_of (needed_records needed.now.records.now needed.now.marks.now) form.now body.now) }
 {
-    let names = form_names(alloc, needed, form.imports.as_slice())?;
+    let alloc = given.alloc();
+    let names = form_names(needed, given, form.imports.as_slice())?;
     let names = rows(alloc, &names)?;
     let forms = trees_at(alloc, &form.name_span, body)?;
     Ok(LibrarySource { names, forms })

@@ -9,6 +9,7 @@ ghost use Rattle.load_import.specs.Turns.{turns};
 ghost use Rattle.load_forms.specs.Form.{library_body, program_body};
 ghost use Rattle.run_library.specs.Loaded.{expand_found, expand_next, all_records, planned_text, text_behind, fault_behind, link_found, link_next, with_linked, derived_linked, all_linked, links_behind, found_spent, each_spent, all_spent, program_spent};
 
+use crate::given::GivenNames;
 use crate::library::{Unexpanded, body_of, expand_body};
 use crate::records::{Needed, Records};
 use base_data::fault::{Fault, Stop};
@@ -53,8 +54,8 @@ fn without_data(found: Found) -> (Symbol, LibraryForm)
 }
 
 fn expand_next<N: Ledger, L: Ledger>(
-    alloc: Global,
     implementation: &Implementation,
+    given: &mut GivenNames,
     records: &mut Records,
     found: Found,
     tally: &mut Tally<N, L>,
@@ -63,8 +64,8 @@ fn expand_next<N: Ledger, L: Ledger>(
     ensures fuel { OnOk result (tally.new.fuel ≡ tally.old.fuel + found_spent (kept implementation.now.prelude) records.old found
         (library_body found.opened.«data»)) }
 {
-    let record = record_of_one(alloc, implementation, records, found, tally)?;
-    records.push(alloc, record)?;
+    let record = record_of_one(implementation, given, records, found, tally)?;
+    records.push(given.alloc(), record)?;
     Ok(())
 }
 
@@ -86,8 +87,8 @@ fn links_of(linked: Linked) -> Items<Link>
 
 // The record of a library alone.
 fn record_of_one<N: Ledger, L: Ledger>(
-    alloc: Global,
     implementation: &Implementation,
+    given: &mut GivenNames,
     records: &Records,
     found: Found,
     tally: &mut Tally<N, L>,
@@ -96,14 +97,14 @@ fn record_of_one<N: Ledger, L: Ledger>(
     ensures fuel { OnOk result (tally.new.fuel ≡ tally.old.fuel + found_spent (kept implementation.now.prelude) records.now found
         (library_body found.opened.«data»)) }
 {
-    let linked = expand_one(alloc, implementation, records, found, tally)?;
+    let linked = expand_one(implementation, given, records, found, tally)?;
     Ok(without_links(linked))
 }
 
 // The record and the links of a library behind the records that it needs. Its data go once they are syntax objects.
 fn expand_one<N: Ledger, L: Ledger>(
-    alloc: Global,
     implementation: &Implementation,
+    given: &mut GivenNames,
     records: &Records,
     found: Found,
     tally: &mut Tally<N, L>,
@@ -112,13 +113,14 @@ fn expand_one<N: Ledger, L: Ledger>(
     ensures fuel { OnOk result (tally.new.fuel ≡ tally.old.fuel + found_spent (kept implementation.now.prelude) records.now found
         (library_body found.opened.«data»)) }
 {
+    let alloc = given.alloc();
     let marks = with_derived(alloc, found.needs.as_slice())?;
     let needed = Needed {
         records,
         marks: marks.as_slice(),
     };
     let data = library_body(found.opened.data.as_slice());
-    let body = body_of(alloc, &needed, &found.opened.form, data)?;
+    let body = body_of(&needed, given, &found.opened.form, data)?;
     let (path, form) = without_data(found);
     let unexpanded = Unexpanded { path, form, body };
     expand_body(alloc, implementation, &needed, unexpanded, tally)
@@ -126,8 +128,8 @@ fn expand_one<N: Ledger, L: Ledger>(
 
 // The record and the links of a program behind the records that it needs. Its data go once they are syntax objects.
 fn expand_program<N: Ledger, L: Ledger>(
-    alloc: Global,
     implementation: &Implementation,
+    given: &mut GivenNames,
     records: &Records,
     found: Found,
     tally: &mut Tally<N, L>,
@@ -136,13 +138,14 @@ fn expand_program<N: Ledger, L: Ledger>(
     ensures fuel { OnOk result (tally.new.fuel ≡ tally.old.fuel + found_spent (kept implementation.now.prelude) records.now found
         (program_body found.opened.«data»)) }
 {
+    let alloc = given.alloc();
     let marks = with_derived(alloc, found.needs.as_slice())?;
     let needed = Needed {
         records,
         marks: marks.as_slice(),
     };
     let data = program_body(found.opened.data.as_slice());
-    let body = body_of(alloc, &needed, &found.opened.form, data)?;
+    let body = body_of(&needed, given, &found.opened.form, data)?;
     let (path, form) = without_data(found);
     let unexpanded = Unexpanded { path, form, body };
     expand_body(alloc, implementation, &needed, unexpanded, tally)
@@ -150,8 +153,8 @@ fn expand_program<N: Ledger, L: Ledger>(
 
 // The record of a program alone.
 fn record_of_program<N: Ledger, L: Ledger>(
-    alloc: Global,
     implementation: &Implementation,
+    given: &mut GivenNames,
     records: &Records,
     found: Found,
     tally: &mut Tally<N, L>,
@@ -160,15 +163,15 @@ fn record_of_program<N: Ledger, L: Ledger>(
     ensures fuel { OnOk result (tally.new.fuel ≡ tally.old.fuel + found_spent (kept implementation.now.prelude) records.now found
         (program_body found.opened.«data»)) }
 {
-    let linked = expand_program(alloc, implementation, records, found, tally)?;
+    let linked = expand_program(implementation, given, records, found, tally)?;
     Ok(without_links(linked))
 }
 
 // Records, and behind them those of libraries in the order of loading.
 #[tactic(auto, using(crate::proofs::LoadedLemmas::by_value))]
 fn records_behind<N: Ledger, L: Ledger>(
-    alloc: Global,
     implementation: &Implementation,
+    given: &mut GivenNames,
     records: Records,
     libraries: NameTable<Found>,
     tally: &mut Tally<N, L>,
@@ -178,24 +181,25 @@ fn records_behind<N: Ledger, L: Ledger>(
 {
     let mut records = records;
     for found in libraries.into_values() {
-        expand_next(alloc, implementation, &mut records, found, tally)?;
+        expand_next(implementation, given, &mut records, found, tally)?;
     }
     Ok(records)
 }
 
 // The record of the derived library, and behind it those of the others.
 fn all_records<N: Ledger, L: Ledger>(
-    alloc: Global,
     implementation: &Implementation,
+    given: &mut GivenNames,
     libraries: NameTable<Found>,
     tally: &mut Tally<N, L>,
 ) -> Result<Records, Stop>
     ensures records { Gives (λ rs. rs) result (all_records (kept implementation.now.prelude) libraries) }
     ensures fuel { OnOk result (tally.new.fuel ≡ tally.old.fuel + all_spent (kept implementation.now.prelude) (map (λ row. row.1) libraries)) }
 {
+    let alloc = given.alloc();
     let derived = derived_record(alloc, implementation, tally)?;
     let records = Records::of_one(alloc, derived)?;
-    records_behind(alloc, implementation, records, libraries, tally)
+    records_behind(implementation, given, records, libraries, tally)
 }
 
 // A program, with the libraries that it needs when it runs before it.
@@ -223,8 +227,9 @@ pub fn program_text<N: Ledger, L: Ledger>(
     ensures text { Gives string_bytes result (text_behind (kept implementation.now.prelude) libraries found) }
     ensures fuel { OnOk result (tally.new.fuel ≡ tally.old.fuel + program_spent (kept implementation.now.prelude) libraries found) }
 {
-    let records = all_records(alloc, implementation, libraries, tally)?;
-    let program = record_of_program(alloc, implementation, &records, found, tally)?;
+    let mut given = GivenNames::new(alloc);
+    let records = all_records(implementation, &mut given, libraries, tally)?;
+    let program = record_of_program(implementation, &mut given, &records, found, tally)?;
     let records = records.into_records();
     let text = planned_text(alloc, &records, &program);
     // A run ends with its text. To free the records, node after node, would take some hundredths of it.
@@ -244,7 +249,8 @@ pub fn first_fault<N: Ledger, L: Ledger>(
 ) -> Stop
     ensures { Stops result (fault_behind (kept implementation.now.prelude) libraries fault) }
 {
-    match all_records(alloc, implementation, libraries, tally) {
+    let mut given = GivenNames::new(alloc);
+    match all_records(implementation, &mut given, libraries, tally) {
         Ok(_) => Stop::Fault(fault),
         Err(stop) => stop,
     }
@@ -284,8 +290,8 @@ fn gather(alloc: Global, all: &mut Gathered, linked: Linked) -> Result<(), Memor
 }
 
 fn link_next<N: Ledger, L: Ledger>(
-    alloc: Global,
     implementation: &Implementation,
+    given: &mut GivenNames,
     all: &mut Gathered,
     found: Found,
     tally: &mut Tally<N, L>,
@@ -294,8 +300,8 @@ fn link_next<N: Ledger, L: Ledger>(
     ensures fuel { OnOk result (tally.new.fuel ≡ tally.old.fuel + found_spent (kept implementation.now.prelude) all.old.records found
         (library_body found.opened.«data»)) }
 {
-    let linked = expand_one(alloc, implementation, &all.records, found, tally)?;
-    gather(alloc, all, linked)?;
+    let linked = expand_one(implementation, given, &all.records, found, tally)?;
+    gather(given.alloc(), all, linked)?;
     Ok(())
 }
 
@@ -317,8 +323,8 @@ fn derived_alone<N: Ledger, L: Ledger>(
 // Those of the derived library, and behind them those of the others, in the order of loading.
 #[tactic(auto, using(crate::proofs::LinkLemmas::by_value))]
 fn linked_behind<N: Ledger, L: Ledger>(
-    alloc: Global,
     implementation: &Implementation,
+    given: &mut GivenNames,
     all: Gathered,
     libraries: NameTable<Found>,
     tally: &mut Tally<N, L>,
@@ -328,27 +334,44 @@ fn linked_behind<N: Ledger, L: Ledger>(
 {
     let mut all = all;
     for found in libraries.into_values() {
-        link_next(alloc, implementation, &mut all, found, tally)?;
+        link_next(implementation, given, &mut all, found, tally)?;
     }
     Ok(all)
 }
 
 fn all_linked<N: Ledger, L: Ledger>(
-    alloc: Global,
     implementation: &Implementation,
+    given: &mut GivenNames,
     libraries: NameTable<Found>,
     tally: &mut Tally<N, L>,
 ) -> Result<Gathered, Stop>
     ensures linked { Gives (λ all. all) result (all_linked (kept implementation.now.prelude) libraries) }
     ensures fuel { OnOk result (tally.new.fuel ≡ tally.old.fuel + all_spent (kept implementation.now.prelude) (map (λ row. row.1) libraries)) }
 {
-    let derived = derived_alone(alloc, implementation, tally)?;
-    linked_behind(alloc, implementation, derived, libraries, tally)
+    let derived = derived_alone(given.alloc(), implementation, tally)?;
+    linked_behind(implementation, given, derived, libraries, tally)
+}
+
+// The links behind a program, with the names of given libraries as they are listed so far.
+#[tactic(auto, unfolding(crate::specs::Loaded::links_behind, crate::specs::Loaded::program_spent))]
+fn links_of_program<N: Ledger, L: Ledger>(
+    implementation: &Implementation,
+    given: &mut GivenNames,
+    found: Found,
+    libraries: NameTable<Found>,
+    tally: &mut Tally<N, L>,
+) -> Result<Items<Link>, Stop>
+    ensures links { Gives (λ ls. ls) result (links_behind (kept implementation.now.prelude) libraries found) }
+    ensures fuel { OnOk result (tally.new.fuel ≡ tally.old.fuel + program_spent (kept implementation.now.prelude) libraries found) }
+{
+    let mut all = all_linked(implementation, given, libraries, tally)?;
+    let linked = expand_program(implementation, given, &all.records, found, tally)?;
+    append(&mut all.links, links_of(linked))?;
+    Ok(gathered_links(all))
 }
 
 /// The links of the libraries that were loaded before a program, in the order of loading, and then those of the program;
 /// or the first fault of a library or of the program. Of the derived library and the prelude there are none.
-#[tactic(auto, unfolding(crate::specs::Loaded::links_behind, crate::specs::Loaded::program_spent))]
 pub fn program_links<N: Ledger, L: Ledger>(
     alloc: Global,
     implementation: &Implementation,
@@ -359,8 +382,6 @@ pub fn program_links<N: Ledger, L: Ledger>(
     ensures links { Gives (λ ls. ls) result (links_behind (kept implementation.now.prelude) libraries found) }
     ensures fuel { OnOk result (tally.new.fuel ≡ tally.old.fuel + program_spent (kept implementation.now.prelude) libraries found) }
 {
-    let mut all = all_linked(alloc, implementation, libraries, tally)?;
-    let linked = expand_program(alloc, implementation, &all.records, found, tally)?;
-    append(&mut all.links, links_of(linked))?;
-    Ok(gathered_links(all))
+    let mut given = GivenNames::new(alloc);
+    links_of_program(implementation, &mut given, found, libraries, tally)
 }

@@ -22,6 +22,7 @@ use expand_forms::top::Linked;
 use load_files::found::{Found, Opened};
 use load_forms::form::{LibraryForm, library_body, program_body};
 use run_derived::implementation::Implementation;
+use run_library::given::GivenNames;
 use run_library::library::{Unexpanded, body_of, expand_body};
 use run_library::records::{Needed, Records};
 use std::alloc::Global;
@@ -92,7 +93,8 @@ fn linked<N: Ledger, L: Ledger>(
         marks: marks.as_slice(),
     };
     let data = body_in(file, found.opened.data.as_slice());
-    let body = body_of(alloc, &needed, &found.opened.form, data)?;
+    let mut given = GivenNames::new(alloc);
+    let body = body_of(&needed, &mut given, &found.opened.form, data)?;
     let (path, form) = without_data(found);
     let unexpanded = Unexpanded { path, form, body };
     expand_body(alloc, behind.implementation, &needed, unexpanded, tally)

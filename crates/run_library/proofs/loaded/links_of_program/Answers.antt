@@ -1,6 +1,6 @@
 use Rattle.run_prelude.specs.Prelude.{kept}
 use Rattle.run_library.proofs.SpentLemmas.{all_gathered, program_behind}
-use Rattle.run_library.proofs.loaded.program_links.Goals as goal
+use Rattle.run_library.proofs.loaded.links_of_program.Goals as goal
 
 pub returns-clause-fuel : goal.returns-clause-fuel
 returns-clause-fuel g c =
