@@ -6,9 +6,8 @@ use Rattle.core_language.specs.declared.record.CompiledLibrary.{CompiledLibrary}
 use Rattle.eval_code.specs.Codes.{Codes}
 use Rattle.load_files.specs.declared.found.Found.{Found}
 use Rattle.base_outside.specs.Causes.{Rose, raised}
-use Rattle.base_outside.specs.Contents.{Paths}
 use Rattle.run_reuse.specs.Entries.{CacheInputs}
-use Rattle.run_reuse.specs.Turns.{TurnState, stored, Misses, Quiet, ReuseTurn, reused, expanded, IsPut, put, too_long, unspelled, failed, ReuseTurns, done, next}
+use Rattle.run_reuse.specs.Turns.{StoreChange, changed, TurnState, stored, Misses, Quiet, ReuseTurn, reused, expanded, IsPut, put, too_long, unspelled, failed, ReuseTurns, done, next}
 use Rattle.law_reuse.specs.Failing.{unput, overlooked, unkept, all_overlooked, all_unkept, AtMostRisen, FailuresAreCounted}
 
 -- a count that can't but have risen has risen
@@ -45,17 +44,17 @@ module _ (k : CacheInputs) (prelude : Result Codes Fault) where
       by None e = none_more s.faults asked later
       by (Some x) e = one_more s.faults asked (rose_or s.faults asked (λ quiet. let no = misses quiet in absurd (cc)))
 
-  put_counted : (a b : ℕ) (place : List ℕ) (before after : Paths) (o : Option (List ℕ)) → a ≤ b → (p : IsPut a b place before o after) → AtMostRisen a (unput p) b
-  put_counted a b place before after (Some piece) later (put short sets) = none_more a b later
-  put_counted a b place before after (Some piece) later (too_long long) = none_more a b later
-  put_counted a b place before after None later unspelled = none_more a b later
-  put_counted a b place before after (Some piece) later (failed rose others) = one_more a b rose
+  put_counted : (place : List ℕ) (change : StoreChange) (o : Option (List ℕ)) → change.faults_before ≤ change.faults_after → (p : IsPut place change o) → AtMostRisen change.faults_before (unput p) change.faults_after
+  put_counted place change (Some piece) later (put short sets) = none_more change.faults_before change.faults_after later
+  put_counted place change (Some piece) later (too_long long same) = none_more change.faults_before change.faults_after later
+  put_counted place change None later (unspelled same) = none_more change.faults_before change.faults_after later
+  put_counted place change (Some piece) later (failed rose others) = one_more change.faults_before change.faults_after rose
 
   -- a get that failed, and a put
   one_turn : (s t : TurnState) (f : Found) (turn : ReuseTurn k prelude s f t) → AtMostRisen s.faults (overlooked k prelude turn + unkept k prelude turn) t.faults
   one_turn s t f (reused r faults later found) = none_more s.faults faults later
   one_turn s t f (expanded r asked faults left later further misses made kept) =
-      together s.faults asked faults (if is_some (stored k prelude s f) then 1 else 0) (unput kept) (get_counted s f asked later misses) (put_counted asked faults _ s.store left _ further kept)
+      together s.faults asked faults (if is_some (stored k prelude s f) then 1 else 0) (unput kept) (get_counted s f asked later misses) (put_counted _ (changed s.store asked left faults) _ further kept)
 
   risen : (s last : TurnState) (fs : List Found) (turns : ReuseTurns k prelude s fs last) → AtMostRisen s.faults (all_overlooked k prelude turns + all_unkept k prelude turns) last.faults
   risen s last fs done = none_more s.faults s.faults (omega arith)

@@ -25,7 +25,7 @@ use Rattle.base_outside.specs.Contents.{Paths, at_path}
 use Rattle.run_reuse.specs.Entries.{CacheInputs, entry_limit, entry_in, decoded, earlier, if_short, made, place_of, spelled}
 use Rattle.run_reuse.specs.Groups.{chosen, picked}
 use Rattle.run_reuse.specs.Texts.{found_in}
-use Rattle.run_reuse.specs.Turns.{TurnState, Quiet, ReuseTurn, reused, expanded, IsPut, put, too_long, unspelled, failed, ReuseTurns, done, next, TurnsStop, here, later}
+use Rattle.run_reuse.specs.Turns.{StoreChange, changed, TurnState, Quiet, ReuseTurn, reused, expanded, IsPut, put, too_long, unspelled, failed, ReuseTurns, done, next, TurnsStop, here, later}
 use Rattle.law_reuse.proofs.Unsealed.{unsealed_body}
 use Rattle.law_reuse.specs.Kept.{HoldsShortEntry, IsAlone, CanBeKept}
 use Rattle.law_reuse.specs.Failing.{unput, unkept, FailedAt}
@@ -79,36 +79,36 @@ module _ (k : CacheInputs) where
       same : x.entry ≡ made k f r
       same = λ i. record { path = path i; roots = fits.0 i; sources = sources i; stored = x.is i }
 
-  put_holds : (a b : ℕ) (f : Found) (r : CompiledLibrary) (before after : Paths) (o : Option (List ℕ)) → spelled (made k f r) ≡ o → CanBeKept k f r → Quiet a b → IsPut a b (place_of k f) before o after → HoldsShortEntry k after f r
-  put_holds a b f r before after (Some piece) is can quiet (put short sets) =
+  put_holds : (f : Found) (r : CompiledLibrary) (change : StoreChange) (o : Option (List ℕ)) → spelled (made k f r) ≡ o → CanBeKept k f r → Quiet change.faults_before change.faults_after → IsPut (place_of k f) change o → HoldsShortEntry k change.after f r
+  put_holds f r change (Some piece) is can quiet (put short sets) =
       let whole = sym (ap (λ c. if c then Some (sealed (encode (made k f r))) else None) can.0) ∙ is in
       let same : sealed (encode (made k f r)) ≡ piece = cc in
       record { held = piece; there = sets.held; short = short; is = ap entry_in (sym same) ∙ sealed_is k f r can.0 }
-  put_holds a b f r before after (Some piece) is can quiet (too_long long) =
+  put_holds f r change (Some piece) is can quiet (too_long long same_store) =
       let whole = sym (ap (λ c. if c then Some (sealed (encode (made k f r))) else None) can.0) ∙ is in
       let same : sealed (encode (made k f r)) ≡ piece = cc in
       let short = subst (λ (x : List ℕ). length x ≤ entry_limit) same can.1 in
       absurd (omega (arith, long, short))
-  put_holds a b f r before after None is can quiet unspelled =
+  put_holds f r change None is can quiet (unspelled same_store) =
       let whole = sym (ap (λ c. if c then Some (sealed (encode (made k f r))) else None) can.0) ∙ is in
       absurd (cc)
-  put_holds a b f r before after (Some piece) is can quiet (failed rose others) = absurd (quiet rose)
+  put_holds f r change (Some piece) is can quiet (failed rose others) = absurd (quiet rose)
 
   -- or its put failed
-  put_or : (a b : ℕ) (f : Found) (r : CompiledLibrary) (before after : Paths) (o : Option (List ℕ)) → spelled (made k f r) ≡ o → CanBeKept k f r → (p : IsPut a b (place_of k f) before o after) → HoldsShortEntry k after f r ⊎ (unput p ≡ 1)
-  put_or a b f r before after (Some piece) is can (put short sets) =
+  put_or : (f : Found) (r : CompiledLibrary) (change : StoreChange) (o : Option (List ℕ)) → spelled (made k f r) ≡ o → CanBeKept k f r → (p : IsPut (place_of k f) change o) → HoldsShortEntry k change.after f r ⊎ (unput p ≡ 1)
+  put_or f r change (Some piece) is can (put short sets) =
       let whole = sym (ap (λ c. if c then Some (sealed (encode (made k f r))) else None) can.0) ∙ is in
       let same : sealed (encode (made k f r)) ≡ piece = cc in
       inl (record { held = piece; there = sets.held; short = short; is = ap entry_in (sym same) ∙ sealed_is k f r can.0 })
-  put_or a b f r before after (Some piece) is can (too_long long) =
+  put_or f r change (Some piece) is can (too_long long same_store) =
       let whole = sym (ap (λ c. if c then Some (sealed (encode (made k f r))) else None) can.0) ∙ is in
       let same : sealed (encode (made k f r)) ≡ piece = cc in
       let short = subst (λ (x : List ℕ). length x ≤ entry_limit) same can.1 in
       absurd (omega (arith, long, short))
-  put_or a b f r before after None is can unspelled =
+  put_or f r change None is can (unspelled same_store) =
       let whole = sym (ap (λ c. if c then Some (sealed (encode (made k f r))) else None) can.0) ∙ is in
       absurd (cc)
-  put_or a b f r before after (Some piece) is can (failed rose others) = inr refl
+  put_or f r change (Some piece) is can (failed rose others) = inr refl
 
 -- ---- the turns of all libraries
 
@@ -150,7 +150,7 @@ module _ (base : RunBase) (k : CacheInputs) (group : Found → List Source) (loa
     turn_holds s t is honest gives (expanded x asked faults left more further misses made_here kept) quiet =
         let both : ◌≡◌ {A = Result CompiledLibrary Fault} (Ok x) (Ok r) = sym (behind_here base k group loaded right picks others f own s is honest (Ok x) made_here) ∙ gives in
         let same : x ≡ r = cc in
-        put_holds k asked faults f r s.store left (spelled (made k f x)) (ap (λ (y : CompiledLibrary). spelled (made k f y)) (sym same)) can (quiet_within s.faults asked faults faults more (same_count faults) quiet) kept
+        put_holds k f r (changed s.store asked left faults) (spelled (made k f x)) (ap (λ (y : CompiledLibrary). spelled (made k f y)) (sym same)) can (quiet_within s.faults asked faults faults more (same_count faults) quiet) kept
 
   -- ---- the turns of all
 
@@ -252,7 +252,7 @@ module _ (base : RunBase) (k : CacheInputs) (group : Found → List Source) (loa
     turn_or s t is honest gives fits (expanded x asked faults left more further misses made_here kept) =
         let both : ◌≡◌ {A = Result CompiledLibrary Fault} (Ok x) (Ok r) = sym (behind_here base k group loaded right picks others g n s is honest (Ok x) made_here) ∙ gives in
         let same : x ≡ r = cc in
-        put_or k asked faults g r s.store left (spelled (made k g x)) (ap (λ (y : CompiledLibrary). spelled (made k g y)) (sym same)) fits kept
+        put_or k g r (changed s.store asked left faults) (spelled (made k g x)) (ap (λ (y : CompiledLibrary). spelled (made k g y)) (sym same)) fits kept
 
   pub holds_or : (middle rows before : Libraries) (others records : List CompiledLibrary) (s last : TurnState) (fs : List Found) → fs ≡ found_in rows → rows ≡ middle ++ (file, f) ∷ rest → loaded ≡ before ++ rows
       → records_behind base before ≡ Ok others → s.progress.records ≡ base.derived ∷ others → IsHonest base.prelude s.store → (ts : ReuseTurns k base.prelude s fs last) → TurnsHonestly k base.prelude ts

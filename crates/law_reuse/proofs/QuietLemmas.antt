@@ -7,7 +7,7 @@ use Rattle.base_outside.specs.Causes.{Rose}
 use Rattle.base_outside.specs.Contents.{Paths}
 use Rattle.run_reuse.specs.Entries.{CacheInputs}
 use Rattle.run_reuse.specs.Texts.{Text, Writes, took, stopped, unready, Leaves, untouched, turned}
-use Rattle.run_reuse.specs.Turns.{TurnState, Quiet, ReuseTurn, reused, expanded, IsPut, put, too_long, unspelled, failed, Breaks, nothing_put, entry_put, ReuseTurns, done, next, TurnsStop, here, later, BreaksOff, between, within, behind}
+use Rattle.run_reuse.specs.Turns.{StoreChange, changed, TurnState, Quiet, ReuseTurn, reused, expanded, IsPut, put, too_long, unspelled, failed, Breaks, nothing_put, entry_put, ReuseTurns, done, next, TurnsStop, here, later, BreaksOff, between, within, behind}
 use Rattle.run_reuse.specs.declared.texts.Came.{Came}
 use Rattle.law_reuse.specs.Seals.{PutIsHonest, TurnIsHonest, BreaksHonestly, TurnsHonestly, StopsHonestly, BreaksOffHonestly, WritesHonestly, LeavesHonestly}
 
@@ -24,11 +24,11 @@ up_to : (a b c : ℕ) → a ≤ b → b ≤ c → a ≤ c
 up_to a b c h k = omega (arith, h, k)
 
 module _ (k : CacheInputs) (prelude : Result Codes Fault) where
-  put_quiet : (a b : ℕ) (place : List ℕ) (before after : Paths) (o : Option (List ℕ)) → Quiet a b → (p : IsPut a b place before o after) → PutIsHonest prelude p
-  put_quiet a b place before after (Some piece) quiet (put short sets) = tt
-  put_quiet a b place before after (Some piece) quiet (too_long long) = tt
-  put_quiet a b place before after None quiet unspelled = tt
-  put_quiet a b place before after (Some piece) quiet (failed rose others) = absurd (quiet rose)
+  put_quiet : (place : List ℕ) (change : StoreChange) (o : Option (List ℕ)) → Quiet change.faults_before change.faults_after → (p : IsPut place change o) → PutIsHonest prelude p
+  put_quiet place change (Some piece) quiet (put short sets) = tt
+  put_quiet place change (Some piece) quiet (too_long long same) = tt
+  put_quiet place change None quiet (unspelled same) = tt
+  put_quiet place change (Some piece) quiet (failed rose others) = absurd (quiet rose)
 
   pub turn_later : (s t : TurnState) (f : Found) → ReuseTurn k prelude s f t → s.faults ≤ t.faults
   turn_later s t f (reused r faults more found) = more
@@ -36,7 +36,7 @@ module _ (k : CacheInputs) (prelude : Result Codes Fault) where
 
   pub turn_quiet : (s t : TurnState) (f : Found) (turn : ReuseTurn k prelude s f t) → Quiet s.faults t.faults → TurnIsHonest k prelude turn
   turn_quiet s t f (reused r faults more found) quiet = tt
-  turn_quiet s t f (expanded r asked faults left more further misses made kept) quiet = put_quiet asked faults _ s.store left _ (quiet_within s.faults asked faults faults more (same_count faults) quiet) kept
+  turn_quiet s t f (expanded r asked faults left more further misses made kept) quiet = put_quiet _ (changed s.store asked left faults) _ (quiet_within s.faults asked faults faults more (same_count faults) quiet) kept
 
   pub turns_later : (s last : TurnState) (fs : List Found) → ReuseTurns k prelude s fs last → s.faults ≤ last.faults
   turns_later s last fs done = same_count s.faults
@@ -71,7 +71,7 @@ module _ (k : CacheInputs) (prelude : Result Codes Fault) where
 
   breaks_quiet : (s : TurnState) (f : Found) (store : Paths) (faults : ℕ) (b : Breaks k prelude s f store faults) → Quiet s.faults faults → BreaksHonestly k prelude b
   breaks_quiet s f store faults (nothing_put same more) quiet = tt
-  breaks_quiet s f store faults (entry_put r asked more further made kept) quiet = put_quiet asked faults _ s.store store _ (quiet_within s.faults asked faults faults more (same_count faults) quiet) kept
+  breaks_quiet s f store faults (entry_put r asked more further made kept) quiet = put_quiet _ (changed s.store asked store faults) _ (quiet_within s.faults asked faults faults more (same_count faults) quiet) kept
 
   off_quiet : (store : Paths) (faults : ℕ) (s : TurnState) (fs : List Found) (b : BreaksOff k prelude store faults s fs) → Quiet s.faults faults → BreaksOffHonestly k prelude b
   off_quiet store faults s fs (between same more) quiet = tt
@@ -81,11 +81,11 @@ module _ (k : CacheInputs) (prelude : Result Codes Fault) where
     off_quiet store faults t rest b (quiet_within s.faults t.faults faults faults (turn_later s t f turn) (same_count faults) quiet),
   )
 
-  pub writes_quiet : (c : Came) (fs : List Found) (before after : Paths) (fa fb : ℕ) (made : Result Text Fault) (w : Writes k prelude c fs before fa after fb made) → Quiet fa fb → WritesHonestly k prelude w
-  writes_quiet c fs before after fa fb made (took derived p is turns) quiet = turns_quiet _ _ fs turns quiet
-  writes_quiet c fs before after fa fb made (stopped derived fault is stops) quiet = stops_quiet fault after fb _ fs stops quiet
-  writes_quiet c fs before after fa fb made (unready fault is same) quiet = tt
+  pub writes_quiet : (c : Came) (fs : List Found) (change : StoreChange) (made : Result Text Fault) (w : Writes k prelude c fs change made) → Quiet change.faults_before change.faults_after → WritesHonestly k prelude w
+  writes_quiet c fs change made (took derived p is turns) quiet = turns_quiet _ _ fs turns quiet
+  writes_quiet c fs change made (stopped derived fault is stops) quiet = stops_quiet fault change.after change.faults_after _ fs stops quiet
+  writes_quiet c fs change made (unready fault is same) quiet = tt
 
-  pub leaves_quiet : (fs : List Found) (before after : Paths) (fa fb : ℕ) (l : Leaves k prelude fs before fa after fb) → Quiet fa fb → LeavesHonestly k prelude l
-  leaves_quiet fs before after fa fb (untouched same) quiet = tt
-  leaves_quiet fs before after fa fb (turned derived is b) quiet = off_quiet after fb _ fs b quiet
+  pub leaves_quiet : (fs : List Found) (change : StoreChange) (l : Leaves k prelude fs change) → Quiet change.faults_before change.faults_after → LeavesHonestly k prelude l
+  leaves_quiet fs change (untouched same) quiet = tt
+  leaves_quiet fs change (turned derived is b) quiet = off_quiet change.after change.faults_after _ fs b quiet

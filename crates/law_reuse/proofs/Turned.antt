@@ -24,7 +24,7 @@ use Rattle.base_outside.specs.Contents.{Paths, at_path}
 use Rattle.base_outside.specs.Store.{Sets}
 use Rattle.run_reuse.specs.Entries.{CacheInputs, entry_limit, entry_in, if_short, made, place_of, spelled}
 use Rattle.run_reuse.specs.Texts.{found_in}
-use Rattle.run_reuse.specs.Turns.{TurnState, ReuseTurn, reused, expanded, IsPut, put, too_long, unspelled, failed, Breaks, nothing_put, entry_put, ReuseTurns, done, next, TurnsStop, here, later, BreaksOff, between, within, behind}
+use Rattle.run_reuse.specs.Turns.{StoreChange, changed, TurnState, ReuseTurn, reused, expanded, IsPut, put, too_long, unspelled, failed, Breaks, nothing_put, entry_put, ReuseTurns, done, next, TurnsStop, here, later, BreaksOff, between, within, behind}
 use Rattle.law_reuse.specs.Seals.{PutIsHonest, TurnIsHonest, BreaksHonestly, TurnsHonestly, StopsHonestly, BreaksOffHonestly}
 use Rattle.law_reuse.specs.Sound.{as_entry, IsHonest}
 use Rattle.law_reuse.proofs.Read.{cache_of, honest_there, honest_here, read_back, some_entry, Picks, made_is, stored_there}
@@ -47,23 +47,26 @@ module _ (base : RunBase) (k : CacheInputs) (group : Found → List Source) (loa
     abbrev Kept-so : CompiledLibrary → Paths → Paths → Type 0
     Kept-so r before left = law.IsKept base (cache_of k) k.roots group loaded false (entry_of group k.roots loaded f r) (place_of k f) before left
 
-    is_kept : (r : CompiledLibrary) (fa fb : ℕ) (before left : Paths) (o : Option (List ℕ)) → spelled (made k f r) ≡ o → (p : IsPut fa fb (place_of k f) before o left) → PutIsHonest base.prelude p → Kept-so r before left
-    is_kept r fa fb before left o is p honest =
-        subst (λ (e : entries.ExpandedEntry). law.IsKept base (cache_of k) k.roots group loaded false e (place_of k f) before left) (made_is base k group loaded f r own) (by (has_spelling (made k f r)) refl o is left p honest)
+    abbrev Kept-as-made : CompiledLibrary → Paths → Paths → Type 0
+    Kept-as-made r before left = law.IsKept base (cache_of k) k.roots group loaded false (as_entry (made k f r)) (place_of k f) before left
+
+    is_kept : (r : CompiledLibrary) (change : StoreChange) (o : Option (List ℕ)) → spelled (made k f r) ≡ o → (p : IsPut (place_of k f) change o) → PutIsHonest base.prelude p → Kept-so r change.before change.after
+    is_kept r change o is p honest =
+        subst (λ (e : entries.ExpandedEntry). law.IsKept base (cache_of k) k.roots group loaded false e (place_of k f) change.before change.after) (made_is base k group loaded f r own) (by (has_spelling (made k f r)) refl o is p honest)
       where
         by : (b : Bool) → has_spelling (made k f r) ≡ b → (x : Option (List ℕ)) → (if b then Some (sealed (encode (made k f r))) else None) ≡ x
-            → (last : Paths) → (q : IsPut fa fb (place_of k f) before x last) → PutIsHonest base.prelude q → law.IsKept base (cache_of k) k.roots group loaded false (as_entry (made k f r)) (place_of k f) before last
-        by true spells (Some piece) is last (put short sets) h =
+            → (q : IsPut (place_of k f) change x) → PutIsHonest base.prelude q → Kept-as-made r change.before change.after
+        by true spells (Some piece) is (put short sets) h =
             let same : sealed (encode (made k f r)) ≡ piece = cc in
-            law.kept spells (subst (λ (x : List ℕ). length x ≤ entry_limit) (sym same) short) (subst (λ (x : List ℕ). Sets (place_of k f) x before last) (sym same) sets)
-        by true spells (Some piece) is last (too_long long) h =
+            law.kept spells (subst (λ (x : List ℕ). length x ≤ entry_limit) (sym same) short) (subst (λ (x : List ℕ). Sets (place_of k f) x change.before change.after) (sym same) sets)
+        by true spells (Some piece) is (too_long long still) h =
             let same : sealed (encode (made k f r)) ≡ piece = cc in
-            law.too_long (subst (λ (x : List ℕ). entry_limit < length x) (sym same) long)
-        by true spells (Some piece) is last (failed rose others) h =
+            subst (Kept-as-made r change.before) (sym still) (law.too_long (subst (λ (x : List ℕ). entry_limit < length x) (sym same) long))
+        by true spells (Some piece) is (failed rose others) h =
             law.failed refl others (λ held d at reads. let x = some_entry (entry_in held) d reads in subst (entries.IsSoundEntry base.prelude) x.2 (h held x.0 at x.1))
-        by true spells None is last unspelled h = absurd (cc)
-        by false spells (Some piece) is last q h = absurd (cc)
-        by false spells None is last unspelled h = law.unspelled spells
+        by true spells None is (unspelled still) h = absurd (cc)
+        by false spells (Some piece) is q h = absurd (cc)
+        by false spells None is (unspelled still) h = subst (Kept-as-made r change.before) (sym still) (law.unspelled spells)
 
     module _ (s : TurnState) (is : s.progress.records ≡ base.derived ∷ others) (honest : IsHonest base.prelude s.store) where
       pub behind_here : (x : Result CompiledLibrary Fault) → expand_found base.prelude s.progress.records f (library_body f.opened.«data») ≡ x → expand_behind base others f (library_body f.opened.«data») ≡ x
@@ -75,8 +78,8 @@ module _ (base : RunBase) (k : CacheInputs) (group : Found → List Source) (loa
       law_turn flag r left turn = turn_right base (cache_of k) k.roots group loaded back right others s.store f n (honest_there base k s.store honest) false flag r left turn
 
       put_turn : (r : CompiledLibrary) (asked faults : ℕ) (left : Paths) → expand_found base.prelude s.progress.records f (library_body f.opened.«data») ≡ Ok r
-          → (p : IsPut asked faults (place_of k f) s.store (spelled (made k f r)) left) → PutIsHonest base.prelude p → law.LibraryTurn base (cache_of k) k.roots group loaded false others s.store f false r left
-      put_turn r asked faults left made_here p h = law.expanded (λ quiet. absurd (true≢false (sym quiet))) (behind_here (Ok r) made_here) (is_kept r asked faults s.store left (spelled (made k f r)) refl p h)
+          → (p : IsPut (place_of k f) (changed s.store asked left faults) (spelled (made k f r))) → PutIsHonest base.prelude p → law.LibraryTurn base (cache_of k) k.roots group loaded false others s.store f false r left
+      put_turn r asked faults left made_here p h = law.expanded (λ quiet. absurd (true≢false (sym quiet))) (behind_here (Ok r) made_here) (is_kept r (changed s.store asked left faults) (spelled (made k f r)) refl p h)
 
       -- what was reused is what expansion gives
       pub reused_gives : (r : CompiledLibrary) → if_short k s.progress.records f (at_path s.store (place_of k f)) ≡ Some r → expand_behind base others f (library_body f.opened.«data») ≡ Ok r

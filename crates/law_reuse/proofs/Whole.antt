@@ -22,7 +22,7 @@ use Rattle.run_reuse.specs.Expansion.{text_after}
 use Rattle.run_reuse.specs.Groups.{AreGroups, groups_from}
 use Rattle.run_reuse.specs.Progress.{ReuseProgress, begun}
 use Rattle.run_reuse.specs.Texts.{Text, with_flags, text_behind, Writes, took, stopped, unready, Leaves, untouched, turned, found_in}
-use Rattle.run_reuse.specs.Turns.{state}
+use Rattle.run_reuse.specs.Turns.{StoreChange, state}
 use Rattle.run_reuse.specs.declared.groups.Group.{Group}
 use Rattle.run_reuse.specs.declared.texts.Came.{Came}
 use Rattle.run_reuse.specs.declared.texts.Came.TheVariants as came
@@ -59,35 +59,35 @@ module _ (prelude : Result Codes Fault) (files : Paths) (roots : List (List ℕ)
     abbrev base_of : (d : CompiledLibrary) → derived_record prelude ≡ Ok d → RunBase
     base_of d is = record { prelude = prelude; derived = d; is_derived = is }
 
-    same : (c : Came) (before after : Paths) (fa fb : ℕ) (made : Result Text Fault) (writes : Writes (kept dir roots s groups) prelude c (found_in s.done) before fa after fb made)
-        → IsHonest prelude before → WritesHonestly (kept dir roots s groups) prelude writes → text_alone made ≡ without_cache prelude s.done c
-    same c before after fa fb made (took derived p is turns) honest h =
+    same : (c : Came) (change : StoreChange) (made : Result Text Fault) (writes : Writes (kept dir roots s groups) prelude c (found_in s.done) change made)
+        → IsHonest prelude change.before → WritesHonestly (kept dir roots s groups) prelude writes → text_alone made ≡ without_cache prelude s.done c
+    same c change made (took derived p is turns) honest h =
         let base = base_of derived is in
-        let x = turns_right base (kept dir roots s groups) (group_of files roots) s.done (right base) (sources groups are) [] s.done [] (state (begun derived) before fa) (state p after fb) (found_in s.done) refl refl refl refl honest turns h in
+        let x = turns_right base (kept dir roots s groups) (group_of files roots) s.done (right base) (sources groups are) [] s.done [] (state (begun derived) change.before change.faults_before) (state p change.after change.faults_after) (found_in s.done) refl refl refl refl honest turns h in
         alone p.reused (text_behind prelude c p) ∙ behind_records prelude s.done c p x.made
-    same c before after fa fb made (stopped derived fault is stops) honest h =
+    same c change made (stopped derived fault is stops) honest h =
         let base = base_of derived is in
         behind_fault prelude s.done c fault
-        (stops_right base (kept dir roots s groups) (group_of files roots) s.done (right base) (sources groups are) fault after fb [] s.done [] (state (begun derived) before fa) (found_in s.done) refl refl refl refl honest stops h)
-    same c before after fa fb made (unready fault is still) honest h = behind_fault prelude s.done c fault (no_derived prelude s.done fault is)
+        (stops_right base (kept dir roots s groups) (group_of files roots) s.done (right base) (sources groups are) fault change.after change.faults_after [] s.done [] (state (begun derived) change.before change.faults_before) (found_in s.done) refl refl refl refl honest stops h)
+    same c change made (unready fault is still) honest h = behind_fault prelude s.done c fault (no_derived prelude s.done fault is)
 
-    keeps : (c : Came) (before after : Paths) (fa fb : ℕ) (made : Result Text Fault) (writes : Writes (kept dir roots s groups) prelude c (found_in s.done) before fa after fb made)
-        → IsHonest prelude before → WritesHonestly (kept dir roots s groups) prelude writes → IsHonest prelude after
-    keeps c before after fa fb made (took derived p is turns) honest h =
+    keeps : (c : Came) (change : StoreChange) (made : Result Text Fault) (writes : Writes (kept dir roots s groups) prelude c (found_in s.done) change made)
+        → IsHonest prelude change.before → WritesHonestly (kept dir roots s groups) prelude writes → IsHonest prelude change.after
+    keeps c change made (took derived p is turns) honest h =
         let base = base_of derived is in
-        let x = turns_right base (kept dir roots s groups) (group_of files roots) s.done (right base) (sources groups are) [] s.done [] (state (begun derived) before fa) (state p after fb) (found_in s.done) refl refl refl refl honest turns h in
+        let x = turns_right base (kept dir roots s groups) (group_of files roots) s.done (right base) (sources groups are) [] s.done [] (state (begun derived) change.before change.faults_before) (state p change.after change.faults_after) (found_in s.done) refl refl refl refl honest turns h in
         x.honest
-    keeps c before after fa fb made (stopped derived fault is stops) honest h =
+    keeps c change made (stopped derived fault is stops) honest h =
         let base = base_of derived is in
-        stops_left base (kept dir roots s groups) (group_of files roots) s.done (right base) (sources groups are) fault after fb [] s.done [] (state (begun derived) before fa) (found_in s.done) refl refl refl refl honest stops h
-    keeps c before after fa fb made (unready fault is still) honest h = subst (IsHonest prelude) (sym still) honest
+        stops_left base (kept dir roots s groups) (group_of files roots) s.done (right base) (sources groups are) fault change.after change.faults_after [] s.done [] (state (begun derived) change.before change.faults_before) (found_in s.done) refl refl refl refl honest stops h
+    keeps c change made (unready fault is still) honest h = subst (IsHonest prelude) (sym still) honest
 
-    left : (before after : Paths) (fa fb : ℕ) (leaves : Leaves (kept dir roots s groups) prelude (found_in s.done) before fa after fb)
-        → IsHonest prelude before → LeavesHonestly (kept dir roots s groups) prelude leaves → IsHonest prelude after
-    left before after fa fb (untouched still) honest h = subst (IsHonest prelude) (sym still) honest
-    left before after fa fb (turned derived is breaks) honest h =
+    left : (change : StoreChange) (leaves : Leaves (kept dir roots s groups) prelude (found_in s.done) change)
+        → IsHonest prelude change.before → LeavesHonestly (kept dir roots s groups) prelude leaves → IsHonest prelude change.after
+    left change (untouched still) honest h = subst (IsHonest prelude) (sym still) honest
+    left change (turned derived is breaks) honest h =
         let base = base_of derived is in
-        breaks_right base (kept dir roots s groups) (group_of files roots) s.done (right base) (sources groups are) after fb [] s.done [] (state (begun derived) before fa) (found_in s.done) refl refl refl refl honest breaks h
+        breaks_right base (kept dir roots s groups) (group_of files roots) s.done (right base) (sources groups are) change.after change.faults_after [] s.done [] (state (begun derived) change.before change.faults_before) (found_in s.done) refl refl refl refl honest breaks h
 
   changes_nothing : CacheChangesNothing prelude roots s
   changes_nothing = record { same = same; keeps = keeps; honest = left }

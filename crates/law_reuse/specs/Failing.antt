@@ -3,16 +3,14 @@ use Rattle.std.specs.Prelude.{◌≡◌, ◌≤◌, ◌+◌, ◌-◌, ◌^◌, �
 use Rattle.base_data.specs.declared.fault.Fault.{Fault}
 use Rattle.eval_code.specs.Codes.{Codes}
 use Rattle.load_files.specs.declared.found.Found.{Found}
-use Rattle.base_outside.specs.Contents.{Paths}
 use Rattle.run_reuse.specs.Entries.{CacheInputs}
-use Rattle.run_reuse.specs.Turns.{TurnState, stored, ReuseTurn, reused, expanded, IsPut, put, too_long, unspelled, failed, ReuseTurns, done, next}
+use Rattle.run_reuse.specs.Turns.{StoreChange, TurnState, stored, ReuseTurn, reused, expanded, IsPut, put, too_long, unspelled, failed, ReuseTurns, done, next}
 
 -- 1 for a put that failed
-abbrev pub unput : {faults_before faults : ℕ} {place : List ℕ} {before after : Paths} {o : Option (List ℕ)} → IsPut faults_before faults place before o after
-    → ℕ
+abbrev pub unput : {place : List ℕ} {change : StoreChange} {o : Option (List ℕ)} → IsPut place change o → ℕ
 unput (put short sets) = 0
-unput (too_long long) = 0
-unput unspelled = 0
+unput (too_long long same) = 0
+unput (unspelled same) = 0
 unput (failed rose others) = 1
 
 -- A count of faults rose by so many at least, but that it ends at the last value that it can hold.

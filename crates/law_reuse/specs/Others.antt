@@ -6,6 +6,7 @@ use Rattle.load_files.specs.declared.found.Found.{Found}
 use Rattle.base_outside.specs.Contents.{Paths, at_path}
 use Rattle.run_reuse.specs.Entries.{CacheInputs, place_of}
 use Rattle.run_reuse.specs.Texts.{Text, Writes, Leaves}
+use Rattle.run_reuse.specs.Turns.{StoreChange}
 use Rattle.run_reuse.specs.declared.texts.Came.{Came}
 
 module _ (k : CacheInputs) where
@@ -20,7 +21,6 @@ module _ (k : CacheInputs) where
 
 -- whatever the run comes to, over whatever store, and whichever of its calls fail
 pub record LeavesOthers (k : CacheInputs) (prelude : Result Codes Fault) : Type 0 where
-  pub writes : (c : Came) (fs : List Found) (before after : Paths) (faults_before faults : ℕ) (made : Result Text Fault)
-      → Writes k prelude c fs before faults_before after faults made → OthersAreKept k fs before after
-  pub leaves : (fs : List Found) (before after : Paths) (faults_before faults : ℕ) → Leaves k prelude fs before faults_before after faults
-      → OthersAreKept k fs before after
+  pub writes : (c : Came) (fs : List Found) (change : StoreChange) (made : Result Text Fault) → Writes k prelude c fs change made
+      → OthersAreKept k fs change.before change.after
+  pub leaves : (fs : List Found) (change : StoreChange) → Leaves k prelude fs change → OthersAreKept k fs change.before change.after

@@ -12,7 +12,7 @@ use Rattle.base_outside.specs.Contents.{Paths}
 use Rattle.run_reuse.specs.Entries.{CacheInputs}
 use Rattle.run_reuse.specs.Groups.{AreGroups, chosen, groups_from, picked}
 use Rattle.run_reuse.specs.Texts.{Text, Writes, Leaves, found_in}
-use Rattle.run_reuse.specs.Turns.{Quiet}
+use Rattle.run_reuse.specs.Turns.{StoreChange, Quiet}
 use Rattle.run_reuse.specs.declared.groups.Group.{Group}
 use Rattle.run_reuse.specs.declared.texts.Came.{Came}
 use Rattle.run_reuse.specs.declared.texts.Came.TheVariants as came
@@ -47,22 +47,21 @@ module _ (prelude : Result Codes Fault) (roots : List (List ℕ)) (s : Loading) 
   -- over an honest store
   abbrev pub WritesTheSame : Type 0
   WritesTheSame = (dir : List ℕ) (groups : List Group) → AreGroups (groups_from 0 0 s.sources) s.begun s.done groups
-      → (c : Came) (before after : Paths) (faults_before faults : ℕ) (made : Result Text Fault)
-      → (writes : Writes (kept dir roots s groups) prelude c (found_in s.done) before faults_before after faults made)
-      → IsHonest prelude before → WritesHonestly (kept dir roots s groups) prelude writes → text_alone made ≡ without_cache prelude s.done c
+      → (c : Came) (change : StoreChange) (made : Result Text Fault)
+      → (writes : Writes (kept dir roots s groups) prelude c (found_in s.done) change made)
+      → IsHonest prelude change.before → WritesHonestly (kept dir roots s groups) prelude writes → text_alone made ≡ without_cache prelude s.done c
 
   abbrev pub LeavesAnHonestStore : Type 0
   LeavesAnHonestStore = (dir : List ℕ) (groups : List Group) → AreGroups (groups_from 0 0 s.sources) s.begun s.done groups
-      → (before after : Paths) (faults_before faults : ℕ)
-      → (leaves : Leaves (kept dir roots s groups) prelude (found_in s.done) before faults_before after faults)
-      → IsHonest prelude before → LeavesHonestly (kept dir roots s groups) prelude leaves → IsHonest prelude after
+      → (change : StoreChange) (leaves : Leaves (kept dir roots s groups) prelude (found_in s.done) change)
+      → IsHonest prelude change.before → LeavesHonestly (kept dir roots s groups) prelude leaves → IsHonest prelude change.after
 
   -- also where it is known what was written
   abbrev pub KeepsAnHonestStore : Type 0
   KeepsAnHonestStore = (dir : List ℕ) (groups : List Group) → AreGroups (groups_from 0 0 s.sources) s.begun s.done groups
-      → (c : Came) (before after : Paths) (faults_before faults : ℕ) (made : Result Text Fault)
-      → (writes : Writes (kept dir roots s groups) prelude c (found_in s.done) before faults_before after faults made)
-      → IsHonest prelude before → WritesHonestly (kept dir roots s groups) prelude writes → IsHonest prelude after
+      → (c : Came) (change : StoreChange) (made : Result Text Fault)
+      → (writes : Writes (kept dir roots s groups) prelude c (found_in s.done) change made)
+      → IsHonest prelude change.before → WritesHonestly (kept dir roots s groups) prelude writes → IsHonest prelude change.after
 
   pub record CacheChangesNothing : Type 0 where
     pub same : WritesTheSame
@@ -71,8 +70,7 @@ module _ (prelude : Result Codes Fault) (roots : List (List ℕ)) (s : Loading) 
 
 -- where no call of the store failed, the premise on seals holds
 pub record HoldsWhereNothingFails (k : CacheInputs) (prelude : Result Codes Fault) : Type 0 where
-  pub writes : (c : Came) (fs : List Found) (before after : Paths) (faults_before faults : ℕ) (made : Result Text Fault)
-      → (w : Writes k prelude c fs before faults_before after faults made)
-      → Quiet faults_before faults → WritesHonestly k prelude w
-  pub leaves : (fs : List Found) (before after : Paths) (faults_before faults : ℕ) (l : Leaves k prelude fs before faults_before after faults)
-      → Quiet faults_before faults → LeavesHonestly k prelude l
+  pub writes : (c : Came) (fs : List Found) (change : StoreChange) (made : Result Text Fault) (w : Writes k prelude c fs change made)
+      → Quiet change.faults_before change.faults_after → WritesHonestly k prelude w
+  pub leaves : (fs : List Found) (change : StoreChange) (l : Leaves k prelude fs change)
+      → Quiet change.faults_before change.faults_after → LeavesHonestly k prelude l

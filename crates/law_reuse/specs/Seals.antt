@@ -6,17 +6,16 @@ use Rattle.load_files.specs.declared.found.Found.{Found}
 use Rattle.base_outside.specs.Contents.{Paths}
 use Rattle.run_reuse.specs.Entries.{CacheInputs}
 use Rattle.run_reuse.specs.Texts.{Text, Writes, took, stopped, unready, Leaves, untouched, turned}
-use Rattle.run_reuse.specs.Turns.{TurnState, ReuseTurn, reused, expanded, IsPut, put, too_long, unspelled, failed, Breaks, nothing_put, entry_put, ReuseTurns, done, next, TurnsStop, here, later, BreaksOff, between, within, behind}
+use Rattle.run_reuse.specs.Turns.{StoreChange, TurnState, ReuseTurn, reused, expanded, IsPut, put, too_long, unspelled, failed, Breaks, nothing_put, entry_put, ReuseTurns, done, next, TurnsStop, here, later, BreaksOff, between, within, behind}
 use Rattle.run_reuse.specs.declared.texts.Came.{Came}
 use Rattle.law_reuse.specs.Sound.{IsHonestAt}
 
 module _ (prelude : Result Codes Fault) where
-  abbrev pub PutIsHonest : {faults_before faults : ℕ} {place : List ℕ} {before after : Paths} {o : Option (List ℕ)}
-      → IsPut faults_before faults place before o after → Type 0
+  abbrev pub PutIsHonest : {place : List ℕ} {change : StoreChange} {o : Option (List ℕ)} → IsPut place change o → Type 0
   PutIsHonest (put short sets) = Unit {0}
-  PutIsHonest (too_long long) = Unit {0}
-  PutIsHonest unspelled = Unit {0}
-  PutIsHonest {place = place} {after = after} (failed rose others) = IsHonestAt prelude after place
+  PutIsHonest (too_long long same) = Unit {0}
+  PutIsHonest (unspelled same) = Unit {0}
+  PutIsHonest {place = place} {change = change} (failed rose others) = IsHonestAt prelude change.after place
 
 module _ (k : CacheInputs) (prelude : Result Codes Fault) where
   abbrev pub TurnIsHonest : {s t : TurnState} {f : Found} → ReuseTurn k prelude s f t → Type 0
@@ -41,13 +40,11 @@ module _ (k : CacheInputs) (prelude : Result Codes Fault) where
   BreaksOffHonestly (within breaks) = BreaksHonestly breaks
   BreaksOffHonestly (behind turn breaks) = TurnIsHonest turn × BreaksOffHonestly breaks
 
-  abbrev pub WritesHonestly : {c : Came} {fs : List Found} {before after : Paths} {faults_before faults : ℕ} {made : Result Text Fault}
-      → Writes k prelude c fs before faults_before after faults made → Type 0
+  abbrev pub WritesHonestly : {c : Came} {fs : List Found} {change : StoreChange} {made : Result Text Fault} → Writes k prelude c fs change made → Type 0
   WritesHonestly (took derived p is turns) = TurnsHonestly turns
   WritesHonestly (stopped derived fault is stops) = StopsHonestly stops
   WritesHonestly (unready fault is same) = Unit {0}
 
-  abbrev pub LeavesHonestly : {fs : List Found} {before after : Paths} {faults_before faults : ℕ} → Leaves k prelude fs before faults_before after faults
-      → Type 0
+  abbrev pub LeavesHonestly : {fs : List Found} {change : StoreChange} → Leaves k prelude fs change → Type 0
   LeavesHonestly (untouched same) = Unit {0}
   LeavesHonestly (turned derived is breaks) = BreaksOffHonestly breaks

@@ -15,7 +15,7 @@ use Rattle.run_reuse.specs.Entries.{CacheInputs}
 use Rattle.run_reuse.specs.Fuel.{progress_spent, came_spent, TurnsSpend, WritesSpending}
 use Rattle.run_reuse.specs.Progress.{ReuseProgress, begun}
 use Rattle.run_reuse.specs.Texts.{Text, with_flags, TextGives, took}
-use Rattle.run_reuse.specs.Turns.{TakeFrom}
+use Rattle.run_reuse.specs.Turns.{StoreChange, changed, TakeFrom}
 use Rattle.run_reuse.specs.declared.texts.Came.{Came}
 use Rattle.run_reuse.specs.declared.texts.Came.TheVariants as came
 use Rattle.run_reuse.specs.declared.texts.WrittenProgram.{WrittenProgram}
@@ -34,19 +34,19 @@ module _ (prelude : Result Codes Fault) where
       → after ≡ before + came_spent prelude (came.Program f) p
   program_spent f p records before after is rose = rose ∙ ap (λ (rs : List CompiledLibrary). before + found_spent prelude rs f (program_body f.opened.«data»)) is
 
-module _ (k : CacheInputs) (prelude : Result Codes Fault) (c : Came) (fs : List Found) (before after : Paths) (fa fb start middle last : ℕ) where
-  text_spends : (d : Result CompiledLibrary Fault) (p : ReuseProgress) (w : WrittenProgram) → derived_record prelude ≡ d → TakeFrom k prelude d (Ok p) fs before after fa fb → TextGives prelude (Ok w) c p
-      → middle ≡ start + progress_spent prelude fs p → last ≡ middle + came_spent prelude c p → WritesSpending k prelude c fs before fa after fb (Ok (string_bytes w.text, w.reused)) start last
+module _ (k : CacheInputs) (prelude : Result Codes Fault) (c : Came) (fs : List Found) (change : StoreChange) (start middle last : ℕ) where
+  text_spends : (d : Result CompiledLibrary Fault) (p : ReuseProgress) (w : WrittenProgram) → derived_record prelude ≡ d → TakeFrom k prelude d (Ok p) fs change → TextGives prelude (Ok w) c p
+      → middle ≡ start + progress_spent prelude fs p → last ≡ middle + came_spent prelude c p → WritesSpending k prelude c fs change (Ok (string_bytes w.text, w.reused)) start last
   text_spends (Ok derived) p w is turns h one two =
-      subst (λ (x : Result Text Fault). WritesSpending k prelude c fs before fa after fb x start last)
+      subst (λ (x : Result Text Fault). WritesSpending k prelude c fs change x start last)
       (ap (with_flags p.reused) h.0 ∙ ap (λ (flags : List Bool). Ok (string_bytes w.text, flags)) (sym h.1)) (record { writes = took derived p is turns; rose = omega (arith, one, two) })
   text_spends (Err fault) p w is turns h one two = absurd turns
 
 module _ (k : CacheInputs) (prelude : Result Codes Fault) (told after : Option Paths) (c : Came) (fs : List Found) (fa fb start middle last : ℕ) where
-  pub turns_spend : (p : ReuseProgress) (r : Result WrittenProgram Stop) → WhereTold told after (λ a b. TakeFrom k prelude (derived_record prelude) (Ok p) fs a b fa fb) → TextGives prelude r c p
+  pub turns_spend : (p : ReuseProgress) (r : Result WrittenProgram Stop) → WhereTold told after (λ a b. TakeFrom k prelude (derived_record prelude) (Ok p) fs (changed a fa b fb)) → TextGives prelude r c p
       → middle ≡ start + progress_spent prelude fs p → OnOk r (last ≡ middle + came_spent prelude c p)
-      → IfOk r (λ (w : WrittenProgram). WhereTold told after (λ a b. WritesSpending k prelude c fs a fa b fb (Ok (string_bytes w.text, w.reused)) start last))
+      → IfOk r (λ (w : WrittenProgram). WhereTold told after (λ a b. WritesSpending k prelude c fs (changed a fa b fb) (Ok (string_bytes w.text, w.reused)) start last))
   turns_spend p (Ok w) h text one two =
-      told_by told after (λ a b. TakeFrom k prelude (derived_record prelude) (Ok p) fs a b fa fb) (λ a b. WritesSpending k prelude c fs a fa b fb (Ok (string_bytes w.text, w.reused)) start last)
-      (λ a b turns. text_spends k prelude c fs a b fa fb start middle last (derived_record prelude) p w refl turns text one two) h
+      told_by told after (λ a b. TakeFrom k prelude (derived_record prelude) (Ok p) fs (changed a fa b fb)) (λ a b. WritesSpending k prelude c fs (changed a fa b fb) (Ok (string_bytes w.text, w.reused)) start last)
+      (λ a b turns. text_spends k prelude c fs (changed a fa b fb) start middle last (derived_record prelude) p w refl turns text one two) h
   turns_spend p (Err stop) h text one two = tt

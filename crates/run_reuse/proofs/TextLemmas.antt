@@ -15,7 +15,7 @@ use Rattle.run_reuse.specs.Entries.{CacheInputs}
 use Rattle.run_reuse.specs.Expansion.{text_after}
 use Rattle.run_reuse.specs.Progress.{ReuseProgress, begun}
 use Rattle.run_reuse.specs.Texts.{Text, with_flags, TextGives, Writes, took, stopped, unready, Leaves, untouched, turned, Answers}
-use Rattle.run_reuse.specs.Turns.{TurnState, state, ReuseTurns, done, next, TurnsStop, here, later, BreaksOff, between, within, behind, nothing_put, TakeFrom}
+use Rattle.run_reuse.specs.Turns.{StoreChange, changed, TurnState, state, ReuseTurns, done, next, TurnsStop, here, later, BreaksOff, between, within, behind, nothing_put, TakeFrom}
 use Rattle.run_reuse.specs.declared.texts.Came.{Came}
 use Rattle.run_reuse.specs.declared.texts.Came.TheVariants as came
 use Rattle.run_reuse.specs.declared.texts.WrittenProgram.{WrittenProgram}
@@ -33,26 +33,26 @@ module _ (k : CacheInputs) (prelude : Result Codes Fault) where
   stopped_off fault store faults s fs (here at) = within (nothing_put at.same at.later)
   stopped_off fault store faults s fs (later {t = t} {fs = rest} turn stops) = behind turn (stopped_off fault store faults t rest stops)
 
-  module _ (c : Came) (fs : List Found) (before : Paths) (fa : ℕ) (after : Paths) (fb : ℕ) where
+  module _ (c : Came) (fs : List Found) (change : StoreChange) where
     -- what is left of the store, whatever is written
-    pub writes_leave : (made : Result Text Fault) → Writes k prelude c fs before fa after fb made → Leaves k prelude fs before fa after fb
-    writes_leave made (took derived p is turns) = turned derived is (taken_off (state (begun derived) before fa) (state p after fb) fs turns)
-    writes_leave made (stopped derived fault is stops) = turned derived is (stopped_off fault after fb (state (begun derived) before fa) fs stops)
+    pub writes_leave : (made : Result Text Fault) → Writes k prelude c fs change made → Leaves k prelude fs change
+    writes_leave made (took derived p is turns) = turned derived is (taken_off (state (begun derived) change.before change.faults_before) (state p change.after change.faults_after) fs turns)
+    writes_leave made (stopped derived fault is stops) = turned derived is (stopped_off fault change.after change.faults_after (state (begun derived) change.before change.faults_before) fs stops)
     writes_leave made (unready fault is same) = untouched same
 
-    text_is : (derived : CompiledLibrary) (p : ReuseProgress) (r : Result WrittenProgram Stop) → derived_record prelude ≡ Ok derived → ReuseTurns k prelude (state (begun derived) before fa) fs (state p after fb) → TextGives prelude r c p
-        → Answers k prelude r c fs before fa after fb
+    text_is : (derived : CompiledLibrary) (p : ReuseProgress) (r : Result WrittenProgram Stop) → derived_record prelude ≡ Ok derived → ReuseTurns k prelude (state (begun derived) change.before change.faults_before) fs (state p change.after change.faults_after) → TextGives prelude r c p
+        → Answers k prelude r c fs change
     text_is derived p (Ok w) is turns h =
-        subst (λ (x : Result Text Fault). Writes k prelude c fs before fa after fb x)
+        subst (λ (x : Result Text Fault). Writes k prelude c fs change x)
         (ap (with_flags p.reused) h.0 ∙ ap (λ (flags : List Bool). Ok (string_bytes w.text, flags)) (sym h.1)) (took derived p is turns)
-    text_is derived p (Err (stop.Fault fault)) is turns h = subst (λ (x : Result Text Fault). Writes k prelude c fs before fa after fb x) (ap (with_flags p.reused) h) (took derived p is turns)
-    text_is derived p (Err stop.Memory) is turns h = turned derived is (taken_off (state (begun derived) before fa) (state p after fb) fs turns)
+    text_is derived p (Err (stop.Fault fault)) is turns h = subst (λ (x : Result Text Fault). Writes k prelude c fs change x) (ap (with_flags p.reused) h) (took derived p is turns)
+    text_is derived p (Err stop.Memory) is turns h = turned derived is (taken_off (state (begun derived) change.before change.faults_before) (state p change.after change.faults_after) fs turns)
 
-    by_turns : (d : Result CompiledLibrary Fault) (p : ReuseProgress) (r : Result WrittenProgram Stop) → derived_record prelude ≡ d → TakeFrom k prelude d (Ok p) fs before after fa fb → TextGives prelude r c p → Answers k prelude r c fs before fa after fb
+    by_turns : (d : Result CompiledLibrary Fault) (p : ReuseProgress) (r : Result WrittenProgram Stop) → derived_record prelude ≡ d → TakeFrom k prelude d (Ok p) fs change → TextGives prelude r c p → Answers k prelude r c fs change
     by_turns (Ok derived) p r is turns h = text_is derived p r is turns h
     by_turns (Err fault) p r is turns h = absurd turns
 
-    by_stop : (d : Result CompiledLibrary Fault) (x : Stop) → derived_record prelude ≡ d → TakeFrom k prelude d (Err x) fs before after fa fb → Answers k prelude (Err x) c fs before fa after fb
+    by_stop : (d : Result CompiledLibrary Fault) (x : Stop) → derived_record prelude ≡ d → TakeFrom k prelude d (Err x) fs change → Answers k prelude (Err x) c fs change
     by_stop (Ok derived) (stop.Fault fault) is h = stopped derived fault is h
     by_stop (Ok derived) stop.Memory is h = turned derived is h
     by_stop (Err fault) (stop.Fault f) is h = unready f (is ∙ ap (λ (x : Fault). Err x) (sym h.0)) h.1
@@ -69,11 +69,11 @@ module _ (k : CacheInputs) (prelude : Result Codes Fault) where
   text_done w f p records is flags h = (ap (λ (rs : List CompiledLibrary). text_after prelude rs f) (sym is) ∙ h, flags)
 
   module _ (told after : Option Paths) (c : Came) (fs : List Found) (fa fb : ℕ) where
-    pub behind_turns : (p : ReuseProgress) (r : Result WrittenProgram Stop) → WhereTold told after (λ a b. TakeFrom k prelude (derived_record prelude) (Ok p) fs a b fa fb) → TextGives prelude r c p
-        → WhereTold told after (λ a b. Answers k prelude r c fs a fa b fb)
-    behind_turns p r h text = told_by told after (λ a b. TakeFrom k prelude (derived_record prelude) (Ok p) fs a b fa fb) (λ a b. Answers k prelude r c fs a fa b fb)
-        (λ a b turns. by_turns c fs a fa b fb (derived_record prelude) p r refl turns text) h
+    pub behind_turns : (p : ReuseProgress) (r : Result WrittenProgram Stop) → WhereTold told after (λ a b. TakeFrom k prelude (derived_record prelude) (Ok p) fs (changed a fa b fb)) → TextGives prelude r c p
+        → WhereTold told after (λ a b. Answers k prelude r c fs (changed a fa b fb))
+    behind_turns p r h text = told_by told after (λ a b. TakeFrom k prelude (derived_record prelude) (Ok p) fs (changed a fa b fb)) (λ a b. Answers k prelude r c fs (changed a fa b fb))
+        (λ a b turns. by_turns c fs (changed a fa b fb) (derived_record prelude) p r refl turns text) h
 
-    pub where_stopped : (x : Stop) → WhereTold told after (λ a b. TakeFrom k prelude (derived_record prelude) (Err x) fs a b fa fb) → WhereTold told after (λ a b. Answers k prelude (Err x) c fs a fa b fb)
-    where_stopped x h = told_by told after (λ a b. TakeFrom k prelude (derived_record prelude) (Err x) fs a b fa fb) (λ a b. Answers k prelude (Err x) c fs a fa b fb)
-        (λ a b turns. by_stop c fs a fa b fb (derived_record prelude) x refl turns) h
+    pub where_stopped : (x : Stop) → WhereTold told after (λ a b. TakeFrom k prelude (derived_record prelude) (Err x) fs (changed a fa b fb)) → WhereTold told after (λ a b. Answers k prelude (Err x) c fs (changed a fa b fb))
+    where_stopped x h = told_by told after (λ a b. TakeFrom k prelude (derived_record prelude) (Err x) fs (changed a fa b fb)) (λ a b. Answers k prelude (Err x) c fs (changed a fa b fb))
+        (λ a b turns. by_stop c fs (changed a fa b fb) (derived_record prelude) x refl turns) h

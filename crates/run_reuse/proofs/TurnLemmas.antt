@@ -19,7 +19,7 @@ use Rattle.run_reuse.specs.Entries.{CacheInputs, entry_limit, if_short, made, pl
 use Rattle.run_reuse.specs.Progress.{ReuseProgress, begun, with_record}
 use Rattle.run_reuse.specs.declared.turns.Recorded.{Recorded}
 use Rattle.run_reuse.specs.Turns as turns
-use Rattle.run_reuse.specs.Turns.{IsPut, put, too_long, unspelled, failed, PutsEntry, Quiet, TurnState, state, ReuseTurn, reused, expanded, Breaks, nothing_put, entry_put, BreaksOff, between, Keeps, Records, TakesTurn, TakeTurns, TakeFrom}
+use Rattle.run_reuse.specs.Turns.{IsPut, put, too_long, unspelled, failed, PutsEntry, Quiet, changed, TurnState, state, ReuseTurn, reused, expanded, Breaks, nothing_put, entry_put, BreaksOff, between, Keeps, Records, TakesTurn, TakeTurns, TakeFrom}
 use Rattle.run_reuse.proofs.Told.{told_same, told_by, told_here, told_where, rose_later}
 
 up_to : (a b c : ℕ) → a ≤ b → b ≤ c → a ≤ c
@@ -41,26 +41,26 @@ still told after R same all = subst (λ (t : Option Paths). WhereTold told t R) 
 -- ---- what a put answers
 
 module _ (fa fb : ℕ) (place piece : List ℕ) (told after : Option Paths) where
-  pub put_done : (u : Unit) → length piece ≤ entry_limit → WhereTold told after (Sets place piece) → WhereTold told after (λ a c. PutsEntry (Ok u) fa fb place a (Some piece) c)
-  put_done u short h = told_by told after (Sets place piece) (λ a c. PutsEntry (Ok u) fa fb place a (Some piece) c) (λ a c sets. put short sets) h
+  pub put_done : (u : Unit) → length piece ≤ entry_limit → WhereTold told after (Sets place piece) → WhereTold told after (λ a c. PutsEntry (Ok u) place (Some piece) (changed a fa c fb))
+  put_done u short h = told_by told after (Sets place piece) (λ a c. PutsEntry (Ok u) place (Some piece) (changed a fa c fb)) (λ a c sets. put short sets) h
 
-  pub put_failed : (u : Unit) → Rose fa fb → WhereTold told after (KeepsOthers place) → WhereTold told after (λ a c. PutsEntry (Ok u) fa fb place a (Some piece) c)
-  put_failed u rose h = told_by told after (KeepsOthers place) (λ a c. PutsEntry (Ok u) fa fb place a (Some piece) c) (λ a c others. failed rose others) h
+  pub put_failed : (u : Unit) → Rose fa fb → WhereTold told after (KeepsOthers place) → WhereTold told after (λ a c. PutsEntry (Ok u) place (Some piece) (changed a fa c fb))
+  put_failed u rose h = told_by told after (KeepsOthers place) (λ a c. PutsEntry (Ok u) place (Some piece) (changed a fa c fb)) (λ a c others. failed rose others) h
 
-pub put_long : (fa : ℕ) (place piece : List ℕ) (told : Option Paths) (u : Unit) → entry_limit < length piece → WhereTold told told (λ a c. PutsEntry (Ok u) fa fa place a (Some piece) c)
-put_long fa place piece told u long = told_same told (λ a c. PutsEntry (Ok u) fa fa place a (Some piece) c) (λ a. too_long long)
+pub put_long : (fa : ℕ) (place piece : List ℕ) (told : Option Paths) (u : Unit) → entry_limit < length piece → WhereTold told told (λ a c. PutsEntry (Ok u) place (Some piece) (changed a fa c fa))
+put_long fa place piece told u long = told_same told (λ a c. PutsEntry (Ok u) place (Some piece) (changed a fa c fa)) (λ a. too_long long refl)
 
-pub not_spelled : (fa : ℕ) (place : List ℕ) (o : Option (List ℕ)) (told : Option Paths) (u : Unit) → o ≡ None → WhereTold told told (λ a c. PutsEntry (Ok u) fa fa place a o c)
-not_spelled fa place o told u is = subst (λ (x : Option (List ℕ)). WhereTold told told (λ a c. PutsEntry (Ok u) fa fa place a x c)) (sym is) (told_same told (λ a c. PutsEntry (Ok u) fa fa place a None c) (λ a. unspelled))
+pub not_spelled : (fa : ℕ) (place : List ℕ) (o : Option (List ℕ)) (told : Option Paths) (u : Unit) → o ≡ None → WhereTold told told (λ a c. PutsEntry (Ok u) place o (changed a fa c fa))
+not_spelled fa place o told u is = subst (λ (x : Option (List ℕ)). WhereTold told told (λ a c. PutsEntry (Ok u) place x (changed a fa c fa))) (sym is) (told_same told (λ a c. PutsEntry (Ok u) place None (changed a fa c fa)) (λ a. unspelled refl))
 
 -- memory ran out, and nothing was put
-pub put_lost : (fa fb : ℕ) (place : List ℕ) (o : Option (List ℕ)) (told : Option Paths) (memory : Memory) → WhereTold told told (λ a c. PutsEntry (Err memory) fa fb place a o c)
-put_lost fa fb place o told memory = told_same told (λ a c. PutsEntry (Err memory) fa fb place a o c) (λ a. refl)
+pub put_lost : (fa fb : ℕ) (place : List ℕ) (o : Option (List ℕ)) (told : Option Paths) (memory : Memory) → WhereTold told told (λ a c. PutsEntry (Err memory) place o (changed a fa c fb))
+put_lost fa fb place o told memory = told_same told (λ a c. PutsEntry (Err memory) place o (changed a fa c fb)) (λ a. refl)
 
 -- the spelling of an entry was put, whatever the call answered
 pub spelling_put : (fa fb : ℕ) (place piece : List ℕ) (o : Option (List ℕ)) (told after : Option Paths) (result : Result Unit Memory) → Some piece ≡ o
-    → WhereTold told after (λ a c. PutsEntry result fa fb place a (Some piece) c) → WhereTold told after (λ a c. PutsEntry result fa fb place a o c)
-spelling_put fa fb place piece o told after result is h = subst (λ (x : Option (List ℕ)). WhereTold told after (λ a c. PutsEntry result fa fb place a x c)) is h
+    → WhereTold told after (λ a c. PutsEntry result place (Some piece) (changed a fa c fb)) → WhereTold told after (λ a c. PutsEntry result place o (changed a fa c fb))
+spelling_put fa fb place piece o told after result is h = subst (λ (x : Option (List ℕ)). WhereTold told after (λ a c. PutsEntry result place x (changed a fa c fb))) is h
 
 module _ (k : CacheInputs) (prelude : Result Codes Fault) where
   -- ---- what was expanded, and its entry
@@ -68,21 +68,21 @@ module _ (k : CacheInputs) (prelude : Result Codes Fault) where
   module _ (records : List CompiledLibrary) (f : Found) (place : List ℕ) (fa : ℕ) where
     -- it stopped before anything was put
     pub keeps_nothing : (told : Option Paths) (fb : ℕ) (x : Stop) → Stops x (expand_found prelude records f (library_body f.opened.«data»))
-        → WhereTold told told (λ a c. Keeps k prelude records f place (Err x) a c fa fb)
-    keeps_nothing told fb (stop.Fault fault) h = told_same told (λ a c. Keeps k prelude records f place (Err (stop.Fault fault)) a c fa fb) (λ a. (h, refl))
-    keeps_nothing told fb stop.Memory h = told_same told (λ a c. Keeps k prelude records f place (Err stop.Memory) a c fa fb) (λ a. refl)
+        → WhereTold told told (λ a c. Keeps k prelude records f place (Err x) (changed a fa c fb))
+    keeps_nothing told fb (stop.Fault fault) h = told_same told (λ a c. Keeps k prelude records f place (Err (stop.Fault fault)) (changed a fa c fb)) (λ a. (h, refl))
+    keeps_nothing told fb stop.Memory h = told_same told (λ a c. Keeps k prelude records f place (Err stop.Memory) (changed a fa c fb)) (λ a. refl)
 
     module _ (told after : Option Paths) (fb : ℕ) (e : Entry) where
-      pub keep_lost : (memory : Memory) → WhereTold told after (λ a c. PutsEntry (Err memory) fa fb place a (spelled e) c) → WhereTold told after (λ a c. Keeps k prelude records f place (Err stop.Memory) a c fa fb)
-      keep_lost memory h = told_by told after (λ a c. PutsEntry (Err memory) fa fb place a (spelled e) c) (λ a c. Keeps k prelude records f place (Err stop.Memory) a c fa fb) (λ a c same. same) h
+      pub keep_lost : (memory : Memory) → WhereTold told after (λ a c. PutsEntry (Err memory) place (spelled e) (changed a fa c fb)) → WhereTold told after (λ a c. Keeps k prelude records f place (Err stop.Memory) (changed a fa c fb))
+      keep_lost memory h = told_by told after (λ a c. PutsEntry (Err memory) place (spelled e) (changed a fa c fb)) (λ a c. Keeps k prelude records f place (Err stop.Memory) (changed a fa c fb)) (λ a c same. same) h
 
       pub keep_done : (q : Recorded) (r : CompiledLibrary) (u : Unit) → q ≡ anew e.stored → e ≡ made k f r → expand_found prelude records f (library_body f.opened.«data») ≡ Ok r
-          → WhereTold told after (λ a c. PutsEntry (Ok u) fa fb place a (spelled e) c) → WhereTold told after (λ a c. Keeps k prelude records f place (Ok q) a c fa fb)
+          → WhereTold told after (λ a c. PutsEntry (Ok u) place (spelled e) (changed a fa c fb)) → WhereTold told after (λ a c. Keeps k prelude records f place (Ok q) (changed a fa c fb))
       keep_done q r u new is expands h =
           let stored : q.library ≡ r = ap (λ (x : Recorded). x.library) new ∙ ap (λ (x : Entry). x.stored) is in
           let whole : e ≡ made k f q.library = is ∙ ap (made k f) (sym stored) in
-          told_by told after (λ a c. PutsEntry (Ok u) fa fb place a (spelled e) c) (λ a c. Keeps k prelude records f place (Ok q) a c fa fb)
-          (λ a c kept. (expands ∙ ap (λ (x : CompiledLibrary). Ok x) (sym stored), subst (λ (x : Entry). IsPut fa fb place a (spelled x) c) whole kept, ap (λ (x : Recorded). x.reused) new)) h
+          told_by told after (λ a c. PutsEntry (Ok u) place (spelled e) (changed a fa c fb)) (λ a c. Keeps k prelude records f place (Ok q) (changed a fa c fb))
+          (λ a c kept. (expands ∙ ap (λ (x : CompiledLibrary). Ok x) (sym stored), subst (λ (x : Entry). IsPut place (changed a fa c fb) (spelled x)) whole kept, ap (λ (x : Recorded). x.reused) new)) h
 
   -- ---- the turn of one library
 
@@ -112,9 +112,9 @@ module _ (k : CacheInputs) (prelude : Result Codes Fault) where
           (told_here told (λ a. stored_at a ≡ Some r) (λ a c. Records k prelude (Ok (again r)) (state p a fa) f c fb) (λ a stored. reused r fb more (sym (stored_is a) ∙ stored)) h)
 
       module _ (fc : ℕ) (further : fb ≤ fc) where
-        one : (result : Result Recorded Stop) (a c : Paths) → (Quiet fa fb → stored_at a ≡ None) → Keeps k prelude p.records f place result a c fb fc → Records k prelude result (state p a fa) f c fc
+        one : (result : Result Recorded Stop) (a c : Paths) → (Quiet fa fb → stored_at a ≡ None) → Keeps k prelude p.records f place result (changed a fb c fc) → Records k prelude result (state p a fa) f c fc
         one (Ok q) a c misses m =
-            let kept : IsPut fb fc (place_of k f) a (spelled (made k f q.library)) c = subst (λ (x : List ℕ). IsPut fb fc x a (spelled (made k f q.library)) c) is m.1 in
+            let kept : IsPut (place_of k f) (changed a fb c fc) (spelled (made k f q.library)) = subst (λ (x : List ℕ). IsPut x (changed a fb c fc) (spelled (made k f q.library))) is m.1 in
             subst (λ (again : Bool). ReuseTurn k prelude (state p a fa) f (state (with_record p q.library again) c fc)) (sym m.2)
             (expanded q.library fb fc c more further (λ quiet. sym (stored_is a) ∙ misses quiet) m.0 kept)
         one (Err (stop.Fault fault)) a c misses m = record {
@@ -126,10 +126,10 @@ module _ (k : CacheInputs) (prelude : Result Codes Fault) where
         one (Err stop.Memory) a c misses m = nothing_put m (up_to fa fb fc more further)
 
         pub make_turn : (told middle after : Option Paths) (result : Result Recorded Stop) → middle ≡ told → IfSome told (λ a. Quiet fa fb → stored_at a ≡ None)
-            → WhereTold middle after (λ b c. Keeps k prelude p.records f place result b c fb fc) → Records-as result told after fc
+            → WhereTold middle after (λ b c. Keeps k prelude p.records f place result (changed b fb c fc)) → Records-as result told after fc
         make_turn told middle after result same h m =
-            told_where told after (λ a. Quiet fa fb → stored_at a ≡ None) (λ b c. Keeps k prelude p.records f place result b c fb fc) (λ a c. Records k prelude result (state p a fa) f c fc)
-            (one result) h (subst (λ (t : Option Paths). WhereTold t after (λ b c. Keeps k prelude p.records f place result b c fb fc)) same m)
+            told_where told after (λ a. Quiet fa fb → stored_at a ≡ None) (λ b c. Keeps k prelude p.records f place result (changed b fb c fc)) (λ a c. Records k prelude result (state p a fa) f c fc)
+            (one result) h (subst (λ (t : Option Paths). WhereTold t after (λ b c. Keeps k prelude p.records f place result (changed b fb c fc))) same m)
 
     -- ---- the progress behind the turn
 
@@ -157,15 +157,15 @@ module _ (k : CacheInputs) (prelude : Result Codes Fault) where
   -- ---- behind the derived library
 
   module _ (told : Option Paths) (fa : ℕ) (fs : List Found) where
-    pub without_derived : (derived : Result CompiledLibrary Fault) (x : Stop) → Stops x derived → WhereTold told told (λ a c. TakeFrom k prelude derived (Err x) fs a c fa fa)
+    pub without_derived : (derived : Result CompiledLibrary Fault) (x : Stop) → Stops x derived → WhereTold told told (λ a c. TakeFrom k prelude derived (Err x) fs (changed a fa c fa))
     without_derived derived (stop.Fault fault) h =
-        subst (λ (d : Result CompiledLibrary Fault). WhereTold told told (λ a c. TakeFrom k prelude d (Err (stop.Fault fault)) fs a c fa fa)) (sym h)
+        subst (λ (d : Result CompiledLibrary Fault). WhereTold told told (λ a c. TakeFrom k prelude d (Err (stop.Fault fault)) fs (changed a fa c fa))) (sym h)
         (told_same told (λ a c. (fault ≡ fault) × (c ≡ a)) (λ a. (refl, refl)))
     without_derived (Ok d) stop.Memory h = told_same told (λ a c. BreaksOff k prelude c fa (state (begun d) a fa) fs) (λ a. between refl (same_count fa))
     without_derived (Err fault) stop.Memory h = told_same told (λ a c. c ≡ a) (λ a. refl)
 
     pub behind_derived : (after : Option Paths) (fb : ℕ) (derived : Result CompiledLibrary Fault) (d : CompiledLibrary) (p : ReuseProgress) (result : Result ReuseProgress Stop) → derived ≡ Ok d → p ≡ begun d
-        → WhereTold told after (λ a c. TakeTurns k prelude result (state p a fa) fs c fb) → WhereTold told after (λ a c. TakeFrom k prelude derived result fs a c fa fb)
+        → WhereTold told after (λ a c. TakeTurns k prelude result (state p a fa) fs c fb) → WhereTold told after (λ a c. TakeFrom k prelude derived result fs (changed a fa c fb))
     behind_derived after fb derived d p result is begin h =
-        subst (λ (x : Result CompiledLibrary Fault). WhereTold told after (λ a c. TakeFrom k prelude x result fs a c fa fb)) (sym is)
+        subst (λ (x : Result CompiledLibrary Fault). WhereTold told after (λ a c. TakeFrom k prelude x result fs (changed a fa c fb))) (sym is)
         (subst (λ (x : ReuseProgress). WhereTold told after (λ a c. TakeTurns k prelude result (state x a fa) fs c fb)) begin h)

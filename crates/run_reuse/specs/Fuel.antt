@@ -7,10 +7,10 @@ use Rattle.eval_code.specs.Codes.{Codes}
 use Rattle.load_forms.specs.Form.{library_body, program_body}
 use Rattle.run_library.specs.Loaded.{found_spent}
 use Rattle.load_files.specs.declared.found.Found.{Found}
-use Rattle.base_outside.specs.Contents.{Paths}
 use Rattle.run_reuse.specs.Entries.{CacheInputs}
 use Rattle.run_reuse.specs.Progress.{ReuseProgress, with_record}
 use Rattle.run_reuse.specs.Texts.{Text, Writes, took, stopped, unready}
+use Rattle.run_reuse.specs.Turns.{StoreChange}
 use Rattle.run_reuse.specs.declared.texts.Came.{Came}
 use Rattle.run_reuse.specs.declared.texts.Came.TheVariants as came
 
@@ -61,14 +61,12 @@ module _ (prelude : Result Codes Fault) where
 
 module _ (k : CacheInputs) (prelude : Result Codes Fault) where
   -- what is spent where libraries took their turns and a text was written; nothing is said where there is a fault
-  abbrev pub writes_spent : {c : Came} {fs : List Found} {before after : Paths} {faults_before faults : ℕ} {made : Result Text Fault}
-      → Writes k prelude c fs before faults_before after faults made → ℕ
+  abbrev pub writes_spent : {c : Came} {fs : List Found} {change : StoreChange} {made : Result Text Fault} → Writes k prelude c fs change made → ℕ
   writes_spent {c = c} {fs = fs} (took derived p given turns) = progress_spent prelude fs p + came_spent prelude c p
   writes_spent (stopped derived fault given stops) = 0
   writes_spent (unready fault given same) = 0
 
   -- the turns come to a text, and this is spent
-  pub record WritesSpending (c : Came) (fs : List Found) (before : Paths) (faults_before : ℕ) (after : Paths) (faults : ℕ)
-      (made : Result Text Fault) (fuel_before fuel_after : ℕ) : Type 0 where
-    pub writes : Writes k prelude c fs before faults_before after faults made
+  pub record WritesSpending (c : Came) (fs : List Found) (change : StoreChange) (made : Result Text Fault) (fuel_before fuel_after : ℕ) : Type 0 where
+    pub writes : Writes k prelude c fs change made
     pub rose : fuel_after ≡ fuel_before + writes_spent writes

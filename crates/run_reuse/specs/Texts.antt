@@ -7,11 +7,10 @@ use Rattle.core_language.specs.declared.record.CompiledLibrary.{CompiledLibrary}
 use Rattle.run_derived.specs.Derived.{derived_record}
 use Rattle.eval_code.specs.Codes.{Codes}
 use Rattle.load_files.specs.declared.found.Found.{Found}
-use Rattle.base_outside.specs.Contents.{Paths}
 use Rattle.run_reuse.specs.Entries.{CacheInputs}
 use Rattle.run_reuse.specs.Expansion.{text_after}
 use Rattle.run_reuse.specs.Progress.{ReuseProgress, begun}
-use Rattle.run_reuse.specs.Turns.{state, ReuseTurns, TurnsStop, BreaksOff}
+use Rattle.run_reuse.specs.Turns.{StoreChange, state, ReuseTurns, TurnsStop, BreaksOff}
 use Rattle.run_reuse.specs.declared.texts.Came.{Came}
 use Rattle.run_reuse.specs.declared.texts.Came.TheVariants as came
 use Rattle.run_reuse.specs.declared.texts.WrittenProgram.{WrittenProgram}
@@ -41,23 +40,23 @@ module _ (prelude : Result Codes Fault) where
 
 module _ (k : CacheInputs) (prelude : Result Codes Fault) where
   -- what the turns of the libraries come to, and what they leave of the store
-  pub data Writes (c : Came) (fs : List Found) (before : Paths) (faults_before : ℕ) (after : Paths) (faults : ℕ) : Result Text Fault → Type 0 where
+  pub data Writes (c : Came) (fs : List Found) (change : StoreChange) : Result Text Fault → Type 0 where
     took : (derived : CompiledLibrary) (p : ReuseProgress) → derived_record prelude ≡ Ok derived
-        → ReuseTurns k prelude (state (begun derived) before faults_before) fs (state p after faults)
-        → Writes c fs before faults_before after faults (with_flags p.reused (text_behind prelude c p))
+        → ReuseTurns k prelude (state (begun derived) change.before change.faults_before) fs (state p change.after change.faults_after)
+        → Writes c fs change (with_flags p.reused (text_behind prelude c p))
     stopped : (derived : CompiledLibrary) (fault : Fault) → derived_record prelude ≡ Ok derived
-        → TurnsStop k prelude fault after faults (state (begun derived) before faults_before) fs
-        → Writes c fs before faults_before after faults (Err fault)
-    unready : (fault : Fault) → derived_record prelude ≡ Err fault → after ≡ before → Writes c fs before faults_before after faults (Err fault)
+        → TurnsStop k prelude fault change.after change.faults_after (state (begun derived) change.before change.faults_before) fs
+        → Writes c fs change (Err fault)
+    unready : (fault : Fault) → derived_record prelude ≡ Err fault → change.after ≡ change.before → Writes c fs change (Err fault)
 
   -- what is left of the store, wherever the turns end
-  pub data Leaves (fs : List Found) (before : Paths) (faults_before : ℕ) (after : Paths) (faults : ℕ) : Type 0 where
-    untouched : after ≡ before → Leaves fs before faults_before after faults
+  pub data Leaves (fs : List Found) (change : StoreChange) : Type 0 where
+    untouched : change.after ≡ change.before → Leaves fs change
     turned : (derived : CompiledLibrary) → derived_record prelude ≡ Ok derived
-        → BreaksOff k prelude after faults (state (begun derived) before faults_before) fs → Leaves fs before faults_before after faults
+        → BreaksOff k prelude change.after change.faults_after (state (begun derived) change.before change.faults_before) fs → Leaves fs change
 
   -- what a call answers
-  abbrev pub Answers : Result WrittenProgram Stop → Came → List Found → Paths → ℕ → Paths → ℕ → Type 0
-  Answers (Ok w) c fs before faults_before after faults = Writes c fs before faults_before after faults (Ok (string_bytes w.text, w.reused))
-  Answers (Err (stop.Fault fault)) c fs before faults_before after faults = Writes c fs before faults_before after faults (Err fault)
-  Answers (Err stop.Memory) c fs before faults_before after faults = Leaves fs before faults_before after faults
+  abbrev pub Answers : Result WrittenProgram Stop → Came → List Found → StoreChange → Type 0
+  Answers (Ok w) c fs change = Writes c fs change (Ok (string_bytes w.text, w.reused))
+  Answers (Err (stop.Fault fault)) c fs change = Writes c fs change (Err fault)
+  Answers (Err stop.Memory) c fs change = Leaves fs change

@@ -29,21 +29,30 @@ state p store faults = record { progress = p; store = store; faults = faults }
 abbrev pub Quiet : ℕ → ℕ → Type 0
 Quiet before after = Rose before after → ⊥
 
+-- what became of a store: what it held, and how many of its calls had failed, before and after
+pub record StoreChange : Type 0 where
+  pub before : Paths
+  pub faults_before : ℕ
+  pub after : Paths
+  pub faults_after : ℕ
+
+abbrev pub changed : Paths → ℕ → Paths → ℕ → StoreChange
+changed before faults_before after faults_after = record { before = before; faults_before = faults_before; after = after; faults_after = faults_after }
+
 -- ---- one library
 
 -- an entry is put unless it has no spelling or is too long; where the put failed, only its place is touched
-pub data IsPut (faults_before faults_after : ℕ) (place : List ℕ) (before : Paths) : Option (List ℕ) → Paths → Type 0 where
-  put : {piece : List ℕ} {after : Paths} → length piece ≤ entry_limit → Sets place piece before after
-      → IsPut faults_before faults_after place before (Some piece) after
-  too_long : {piece : List ℕ} → entry_limit < length piece → IsPut faults_before faults_after place before (Some piece) before
-  unspelled : IsPut faults_before faults_after place before None before
-  failed : {piece : List ℕ} {after : Paths} → Rose faults_before faults_after → KeepsOthers place before after
-      → IsPut faults_before faults_after place before (Some piece) after
+pub data IsPut (place : List ℕ) (change : StoreChange) : Option (List ℕ) → Type 0 where
+  put : {piece : List ℕ} → length piece ≤ entry_limit → Sets place piece change.before change.after → IsPut place change (Some piece)
+  too_long : {piece : List ℕ} → entry_limit < length piece → change.after ≡ change.before → IsPut place change (Some piece)
+  unspelled : change.after ≡ change.before → IsPut place change None
+  failed : {piece : List ℕ} → Rose change.faults_before change.faults_after → KeepsOthers place change.before change.after
+      → IsPut place change (Some piece)
 
 -- for want of memory all is as it was
-abbrev pub PutsEntry : Result Unit Memory → ℕ → ℕ → List ℕ → Paths → Option (List ℕ) → Paths → Type 0
-PutsEntry (Ok done) faults_before faults_after place before o after = IsPut faults_before faults_after place before o after
-PutsEntry (Err memory) faults_before faults_after place before o after = after ≡ before
+abbrev pub PutsEntry : Result Unit Memory → List ℕ → Option (List ℕ) → StoreChange → Type 0
+PutsEntry (Ok done) place o change = IsPut place change o
+PutsEntry (Err memory) place o change = change.after ≡ change.before
 
 module _ (k : CacheInputs) (prelude : Result Codes Fault) where
   -- the record that the store has for a library
@@ -61,7 +70,7 @@ module _ (k : CacheInputs) (prelude : Result Codes Fault) where
     reused : (r : CompiledLibrary) (faults : ℕ) → s.faults ≤ faults → stored s f ≡ Some r → ReuseTurn s f (state (with_record s.progress r true) s.store faults)
     -- the get is one call and the put another: what the first costs is no excuse for the second
     expanded : (r : CompiledLibrary) (asked faults : ℕ) (left : Paths) → s.faults ≤ asked → asked ≤ faults → Misses s f asked → expanded_record s f ≡ Ok r
-        → IsPut asked faults (place_of k f) s.store (spelled (made k f r)) left → ReuseTurn s f (state (with_record s.progress r false) left faults)
+        → IsPut (place_of k f) (changed s.store asked left faults) (spelled (made k f r)) → ReuseTurn s f (state (with_record s.progress r false) left faults)
 
   -- it is at fault: nothing is put
   pub record IsAtFault (s : TurnState) (f : Found) (fault : Fault) (store : Paths) (faults : ℕ) : Type 0 where
@@ -74,7 +83,7 @@ module _ (k : CacheInputs) (prelude : Result Codes Fault) where
   pub data Breaks (s : TurnState) (f : Found) (store : Paths) (faults : ℕ) : Type 0 where
     nothing_put : store ≡ s.store → s.faults ≤ faults → Breaks s f store faults
     entry_put : (r : CompiledLibrary) (asked : ℕ) → s.faults ≤ asked → asked ≤ faults → expanded_record s f ≡ Ok r
-        → IsPut asked faults (place_of k f) s.store (spelled (made k f r)) store → Breaks s f store faults
+        → IsPut (place_of k f) (changed s.store asked store faults) (spelled (made k f r)) → Breaks s f store faults
 
   -- ---- all libraries
 
@@ -113,20 +122,20 @@ module _ (k : CacheInputs) (prelude : Result Codes Fault) where
   TakeTurns (Err stop.Memory) s fs store faults = BreaksOff store faults s fs
 
   -- behind the derived library, or its fault
-  abbrev pub TakeFrom : Result CompiledLibrary Fault → Result ReuseProgress Stop → List Found → Paths → Paths → ℕ → ℕ → Type 0
-  TakeFrom (Ok derived) result fs before after faults_before faults = TakeTurns result (state (begun derived) before faults_before) fs after faults
-  TakeFrom (Err fault) (Ok p) fs before after faults_before faults = ⊥
-  TakeFrom (Err fault) (Err (stop.Fault f)) fs before after faults_before faults = (f ≡ fault) × (after ≡ before)
-  TakeFrom (Err fault) (Err stop.Memory) fs before after faults_before faults = after ≡ before
+  abbrev pub TakeFrom : Result CompiledLibrary Fault → Result ReuseProgress Stop → List Found → StoreChange → Type 0
+  TakeFrom (Ok derived) result fs change = TakeTurns result (state (begun derived) change.before change.faults_before) fs change.after change.faults_after
+  TakeFrom (Err fault) (Ok p) fs change = ⊥
+  TakeFrom (Err fault) (Err (stop.Fault f)) fs change = (f ≡ fault) × (change.after ≡ change.before)
+  TakeFrom (Err fault) (Err stop.Memory) fs change = change.after ≡ change.before
 
   -- what comes of an expansion whose entry is put in a place
-  abbrev pub Keeps : List CompiledLibrary → Found → List ℕ → Result Recorded Stop → Paths → Paths → ℕ → ℕ → Type 0
-  Keeps records f place (Ok r) before after faults_before faults =
+  abbrev pub Keeps : List CompiledLibrary → Found → List ℕ → Result Recorded Stop → StoreChange → Type 0
+  Keeps records f place (Ok r) change =
       (expand_found prelude records f (library_body f.opened.«data») ≡ Ok r.library)
-      × (IsPut faults_before faults place before (spelled (made k f r.library)) after) × (r.reused ≡ false)
-  Keeps records f place (Err (stop.Fault fault)) before after faults_before faults
-      = (expand_found prelude records f (library_body f.opened.«data») ≡ Err fault) × (after ≡ before)
-  Keeps records f place (Err stop.Memory) before after faults_before faults = after ≡ before
+      × (IsPut place change (spelled (made k f r.library))) × (r.reused ≡ false)
+  Keeps records f place (Err (stop.Fault fault)) change
+      = (expand_found prelude records f (library_body f.opened.«data») ≡ Err fault) × (change.after ≡ change.before)
+  Keeps records f place (Err stop.Memory) change = change.after ≡ change.before
 
 -- what was asked for, unless the call failed
 abbrev pub Asked : Result (Option CompiledLibrary) Memory → ℕ → ℕ → Option CompiledLibrary → Type 0

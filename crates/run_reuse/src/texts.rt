@@ -6,6 +6,7 @@ ghost use Rattle.base_outside.specs.Store.{WhereTold};
 ghost use Rattle.run_prelude.specs.Prelude.{kept};
 ghost use Rattle.run_reuse.specs.Fuel.{WritesSpending, came_spent};
 ghost use Rattle.run_reuse.specs.Texts.{Answers, TextGives, found_in};
+ghost use Rattle.run_reuse.specs.Turns.{changed};
 ghost use Rattle.run_reuse.specs.declared.texts.Came.TheVariants as came;
 
 use crate::expansion::text_after;
@@ -81,10 +82,10 @@ pub fn write_program<S: Store, N: Ledger, L: Ledger>(
     ensures later { S.faults store.old ≤ S.faults store.new }
     ensures answers { WhereTold (S.told store.old) (S.told store.new) (λ before after.
         Answers turning.now.cache.now (kept turning.now.implementation.now.prelude) result loaded.came (found_in loaded.libraries)
-        before (S.faults store.old) after (S.faults store.new)) }
+        (changed before (S.faults store.old) after (S.faults store.new))) }
     ensures fuel { IfOk result (λ w. WhereTold (S.told store.old) (S.told store.new) (λ before after.
         WritesSpending turning.now.cache.now (kept turning.now.implementation.now.prelude) loaded.came (found_in loaded.libraries)
-        before (S.faults store.old) after (S.faults store.new) (Ok (string_bytes w.text, w.reused)) tally.old.fuel tally.new.fuel)) }
+        (changed before (S.faults store.old) after (S.faults store.new)) (Ok (string_bytes w.text, w.reused)) tally.old.fuel tally.new.fuel)) }
 {
     let LoadedLibraries { libraries, came } = loaded;
     match take_turns(turning, libraries, store, tally) {

@@ -12,7 +12,7 @@ ghost use Rattle.run_prelude.specs.Prelude.{kept};
 ghost use Rattle.run_reuse.specs.Entries.{entry_in, if_fits, if_short, if_suits, spelled, suits};
 ghost use Rattle.run_reuse.specs.Fuel.{TurnSpends, TurnsSpend, progress_spent, turn_spent};
 ghost use Rattle.run_reuse.specs.Progress.{with_record};
-ghost use Rattle.run_reuse.specs.Turns.{Asked, Keeps, PutsEntry, Records, TakesTurn, TakeTurns, TakeFrom, state};
+ghost use Rattle.run_reuse.specs.Turns.{Asked, Keeps, PutsEntry, Records, TakesTurn, TakeTurns, TakeFrom, changed, state};
 
 use crate::entry::{Cache, Due, ENTRY_LIMIT, spelled};
 use crate::expansion::{ExpansionInputs, File, record_of, with_derived};
@@ -131,7 +131,7 @@ fn ask<S: Store>(
 fn put<S: Store>(place: &str, piece: &[u8], store: &mut S) -> Result<(), Memory>
     ensures later { S.faults store.old ≤ S.faults store.new }
     ensures put { WhereTold (S.told store.old) (S.told store.new) (λ before after.
-        PutsEntry result (S.faults store.old) (S.faults store.new) place.now before (Some piece.now) after) }
+        PutsEntry result place.now (Some piece.now) (changed before (S.faults store.old) after (S.faults store.new))) }
 {
     if piece.len() > ENTRY_LIMIT {
         return Ok(());
@@ -147,7 +147,7 @@ fn put<S: Store>(place: &str, piece: &[u8], store: &mut S) -> Result<(), Memory>
 fn keep<S: Store>(alloc: Global, place: &str, entry: &Entry, store: &mut S) -> Result<(), Memory>
     ensures later { S.faults store.old ≤ S.faults store.new }
     ensures put { WhereTold (S.told store.old) (S.told store.new) (λ before after.
-        PutsEntry result (S.faults store.old) (S.faults store.new) place.now before (spelled entry.now) after) }
+        PutsEntry result place.now (spelled entry.now) (changed before (S.faults store.old) after (S.faults store.new))) }
 {
     let spelling = spelled(alloc, entry)?;
     match spelling {
@@ -187,7 +187,7 @@ fn expand_and_keep<S: Store, N: Ledger, L: Ledger>(
     ensures later { S.faults store.old ≤ S.faults store.new }
     ensures kept { WhereTold (S.told store.old) (S.told store.new) (λ before after.
         Keeps turning.now.cache.now (kept turning.now.implementation.now.prelude) turned.now.records due.found (string_bytes due.place) result
-        before after (S.faults store.old) (S.faults store.new)) }
+        (changed before (S.faults store.old) after (S.faults store.new))) }
     ensures fuel { IfOk result (λ r. tally.new.fuel ≡ tally.old.fuel + turn_spent
         (kept turning.now.implementation.now.prelude) turned.now.records due.found r.reused) }
 {
@@ -284,7 +284,7 @@ pub(crate) fn take_turns<S: Store, N: Ledger, L: Ledger>(
     ensures later { S.faults store.old ≤ S.faults store.new }
     ensures turns { WhereTold (S.told store.old) (S.told store.new) (λ before after.
         TakeFrom turning.now.cache.now (kept turning.now.implementation.now.prelude) (derived_record (kept turning.now.implementation.now.prelude))
-        result (map (λ row. row.1) libraries) before after (S.faults store.old) (S.faults store.new)) }
+        result (map (λ row. row.1) libraries) (changed before (S.faults store.old) after (S.faults store.new))) }
     ensures fuel { IfOk result (λ t. tally.new.fuel ≡ tally.old.fuel + progress_spent (kept turning.now.implementation.now.prelude)
         (map (λ row. row.1) libraries) t) }
 {

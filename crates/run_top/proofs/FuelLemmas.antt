@@ -6,7 +6,6 @@ use Rattle.base_data.specs.declared.fault.Stop.{Stop}
 use Rattle.eval_code.specs.Codes.{Codes}
 use Rattle.load_files.specs.Load.{load}
 use Rattle.load_files.specs.declared.found.Found.{Found}
-use Rattle.load_files.specs.declared.found.Loading.{Loading}
 use Rattle.load_files.specs.declared.found.Source.{Source}
 use Rattle.run_make.specs.Made.{made_files}
 use Rattle.base_outside.specs.Contents.{Paths}
@@ -17,18 +16,19 @@ use Rattle.run_reuse.specs.Entries.{CacheInputs}
 use Rattle.run_reuse.specs.Fuel.{WritesSpending}
 use Rattle.run_reuse.specs.Groups.{AreGroups, groups_from}
 use Rattle.run_reuse.specs.Texts.{found_in}
+use Rattle.run_reuse.specs.Turns.{StoreChange, changed}
 use Rattle.run_reuse.proofs.Told.{told_by}
 use Rattle.run_reuse.specs.declared.groups.Group.{Group}
-use Rattle.run_reuse.specs.declared.texts.Came.{Came}
 use Rattle.run_reuse.specs.declared.texts.WrittenProgram.{WrittenProgram}
 use Rattle.run_command.specs.declared.job.Job.{Job}
 use Rattle.run_command.specs.declared.words.Words.{Words}
 use Rattle.run_top.specs.Cached.{kept_of, PreparesText}
-use Rattle.run_top.specs.Fuel.{job_spent, loads_spent, ComesSpending, SpendsCached, SpendsJob, SpendsAsked, SpendsIfDone}
+use Rattle.run_top.specs.Fuel.{SpentText, job_spent, loads_spent, ComesSpending, SpendsCached, SpendsJob, SpendsAsked, SpendsIfDone}
 use Rattle.run_top.specs.Headline.{Sunk, Storage, Complains, said, no_line}
 use Rattle.run_top.specs.Prepared.{Writes}
 use Rattle.run_top.specs.Whole.{done, libraries, made_job}
 use Rattle.run_top.specs.Words.{words_asked, usage_line}
+use Rattle.run_top.specs.declared.cached.LoadedJob.{LoadedJob}
 use Rattle.run_top.specs.declared.prepare.Prepared.{Prepared}
 use Rattle.run_top.specs.declared.prepare.Unfinished.{Unfinished}
 use Rattle.run_top.specs.declared.prepare.Unfinished.TheVariants as unfinished
@@ -37,33 +37,36 @@ use Rattle.run_top.specs.declared.status.Status.TheVariants as status
 
 -- ---- from the text to what is prepared
 
-module _ (job : Job) (dir : List ℕ) (c : Came) (s : Loading) (groups : List Group) (are : AreGroups (groups_from 0 0 s.sources) s.begun s.done groups) (fa fb f0 f1 : ℕ) where
-  text_spending : (before after : Paths) (made : Prepared) (w : WrittenProgram) → PreparesText (Ok made) job.report (libraries s) s.sources (Ok w)
-      → WritesSpending (kept_of job dir s groups) prelude_table c (found_in s.done) before fa after fb (Ok (string_bytes w.text, w.reused)) f0 f1
-      → ComesSpending job dir c s before fa after fb (string_bytes made.text) (string_bytes made.report) f0 f1
-  text_spending before after made w h k = record {
+module _ (job : Job) (dir : List ℕ) (loaded : LoadedJob) (groups : List Group) (are : AreGroups (groups_from 0 0 loaded.loading.sources) loaded.loading.begun loaded.loading.done groups) (fa fb f0 f1 : ℕ) where
+  abbrev Spent-for : Prepared → SpentText
+  Spent-for made = record { text = string_bytes made.text; report = string_bytes made.report; fuel_before = f0; fuel_after = f1 }
+
+  text_spending : (change : StoreChange) (made : Prepared) (w : WrittenProgram) → PreparesText (Ok made) job.report (libraries loaded.loading) loaded.loading.sources (Ok w)
+      → WritesSpending (kept_of job dir loaded.loading groups) prelude_table loaded.came (found_in loaded.loading.done) change (Ok (string_bytes w.text, w.reused)) f0 f1
+      → ComesSpending job dir loaded change (Spent-for made)
+  text_spending change made w h k = record {
     comes = record { groups = groups; are = are; made = Ok (string_bytes w.text, w.reused); writes = k.writes; is = λ i. done (h.0 i) (h.1 i) };
     rose = k.rose;
   }
 
   -- over a store whose contents may be told
   pub where_spent : (held left : Option Paths) (k : CacheInputs) (prelude : Result Codes Fault) (fs : List Found) (libs : List Told) (sources : List Source)
-      → prelude ≡ prelude_table → k ≡ kept_of job dir s groups → fs ≡ found_in s.done → libs ≡ libraries s → sources ≡ s.sources
+      → prelude ≡ prelude_table → k ≡ kept_of job dir loaded.loading groups → fs ≡ found_in loaded.loading.done → libs ≡ libraries loaded.loading → sources ≡ loaded.loading.sources
       → (result : Result Prepared Unfinished) (w : Result WrittenProgram Stop) → PreparesText result job.report libs sources w
-      → IfOk w (λ (x : WrittenProgram). WhereTold held left (λ before after. WritesSpending k prelude c fs before fa after fb (Ok (string_bytes x.text, x.reused)) f0 f1))
-      → IfOk result (λ (made : Prepared). WhereTold held left (λ before after. ComesSpending job dir c s before fa after fb (string_bytes made.text) (string_bytes made.report) f0 f1))
+      → IfOk w (λ (x : WrittenProgram). WhereTold held left (λ before after. WritesSpending k prelude loaded.came fs (changed before fa after fb) (Ok (string_bytes x.text, x.reused)) f0 f1))
+      → IfOk result (λ (made : Prepared). WhereTold held left (λ before after. ComesSpending job dir loaded (changed before fa after fb) (Spent-for made)))
   where_spent held left k prelude fs libs sources is k_is fs_is libs_is sources_is (Ok made) (Ok w) text h =
-      told_by held left _ _ (λ before after x. text_spending before after made w own x) all
+      told_by held left _ _ (λ before after x. text_spending (changed before fa after fb) made w own x) all
     where
-      own : PreparesText (Ok made) job.report (libraries s) s.sources (Ok w)
-      own = subst (λ (ss : List Source). PreparesText (Ok made) job.report (libraries s) ss (Ok w)) sources_is (subst (λ (ts : List Told). PreparesText (Ok made) job.report ts sources (Ok w)) libs_is text)
+      own : PreparesText (Ok made) job.report (libraries loaded.loading) loaded.loading.sources (Ok w)
+      own = subst (λ (ss : List Source). PreparesText (Ok made) job.report (libraries loaded.loading) ss (Ok w)) sources_is (subst (λ (ts : List Told). PreparesText (Ok made) job.report ts sources (Ok w)) libs_is text)
 
-      over : WhereTold held left (λ before after. WritesSpending k prelude_table c fs before fa after fb (Ok (string_bytes w.text, w.reused)) f0 f1)
-      over = subst (λ (p : Result Codes Fault). WhereTold held left (λ before after. WritesSpending k p c fs before fa after fb (Ok (string_bytes w.text, w.reused)) f0 f1)) is h
+      over : WhereTold held left (λ before after. WritesSpending k prelude_table loaded.came fs (changed before fa after fb) (Ok (string_bytes w.text, w.reused)) f0 f1)
+      over = subst (λ (p : Result Codes Fault). WhereTold held left (λ before after. WritesSpending k p loaded.came fs (changed before fa after fb) (Ok (string_bytes w.text, w.reused)) f0 f1)) is h
 
-      all : WhereTold held left (λ before after. WritesSpending (kept_of job dir s groups) prelude_table c (found_in s.done) before fa after fb (Ok (string_bytes w.text, w.reused)) f0 f1)
-      all = subst (λ (gs : List Found). WhereTold held left (λ before after. WritesSpending (kept_of job dir s groups) prelude_table c gs before fa after fb (Ok (string_bytes w.text, w.reused)) f0 f1)) fs_is
-          (subst (λ (x : CacheInputs). WhereTold held left (λ before after. WritesSpending x prelude_table c fs before fa after fb (Ok (string_bytes w.text, w.reused)) f0 f1)) k_is over)
+      all : WhereTold held left (λ before after. WritesSpending (kept_of job dir loaded.loading groups) prelude_table loaded.came (found_in loaded.loading.done) (changed before fa after fb) (Ok (string_bytes w.text, w.reused)) f0 f1)
+      all = subst (λ (gs : List Found). WhereTold held left (λ before after. WritesSpending (kept_of job dir loaded.loading groups) prelude_table loaded.came gs (changed before fa after fb) (Ok (string_bytes w.text, w.reused)) f0 f1)) fs_is
+          (subst (λ (x : CacheInputs). WhereTold held left (λ before after. WritesSpending x prelude_table loaded.came fs (changed before fa after fb) (Ok (string_bytes w.text, w.reused)) f0 f1)) k_is over)
   where_spent held left k prelude fs libs sources is k_is fs_is libs_is sources_is (Ok made) (Err x) text h = absurd text
   where_spent held left k prelude fs libs sources is k_is fs_is libs_is sources_is (Err x) w text h = tt
 
@@ -78,33 +81,39 @@ job_spends (Ok x) (Some files) job before middle after first h = let r : after �
 job_spends (Err e) (Some files) job before middle after first h = tt
 
 module _ (told : Option Paths) (store : Storage) (job : Job) (f0 f1 : ℕ) where
+  abbrev Spent-by : Prepared → SpentText
+  Spent-by made = record { text = string_bytes made.text; report = string_bytes made.report; fuel_before = f0; fuel_after = f1 }
+
   by_cache : (dir : List ℕ) (made : Prepared) (t : Option Paths)
-      → IfSome t (λ files. IfOk (let r : Result Prepared Unfinished = Ok made in r) (λ (m : Prepared). WhereTold store.before store.after (λ before after. SpendsCached files job dir before store.faults_before after store.faults_after (string_bytes m.text) (string_bytes m.report) f0 f1)))
-      → SpendsJob t store job (Some dir) (string_bytes made.text) (string_bytes made.report) f0 f1
+      → IfSome t (λ files. IfOk (let r : Result Prepared Unfinished = Ok made in r) (λ (m : Prepared). WhereTold store.before store.after (λ before after. SpendsCached files job dir (changed before store.faults_before after store.faults_after) (Spent-by m))))
+      → SpendsJob t store job (Some dir) (Spent-by made)
   by_cache dir made None h = tt
   by_cache dir made (Some files) h = h
 
   -- with its cache
   pub cached_spends : (dir : List ℕ) → job.cache ≡ Some dir → (result : Result Prepared Unfinished)
-      → IfSome told (λ files. IfOk result (λ (m : Prepared). WhereTold store.before store.after (λ before after. SpendsCached files job dir before store.faults_before after store.faults_after (string_bytes m.text) (string_bytes m.report) f0 f1)))
-      → IfOk result (λ (made : Prepared). SpendsJob told store job job.cache (string_bytes made.text) (string_bytes made.report) f0 f1)
-  cached_spends dir cached (Ok made) h = subst (λ (o : Option (List ℕ)). SpendsJob told store job o (string_bytes made.text) (string_bytes made.report) f0 f1) (sym cached) (by_cache dir made told h)
+      → IfSome told (λ files. IfOk result (λ (m : Prepared). WhereTold store.before store.after (λ before after. SpendsCached files job dir (changed before store.faults_before after store.faults_after) (Spent-by m))))
+      → IfOk result (λ (made : Prepared). SpendsJob told store job job.cache (Spent-by made))
+  cached_spends dir cached (Ok made) h = subst (λ (o : Option (List ℕ)). SpendsJob told store job o (Spent-by made)) (sym cached) (by_cache dir made told h)
   cached_spends dir cached (Err x) h = tt
 
   by_files : (made : Prepared) (t : Option Paths) → IfSome t (λ files. OnOk (let r : Result Prepared Unfinished = Ok made in r) (f1 ≡ f0 + job_spent files job))
-      → SpendsJob t store job None (string_bytes made.text) (string_bytes made.report) f0 f1
+      → SpendsJob t store job None (Spent-by made)
   by_files made None h = tt
   by_files made (Some files) h = h
 
   -- without one
   pub plain_spends : job.cache ≡ None → (result : Result Prepared Unfinished) → IfSome told (λ files. OnOk result (f1 ≡ f0 + job_spent files job))
-      → IfOk result (λ (made : Prepared). SpendsJob told store job job.cache (string_bytes made.text) (string_bytes made.report) f0 f1)
-  plain_spends plain (Ok made) h = subst (λ (o : Option (List ℕ)). SpendsJob told store job o (string_bytes made.text) (string_bytes made.report) f0 f1) (sym plain) (by_files made told h)
+      → IfOk result (λ (made : Prepared). SpendsJob told store job job.cache (Spent-by made))
+  plain_spends plain (Ok made) h = subst (λ (o : Option (List ℕ)). SpendsJob told store job o (Spent-by made)) (sym plain) (by_files made told h)
   plain_spends plain (Err x) h = tt
 
 -- ---- what a run spends
 
 module _ (told : Option Paths) (store : Storage) (words : List (List ℕ)) (out err : Sunk) (f0 f1 : ℕ) where
+  abbrev Spent-on : Prepared → SpentText
+  Spent-on made = record { text = string_bytes made.text; report = string_bytes made.report; fuel_before = f0; fuel_after = f1 }
+
   abbrev Spent : Status → Type 0
   Spent s = SpendsIfDone told store words out err f0 f1 s
 
@@ -127,12 +136,12 @@ module _ (told : Option Paths) (store : Storage) (words : List (List ℕ)) (out 
   pub usage_spends : (s : Status) → Complains out err usage_line status.Usage s → Spent s
   usage_spends s h = line_done usage_line status.Usage s (λ e. absurd (cc)) h
 
-  text_done : (asked : Words) (made : Prepared) (s : Status) → words_asked words ≡ asked → SpendsAsked told store asked (string_bytes made.text) (string_bytes made.report) f0 f1 → Writes (Ok made) out err s → Spent s
+  text_done : (asked : Words) (made : Prepared) (s : Status) → words_asked words ≡ asked → SpendsAsked told store asked (Spent-on made) → Writes (Ok made) out err s → Spent s
   text_done asked made status.Done is h w = record {
     text = string_bytes made.text;
     report = string_bytes made.report;
     wrote = w;
-    spends = subst (λ (x : Words). SpendsAsked told store x (string_bytes made.text) (string_bytes made.report) f0 f1) (sym is) h;
+    spends = subst (λ (x : Words). SpendsAsked told store x (Spent-on made)) (sym is) h;
   }
   text_done asked made status.Fault is h w = tt
   text_done asked made status.Usage is h w = tt
@@ -142,7 +151,7 @@ module _ (told : Option Paths) (store : Storage) (words : List (List ℕ)) (out 
 
   -- what was prepared for the words, and then written
   pub written_spends : (asked : Words) (prepared : Result Prepared Unfinished) (s : Status) → words_asked words ≡ asked
-      → IfOk prepared (λ (made : Prepared). SpendsAsked told store asked (string_bytes made.text) (string_bytes made.report) f0 f1) → Writes prepared out err s → Spent s
+      → IfOk prepared (λ (made : Prepared). SpendsAsked told store asked (Spent-on made)) → Writes prepared out err s → Spent s
   written_spends asked (Ok made) s is h w = text_done asked made s is h w
   written_spends asked (Err (unfinished.Line line)) s is h w = line_done (string_bytes line) status.Fault s (λ e. absurd (cc)) w
   written_spends asked (Err unfinished.Read) s is h w = unless_done s (λ e. let no : status.ReadFault ≡ status.Done = sym w.0 ∙ e in absurd (cc))

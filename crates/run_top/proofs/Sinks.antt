@@ -51,8 +51,11 @@ ended told store words fb fa out err (Err unfinished.Memory) s gives read w = no
 -- ---- a status is excused, or it is that of what the definition gives
 
 module _ (told : Option Paths) (store : Storage) (words : List (List ℕ)) (fb fa : ℕ) (out err : Sunk) where
+  abbrev A-count-rose : Type 0
+  A-count-rose = Rose fb fa ⊎ (Rose out.faults_before out.faults_after ⊎ Rose err.faults_before err.faults_after)
+
   abbrev Unexcused : Status → Type 0
-  Unexcused s = ¬ Rose fb fa → ¬ Rose out.faults_before out.faults_after → ¬ Rose err.faults_before err.faults_after → ¬ (s ≡ status.Memory) → ⊥
+  Unexcused s = ¬ A-count-rose → ¬ (s ≡ status.Memory) → ⊥
 
   -- words are refused only where they are refused
   abbrev IsOf : RunOutcome → Type 0
@@ -72,34 +75,34 @@ module _ (told : Option Paths) (store : Storage) (words : List (List ℕ)) (fb f
 
   by_report : (s : Status) (text report : List ℕ) → Says told store words (done text report) → Reports err report s → Judged s
   by_report s text report given (reported b) = inr (record { outcome = done text report; says = given; of = tt; is = refl })
-  by_report s text report given (unreported b) = inl (λ p q r m. r b.rose)
+  by_report s text report given (unreported b) = inl (λ p m. p (inr (inr b.rose)))
 
   by_text : (s : Status) (text report : List ℕ) → Says told store words (done text report) → Finishes out err text report s → Judged s
   by_text s text report given (written a b) = by_report s text report given b
-  by_text s text report given (broken a b) = inl (λ p q r m. q a.rose)
+  by_text s text report given (broken a b) = inl (λ p m. p (inr (inl a.rose)))
 
   by_line : (s want : Status) (line : List ℕ) (o : RunOutcome) → Says told store words o → IsOf o → want ≡ status_of o → Complains out err line want s → Judged s
   by_line s want line o given of e (said a b) = inr (record { outcome = o; says = given; of = of; is = e })
-  by_line s want line o given of e (no_line a b) = inl (λ p q r m. r b.rose)
+  by_line s want line o given of e (no_line a b) = inl (λ p m. p (inr (inr b.rose)))
 
   judged : (s : Status) → Headline told store words fb fa out err s → Judged s
   judged s (wrote_text text report given h) = by_text s text report given h
   judged s (wrote_fault line given h) = by_line s status.Fault line (fault line) given tt refl h
   judged s (wrong_words none h) = by_line s status.Usage usage_line usage (subst (λ (w : Words). SaysAsked told store w usage) (sym none) refl) none refl h
-  judged s (read_fault e rose a b) = inl (λ p q r m. p rose)
-  judged s (no_memory e a b) = inl (λ p q r m. m e)
+  judged s (read_fault e rose a b) = inl (λ p m. p (inl rose))
+  judged s (no_memory e a b) = inl (λ p m. m e)
 
   -- ---- completeness follows from the headline
 
   abbrev Done-by : Status → Type 0 → Type 0
-  Done-by s P = ¬ Rose fb fa → ¬ Rose out.faults_before out.faults_after → ¬ Rose err.faults_before err.faults_after → ¬ (s ≡ status.Memory) → P
+  Done-by s P = ¬ A-count-rose → ¬ (s ≡ status.Memory) → P
 
   unless : (s : Status) (P : Type 0) → Unexcused s → Done-by s P
-  unless s P never p q r m = absurd (never p q r m)
+  unless s P never p m = absurd (never p m)
 
   in_files : (s : Status) (o : RunOutcome) (job : Job) (t : Option Paths) → IfSome t (λ files. of_job files job ≡ o) → s ≡ status_of o → IfSome t (λ files. Done-by s (s ≡ status_of (of_job files job)))
   in_files s o job None h e = tt
-  in_files s o job (Some files) h e = λ p q r m. e ∙ ap status_of (sym h)
+  in_files s o job (Some files) h e = λ p m. e ∙ ap status_of (sym h)
 
   all_files : (s : Status) (job : Job) (t : Option Paths) → Unexcused s → IfSome t (λ files. Done-by s (s ≡ status_of (of_job files job)))
   all_files s job None never = tt
@@ -111,10 +114,10 @@ module _ (told : Option Paths) (store : Storage) (words : List (List ℕ)) (fb f
   done_or_fault job s usage is of e = let no = sym is ∙ of in absurd (cc)
 
   abbrev CompleteFor : Words → Status → Type 0
-  CompleteFor asked s = CompleteAsked told asked (Rose fb fa) (Rose out.faults_before out.faults_after) (Rose err.faults_before err.faults_after) s
+  CompleteFor asked s = CompleteAsked told asked A-count-rose s
 
   abbrev CompleteFrom : Job → Option (List ℕ) → Status → Type 0
-  CompleteFrom job cache s = CompleteJob told job cache (Rose fb fa) (Rose out.faults_before out.faults_after) (Rose err.faults_before err.faults_after) s
+  CompleteFrom job cache s = CompleteJob told job cache A-count-rose s
 
   job_excused : (job : Job) (cache : Option (List ℕ)) (s : Status) → Unexcused s → CompleteFrom job cache s
   job_excused job None s never = all_files s job told never
@@ -122,15 +125,15 @@ module _ (told : Option Paths) (store : Storage) (words : List (List ℕ)) (fb f
 
   job_given : (job : Job) (cache : Option (List ℕ)) (s : Status) (o : RunOutcome) → words_asked words ≡ Expand job → SaysJob told store job cache o → IsOf o → s ≡ status_of o → CompleteFrom job cache s
   job_given job None s o is says of e = in_files s o job told says e
-  job_given job (Some dir) s o is says of e = λ p q r m. done_or_fault job s o is of e
+  job_given job (Some dir) s o is says of e = λ p m. done_or_fault job s o is of e
 
   complete_asked : (asked : Words) (s : Status) → words_asked words ≡ asked → Judged s → CompleteFor asked s
   complete_asked (Expand job) s is (inl never) = job_excused job job.cache s never
   complete_asked (Expand job) s is (inr g) = job_given job job.cache s g.outcome is (subst (λ (w : Words). SaysAsked told store w g.outcome) is g.says) g.of g.is
   complete_asked (Make count) s is (inl never) = unless s (s ≡ status_of (of_made count)) never
-  complete_asked (Make count) s is (inr g) = λ p q r m. g.is ∙ ap status_of (sym (subst (λ (w : Words). SaysAsked told store w g.outcome) is g.says))
+  complete_asked (Make count) s is (inr g) = λ p m. g.is ∙ ap status_of (sym (subst (λ (w : Words). SaysAsked told store w g.outcome) is g.says))
   complete_asked Usage s is (inl never) = unless s (s ≡ status.Usage) never
-  complete_asked Usage s is (inr g) = λ p q r m. g.is ∙ ap status_of (sym (subst (λ (w : Words). SaysAsked told store w g.outcome) is g.says))
+  complete_asked Usage s is (inr g) = λ p m. g.is ∙ ap status_of (sym (subst (λ (w : Words). SaysAsked told store w g.outcome) is g.says))
 
-  pub complete : (s : Status) → Headline told store words fb fa out err s → Complete told words (Rose fb fa) (Rose out.faults_before out.faults_after) (Rose err.faults_before err.faults_after) s
+  pub complete : (s : Status) → Headline told store words fb fa out err s → Complete told words A-count-rose s
   complete s h = complete_asked (words_asked words) s refl (judged s h)

@@ -17,12 +17,14 @@ use Rattle.load_report.specs.declared.report.Told.{Told}
 use Rattle.run_reuse.specs.Entries.{CacheInputs}
 use Rattle.run_reuse.specs.Groups.{AreGroups, groups_from}
 use Rattle.run_reuse.specs.Texts.{Text, Writes, Leaves, found_in}
+use Rattle.run_reuse.specs.Turns.{StoreChange}
 use Rattle.run_reuse.specs.declared.groups.Group.{Group}
 use Rattle.run_reuse.specs.declared.texts.Came.{Came}
 use Rattle.run_reuse.specs.declared.texts.Came.TheVariants as came
 use Rattle.run_reuse.specs.declared.texts.WrittenProgram.{WrittenProgram}
 use Rattle.law_reuse.specs.Seals.{WritesHonestly, LeavesHonestly}
 use Rattle.run_command.specs.declared.job.Job.{Job}
+use Rattle.run_top.specs.declared.cached.LoadedJob.{LoadedJob}
 use Rattle.run_top.specs.declared.prepare.Prepared.{Prepared}
 use Rattle.run_top.specs.declared.prepare.Unfinished.{Unfinished}
 use Rattle.run_top.specs.declared.prepare.Unfinished.TheVariants as unfinished
@@ -55,41 +57,44 @@ abbrev pub came_of : Loads (Found × Loading) → Came
 came_of (Ok l) = came.Program l.0
 came_of (Err e) = came.Fault e.1
 
+abbrev pub loaded_of : Loads (Found × Loading) → LoadedJob
+loaded_of l = record { came = came_of l; loading = loading_of l }
+
+-- what loading comes to for a job
+abbrev pub load_job : Paths → Job → LoadedJob
+load_job files job = loaded_of (load files job.roots job.program)
+
 -- what the entries of a job are made of
 abbrev pub kept_of : Job → List ℕ → Loading → List Group → CacheInputs
 kept_of job dir s groups = record { dir = dir; roots = job.roots; sources = s.sources; groups = groups }
 
 -- what a job comes to whose program and libraries were loaded
-pub record ComesOf (job : Job) (dir : List ℕ) (c : Came) (s : Loading) (before : Paths) (faults_before : ℕ) (after : Paths) (faults : ℕ)
-    (outcome : RunOutcome) : Type 0 where
+pub record ComesOf (job : Job) (dir : List ℕ) (loaded : LoadedJob) (change : StoreChange) (outcome : RunOutcome) : Type 0 where
   pub groups : List Group
-  pub are : AreGroups (groups_from 0 0 s.sources) s.begun s.done groups
+  pub are : AreGroups (groups_from 0 0 loaded.loading.sources) loaded.loading.begun loaded.loading.done groups
   pub made : Result Text Fault
-  pub writes : Writes (kept_of job dir s groups) prelude_table c (found_in s.done) before faults_before after faults made
-  pub is : outcome ≡ outcome_by job.report (libraries s) s.sources made
+  pub writes : Writes (kept_of job dir loaded.loading groups) prelude_table loaded.came (found_in loaded.loading.done) change made
+  pub is : outcome ≡ outcome_by job.report (libraries loaded.loading) loaded.loading.sources made
 
-abbrev pub Comes : Paths → Job → List ℕ → Paths → ℕ → Paths → ℕ → RunOutcome → Type 0
-Comes files job dir before faults_before after faults outcome =
-    ComesOf job dir (came_of (load files job.roots job.program)) (loading_of (load files job.roots job.program)) before faults_before after faults outcome
+abbrev pub Comes : Paths → Job → List ℕ → StoreChange → RunOutcome → Type 0
+Comes files job dir change outcome = ComesOf job dir (load_job files job) change outcome
 
 -- what is left of the store
-pub data LeavesOf (job : Job) (dir : List ℕ) (s : Loading) (before : Paths) (faults_before : ℕ) (after : Paths) (faults : ℕ) : Type 0 where
-  as_it_was : after ≡ before → LeavesOf job dir s before faults_before after faults
+pub data LeavesOf (job : Job) (dir : List ℕ) (s : Loading) (change : StoreChange) : Type 0 where
+  as_it_was : change.after ≡ change.before → LeavesOf job dir s change
   by_turns : (groups : List Group) → AreGroups (groups_from 0 0 s.sources) s.begun s.done groups
-      → Leaves (kept_of job dir s groups) prelude_table (found_in s.done) before faults_before after faults
-      → LeavesOf job dir s before faults_before after faults
+      → Leaves (kept_of job dir s groups) prelude_table (found_in s.done) change → LeavesOf job dir s change
 
-abbrev pub LeavesStore : Paths → Job → List ℕ → Paths → ℕ → Paths → ℕ → Type 0
-LeavesStore files job dir before faults_before after faults = LeavesOf job dir (loading_of (load files job.roots job.program)) before faults_before after faults
+abbrev pub LeavesStore : Paths → Job → List ℕ → StoreChange → Type 0
+LeavesStore files job dir change = LeavesOf job dir (loading_of (load files job.roots job.program)) change
 
 -- ---- the premise on seals: where a put failed, nothing unsound lies at its place
 
-abbrev pub ComesHonestly : {job : Job} {dir : List ℕ} {c : Came} {s : Loading} {before after : Paths} {faults_before faults : ℕ}
-    {outcome : RunOutcome} → ComesOf job dir c s before faults_before after faults outcome → Type 0
-ComesHonestly {job = job} {dir = dir} {s = s} comes = WritesHonestly (kept_of job dir s comes.groups) prelude_table comes.writes
+abbrev pub ComesHonestly : {job : Job} {dir : List ℕ} {loaded : LoadedJob} {change : StoreChange} {outcome : RunOutcome}
+    → ComesOf job dir loaded change outcome → Type 0
+ComesHonestly {job = job} {dir = dir} {loaded = loaded} comes = WritesHonestly (kept_of job dir loaded.loading comes.groups) prelude_table comes.writes
 
-abbrev pub LeavesOfHonestly : {job : Job} {dir : List ℕ} {s : Loading} {before after : Paths} {faults_before faults : ℕ}
-    → LeavesOf job dir s before faults_before after faults → Type 0
+abbrev pub LeavesOfHonestly : {job : Job} {dir : List ℕ} {s : Loading} {change : StoreChange} → LeavesOf job dir s change → Type 0
 LeavesOfHonestly (as_it_was same) = Unit {0}
 LeavesOfHonestly {job = job} {dir = dir} {s = s} (by_turns groups are leaves) = LeavesHonestly (kept_of job dir s groups) prelude_table leaves
 
@@ -105,17 +110,14 @@ PreparesText (Err (unfinished.Line line)) report libraries sources (Ok w) = ⊥
 PreparesText (Err unfinished.Read) report libraries sources w = Unit {0}
 PreparesText (Err unfinished.Memory) report libraries sources w = Unit {0}
 
-abbrev pub PreparesFrom : Result Prepared Unfinished → Job → List ℕ → Came → Loading → Paths → ℕ → Paths → ℕ → Type 0
-PreparesFrom (Ok made) job dir c s before faults_before after faults
-    = ComesOf job dir c s before faults_before after faults (done (string_bytes made.text) (string_bytes made.report))
-PreparesFrom (Err (unfinished.Line line)) job dir c s before faults_before after faults
-    = ComesOf job dir c s before faults_before after faults (fault (string_bytes line))
-PreparesFrom (Err unfinished.Read) job dir c s before faults_before after faults = after ≡ before
-PreparesFrom (Err unfinished.Memory) job dir c s before faults_before after faults = LeavesOf job dir s before faults_before after faults
+abbrev pub PreparesFrom : Result Prepared Unfinished → Job → List ℕ → LoadedJob → StoreChange → Type 0
+PreparesFrom (Ok made) job dir loaded change = ComesOf job dir loaded change (done (string_bytes made.text) (string_bytes made.report))
+PreparesFrom (Err (unfinished.Line line)) job dir loaded change = ComesOf job dir loaded change (fault (string_bytes line))
+PreparesFrom (Err unfinished.Read) job dir loaded change = change.after ≡ change.before
+PreparesFrom (Err unfinished.Memory) job dir loaded change = LeavesOf job dir loaded.loading change
 
-abbrev pub PreparesCached : Result Prepared Unfinished → Paths → Job → List ℕ → Paths → ℕ → Paths → ℕ → Type 0
-PreparesCached result files job dir before faults_before after faults =
-    PreparesFrom result job dir (came_of (load files job.roots job.program)) (loading_of (load files job.roots job.program)) before faults_before after faults
+abbrev pub PreparesCached : Result Prepared Unfinished → Paths → Job → List ℕ → StoreChange → Type 0
+PreparesCached result files job dir change = PreparesFrom result job dir (load_job files job) change
 
 -- ---- beside a run without a cache
 

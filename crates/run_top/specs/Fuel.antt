@@ -11,16 +11,24 @@ use Rattle.base_outside.specs.Contents.{Paths}
 use Rattle.base_outside.specs.Store.{WhereTold}
 use Rattle.run_prelude.specs.Prelude.{prelude_table, prelude_spent}
 use Rattle.run_reuse.specs.Fuel.{writes_spent}
-use Rattle.run_reuse.specs.declared.texts.Came.{Came}
+use Rattle.run_reuse.specs.Turns.{StoreChange, changed}
 use Rattle.run_command.specs.declared.job.Job.{Job}
 use Rattle.run_command.specs.declared.words.Words.{Words}
 use Rattle.run_command.specs.declared.words.Words.TheVariants.{Expand, Make, Usage}
-use Rattle.run_top.specs.Cached.{ComesOf, came_of, kept_of}
+use Rattle.run_top.specs.Cached.{ComesOf, kept_of, load_job}
 use Rattle.run_top.specs.Headline.{Finishes, Storage, Sunk}
-use Rattle.run_top.specs.Whole.{RunOutcome, done, loading_of, made_job}
+use Rattle.run_top.specs.Whole.{RunOutcome, done, made_job}
 use Rattle.run_top.specs.Words.{words_asked}
+use Rattle.run_top.specs.declared.cached.LoadedJob.{LoadedJob}
 use Rattle.run_top.specs.declared.status.Status.{Status}
 use Rattle.run_top.specs.declared.status.Status.TheVariants as status
+
+-- a text with its report, and the fuel before they were made and after
+pub record SpentText : Type 0 where
+  pub text : List ℕ
+  pub report : List ℕ
+  pub fuel_before : ℕ
+  pub fuel_after : ℕ
 
 -- ---- without a cache
 
@@ -36,39 +44,35 @@ job_spent files job = prelude_spent + loads_spent prelude_table (load files job.
 -- ---- with a cache
 
 -- the same, but for the libraries whose records are reused
-abbrev pub comes_spent : {job : Job} {dir : List ℕ} {c : Came} {s : Loading} {before after : Paths} {faults_before faults : ℕ}
-    {outcome : RunOutcome} → ComesOf job dir c s before faults_before after faults outcome → ℕ
-comes_spent {job = job} {dir = dir} {s = s} comes = writes_spent (kept_of job dir s comes.groups) prelude_table comes.writes
+abbrev pub comes_spent : {job : Job} {dir : List ℕ} {loaded : LoadedJob} {change : StoreChange} {outcome : RunOutcome}
+    → ComesOf job dir loaded change outcome → ℕ
+comes_spent {job = job} {dir = dir} {loaded = loaded} comes = writes_spent (kept_of job dir loaded.loading comes.groups) prelude_table comes.writes
 
 -- a job comes to a text, and this is spent behind the texts of procedures
-pub record ComesSpending (job : Job) (dir : List ℕ) (c : Came) (s : Loading) (before : Paths) (faults_before : ℕ) (after : Paths)
-    (faults : ℕ) (text report : List ℕ) (fuel_before fuel_after : ℕ) : Type 0 where
-  pub comes : ComesOf job dir c s before faults_before after faults (done text report)
-  pub rose : fuel_after ≡ fuel_before + comes_spent comes
+pub record ComesSpending (job : Job) (dir : List ℕ) (loaded : LoadedJob) (change : StoreChange) (spent : SpentText) : Type 0 where
+  pub comes : ComesOf job dir loaded change (done spent.text spent.report)
+  pub rose : spent.fuel_after ≡ spent.fuel_before + comes_spent comes
 
-abbrev pub SpendsFrom : Paths → Job → List ℕ → Paths → ℕ → Paths → ℕ → List ℕ → List ℕ → ℕ → ℕ → Type 0
-SpendsFrom files job dir before faults_before after faults text report fuel_before fuel_after =
-    ComesSpending job dir (came_of (load files job.roots job.program))
-    (loading_of (load files job.roots job.program)) before faults_before after faults text report fuel_before fuel_after
+abbrev pub SpendsFrom : Paths → Job → List ℕ → StoreChange → SpentText → Type 0
+SpendsFrom files job dir change spent = ComesSpending job dir (load_job files job) change spent
 
 -- with the texts of procedures
-abbrev pub SpendsCached : Paths → Job → List ℕ → Paths → ℕ → Paths → ℕ → List ℕ → List ℕ → ℕ → ℕ → Type 0
-SpendsCached files job dir before faults_before after faults text report fuel_before fuel_after =
-    SpendsFrom files job dir before faults_before after faults text report (fuel_before + prelude_spent) fuel_after
+abbrev pub SpendsCached : Paths → Job → List ℕ → StoreChange → SpentText → Type 0
+SpendsCached files job dir change spent = SpendsFrom files job dir change (record spent { fuel_before = spent.fuel_before + prelude_spent })
 
 -- ---- what is spent where a text is prepared
 
 -- where the files are told, and with a cache also the store
-abbrev pub SpendsJob : Option Paths → Storage → Job → Option (List ℕ) → List ℕ → List ℕ → ℕ → ℕ → Type 0
-SpendsJob told store job None text report fuel_before fuel_after = IfSome told (λ files. fuel_after ≡ fuel_before + job_spent files job)
-SpendsJob told store job (Some dir) text report fuel_before fuel_after =
+abbrev pub SpendsJob : Option Paths → Storage → Job → Option (List ℕ) → SpentText → Type 0
+SpendsJob told store job None spent = IfSome told (λ files. spent.fuel_after ≡ spent.fuel_before + job_spent files job)
+SpendsJob told store job (Some dir) spent =
     IfSome told (λ files. WhereTold store.before store.after
-    (λ before after. SpendsCached files job dir before store.faults_before after store.faults_after text report fuel_before fuel_after))
+    (λ before after. SpendsCached files job dir (changed before store.faults_before after store.faults_after) spent))
 
-abbrev pub SpendsAsked : Option Paths → Storage → Words → List ℕ → List ℕ → ℕ → ℕ → Type 0
-SpendsAsked told store (Expand job) text report fuel_before fuel_after = SpendsJob told store job job.cache text report fuel_before fuel_after
-SpendsAsked told store (Make count) text report fuel_before fuel_after = fuel_after ≡ fuel_before + job_spent (made_files count) made_job
-SpendsAsked told store Usage text report fuel_before fuel_after = fuel_after ≡ fuel_before
+abbrev pub SpendsAsked : Option Paths → Storage → Words → SpentText → Type 0
+SpendsAsked told store (Expand job) spent = SpendsJob told store job job.cache spent
+SpendsAsked told store (Make count) spent = spent.fuel_after ≡ spent.fuel_before + job_spent (made_files count) made_job
+SpendsAsked told store Usage spent = spent.fuel_after ≡ spent.fuel_before
 
 -- ---- what a run spends
 
@@ -77,7 +81,7 @@ pub record Spends (told : Option Paths) (store : Storage) (words : Words) (out e
   pub text : List ℕ
   pub report : List ℕ
   pub wrote : Finishes out err text report status.Done
-  pub spends : SpendsAsked told store words text report fuel_before fuel_after
+  pub spends : SpendsAsked told store words (record { text = text; report = report; fuel_before = fuel_before; fuel_after = fuel_after })
 
 abbrev pub SpendsIfDone : Option Paths → Storage → List (List ℕ) → Sunk → Sunk → ℕ → ℕ → Status → Type 0
 SpendsIfDone told store words out err fuel_before fuel_after status.Done = Spends told store (words_asked words) out err fuel_before fuel_after

@@ -5,6 +5,7 @@ use Rattle.base_outside.specs.Causes.{Rose, raised}
 use Rattle.base_outside.specs.Sink.{Gains}
 use Rattle.base_outside.specs.Store.{WhereTold}
 use Rattle.run_prelude.specs.Prelude.{prelude_table}
+use Rattle.run_reuse.specs.Turns.{StoreChange, changed}
 use Rattle.law_reuse.specs.Sound.{IsHonest}
 use Rattle.run_top.specs.Cached.{Comes, ComesHonestly, LeavesStore, LeavesOfHonestly, SameText}
 use Rattle.run_command.specs.declared.job.Job.{Job}
@@ -53,10 +54,9 @@ pub record Storage : Type 0 where
   pub faults_after : ℕ
 
 -- What a run with a cache comes to. Over an honest store that is what one without gives.
-pub record SaysCached (files : Paths) (job : Job) (dir : List ℕ) (before : Paths) (faults_before : ℕ) (after : Paths) (faults_after : ℕ)
-    (outcome : RunOutcome) : Type 0 where
-  pub comes : Comes files job dir before faults_before after faults_after outcome
-  pub same : IsHonest prelude_table before → ComesHonestly comes → SameText outcome (of_job files job)
+pub record SaysCached (files : Paths) (job : Job) (dir : List ℕ) (change : StoreChange) (outcome : RunOutcome) : Type 0 where
+  pub comes : Comes files job dir change outcome
+  pub same : IsHonest prelude_table change.before → ComesHonestly comes → SameText outcome (of_job files job)
 
 -- a job with a cache asks for core text
 abbrev pub IsCoreIfCached : Job → Type 0
@@ -66,7 +66,7 @@ IsCoreIfCached job = (dir : List ℕ) → job.cache ≡ Some dir → job.kind �
 abbrev pub SaysJob : Option Paths → Storage → Job → Option (List ℕ) → RunOutcome → Type 0
 SaysJob told store job None outcome = IfSome told (λ files. of_job files job ≡ outcome)
 SaysJob told store job (Some dir) outcome = IfSome told (λ files. WhereTold store.before store.after
-    (λ before after. SaysCached files job dir before store.faults_before after store.faults_after outcome))
+    (λ before after. SaysCached files job dir (changed before store.faults_before after store.faults_after) outcome))
 
 abbrev pub SaysAsked : Option Paths → Storage → Words → RunOutcome → Type 0
 SaysAsked told store (Expand job) outcome = SaysJob told store job job.cache outcome
@@ -110,39 +110,37 @@ status_of (fault line) = status.Fault
 
 -- Where no count rose, the status is the definition's, unless memory ran out. With a cache it is that of a text or of a
 -- fault; over an honest store the headline tells which.
-abbrev pub CompleteJob : Option Paths → Job → Option (List ℕ) → (files_rose out_rose err_rose : Type 0) → Status → Type 0
-CompleteJob told job None files_rose out_rose err_rose s =
-    IfSome told (λ files. ¬ files_rose → ¬ out_rose → ¬ err_rose → ¬ (s ≡ status.Memory) → s ≡ status_of (of_job files job))
-CompleteJob told job (Some dir) files_rose out_rose err_rose s =
-    ¬ files_rose → ¬ out_rose → ¬ err_rose → ¬ (s ≡ status.Memory) → (s ≡ status.Done) ⊎ (s ≡ status.Fault)
+abbrev pub CompleteJob : Option Paths → Job → Option (List ℕ) → (a_count_rose : Type 0) → Status → Type 0
+CompleteJob told job None a_count_rose s = IfSome told (λ files. ¬ a_count_rose → ¬ (s ≡ status.Memory) → s ≡ status_of (of_job files job))
+CompleteJob told job (Some dir) a_count_rose s = ¬ a_count_rose → ¬ (s ≡ status.Memory) → (s ≡ status.Done) ⊎ (s ≡ status.Fault)
 
-abbrev pub CompleteAsked : Option Paths → Words → (files_rose out_rose err_rose : Type 0) → Status → Type 0
-CompleteAsked told (Expand job) files_rose out_rose err_rose s = CompleteJob told job job.cache files_rose out_rose err_rose s
-CompleteAsked told (Make count) files_rose out_rose err_rose s = ¬ files_rose → ¬ out_rose → ¬ err_rose → ¬ (s ≡ status.Memory) → s ≡ status_of (of_made count)
-CompleteAsked told Usage files_rose out_rose err_rose s = ¬ files_rose → ¬ out_rose → ¬ err_rose → ¬ (s ≡ status.Memory) → s ≡ status.Usage
+abbrev pub CompleteAsked : Option Paths → Words → (a_count_rose : Type 0) → Status → Type 0
+CompleteAsked told (Expand job) a_count_rose s = CompleteJob told job job.cache a_count_rose s
+CompleteAsked told (Make count) a_count_rose s = ¬ a_count_rose → ¬ (s ≡ status.Memory) → s ≡ status_of (of_made count)
+CompleteAsked told Usage a_count_rose s = ¬ a_count_rose → ¬ (s ≡ status.Memory) → s ≡ status.Usage
 
-abbrev pub Complete : Option Paths → List (List ℕ) → (files_rose out_rose err_rose : Type 0) → Status → Type 0
-Complete told words files_rose out_rose err_rose s = CompleteAsked told (words_asked words) files_rose out_rose err_rose s
+abbrev pub Complete : Option Paths → List (List ℕ) → (a_count_rose : Type 0) → Status → Type 0
+Complete told words a_count_rose s = CompleteAsked told (words_asked words) a_count_rose s
 
 -- words that ask for no program leave the files as they were
 abbrev pub LeavesFiles : {F : Type 0} → List (List ℕ) → F → F → Type 0
 LeavesFiles words before after = ReadNone (words_asked words) → after ≡ before
 
 -- What is left of the store with a cache. From an honest store an honest one is left.
-pub record LeavesHonest (files : Paths) (job : Job) (dir : List ℕ) (before : Paths) (faults_before : ℕ) (after : Paths) (faults_after : ℕ) : Type 0 where
-  pub leaves : LeavesStore files job dir before faults_before after faults_after
-  pub honest : IsHonest prelude_table before → LeavesOfHonestly leaves → IsHonest prelude_table after
+pub record LeavesHonest (files : Paths) (job : Job) (dir : List ℕ) (change : StoreChange) : Type 0 where
+  pub leaves : LeavesStore files job dir change
+  pub honest : IsHonest prelude_table change.before → LeavesOfHonestly leaves → IsHonest prelude_table change.after
 
 -- without a cache the store is as it was
-abbrev pub KeepsJob : {S : Type 0} → Option Paths → Storage → Job → Option (List ℕ) → S → S → Type 0
-KeepsJob told store job None before after = after ≡ before
-KeepsJob told store job (Some dir) before after = IfSome told
-    (λ files. WhereTold store.before store.after (λ held left. LeavesHonest files job dir held store.faults_before left store.faults_after))
+abbrev pub KeepsJob : Option Paths → Storage → Job → Option (List ℕ) → (is_as_it_was : Type 0) → Type 0
+KeepsJob told store job None is_as_it_was = is_as_it_was
+KeepsJob told store job (Some dir) is_as_it_was = IfSome told
+    (λ files. WhereTold store.before store.after (λ before after. LeavesHonest files job dir (changed before store.faults_before after store.faults_after)))
 
-abbrev pub KeepsAsked : {S : Type 0} → Option Paths → Storage → Words → S → S → Type 0
-KeepsAsked told store (Expand job) before after = KeepsJob told store job job.cache before after
-KeepsAsked told store (Make count) before after = after ≡ before
-KeepsAsked told store Usage before after = after ≡ before
+abbrev pub KeepsAsked : Option Paths → Storage → Words → (is_as_it_was : Type 0) → Type 0
+KeepsAsked told store (Expand job) is_as_it_was = KeepsJob told store job job.cache is_as_it_was
+KeepsAsked told store (Make count) is_as_it_was = is_as_it_was
+KeepsAsked told store Usage is_as_it_was = is_as_it_was
 
-abbrev pub KeepsStore : {S : Type 0} → Option Paths → Storage → List (List ℕ) → S → S → Type 0
-KeepsStore told store words before after = KeepsAsked told store (words_asked words) before after
+abbrev pub KeepsStore : Option Paths → Storage → List (List ℕ) → (is_as_it_was : Type 0) → Type 0
+KeepsStore told store words is_as_it_was = KeepsAsked told store (words_asked words) is_as_it_was

@@ -5,6 +5,7 @@ ghost use Rattle.std.specs.String.{string_bytes};
 ghost use Rattle.base_outside.specs.Causes.{Rose};
 ghost use Rattle.base_outside.specs.Store.{WhereTold};
 ghost use Rattle.run_prelude.specs.Prelude.{kept, prelude_table};
+ghost use Rattle.run_reuse.specs.Turns.{changed};
 ghost use Rattle.run_top.specs.Cached.{fate_at, told_from, report_by, PreparesText, PreparesFrom, PreparesCached};
 ghost use Rattle.run_top.specs.Fuel.{ComesSpending, SpendsCached, SpendsFrom};
 
@@ -37,6 +38,13 @@ pub struct CachedJob<'a> {
     pub alloc: Global,
     pub job: &'a Job,
     pub dir: &'a Symbol,
+}
+
+/// What loading came to for a job: a program or a fault, and what was read and loaded on the way.
+#[derive(Drop)]
+pub struct LoadedJob {
+    pub came: Came,
+    pub loading: Loading,
 }
 
 // ---- the report
@@ -118,21 +126,21 @@ fn prepared(
 fn of_loaded<S: Store, N: Ledger, L: Ledger>(
     cached: &CachedJob,
     implementation: &Implementation,
-    loaded: (Came, Loading),
+    loaded: LoadedJob,
     store: &mut S,
     tally: &mut Tally<N, L>,
 ) -> Result<Prepared, Unfinished>
     requires { kept implementation.now.prelude ≡ prelude_table }
     ensures later { S.faults store.old ≤ S.faults store.new }
     ensures gives { WhereTold (S.told store.old) (S.told store.new) (λ before after.
-        PreparesFrom result cached.now.job.now cached.now.dir.now loaded.0 loaded.1 before (S.faults store.old) after (S.faults store.new)) }
+        PreparesFrom result cached.now.job.now cached.now.dir.now loaded (changed before (S.faults store.old) after (S.faults store.new))) }
     ensures unread { result ≢ Err Unfinished.Read }
     ensures fuel { IfOk result (λ made. WhereTold (S.told store.old) (S.told store.new) (λ before after.
-        ComesSpending cached.now.job.now cached.now.dir.now loaded.0 loaded.1 before (S.faults store.old) after (S.faults store.new)
-        (string_bytes made.text) (string_bytes made.report) tally.old.fuel tally.new.fuel)) }
+        ComesSpending cached.now.job.now cached.now.dir.now loaded (changed before (S.faults store.old) after (S.faults store.new))
+        (record { text = string_bytes made.text; report = string_bytes made.report; fuel_before = tally.old.fuel; fuel_after = tally.new.fuel }))) }
 {
     let alloc = cached.alloc;
-    let (came, loading) = loaded;
+    let LoadedJob { came, loading } = loaded;
     let libraries = libraries(alloc, &loading)?;
     let groups = groups_of(
         alloc,
@@ -175,11 +183,11 @@ fn of_job<F: Files, S: Store, N: Ledger, L: Ledger>(
     requires { kept implementation.now.prelude ≡ prelude_table }
     ensures later { S.faults inputs.old.store ≤ S.faults inputs.new.store }
     ensures gives { IfSome (F.told inputs.old.files) (λ fs. WhereTold (S.told inputs.old.store) (S.told inputs.new.store) (λ before after.
-        PreparesCached result fs cached.now.job.now cached.now.dir.now before (S.faults inputs.old.store) after (S.faults inputs.new.store))) }
+        PreparesCached result fs cached.now.job.now cached.now.dir.now (changed before (S.faults inputs.old.store) after (S.faults inputs.new.store)))) }
     ensures read { result ≡ Err Unfinished.Read → (inputs.new.store ≡ inputs.old.store) × Rose (F.faults inputs.old.files) (F.faults inputs.new.files) }
     ensures fuel { IfSome (F.told inputs.old.files) (λ fs. IfOk result (λ made. WhereTold (S.told inputs.old.store) (S.told inputs.new.store) (λ before after.
-        SpendsFrom fs cached.now.job.now cached.now.dir.now before (S.faults inputs.old.store) after (S.faults inputs.new.store)
-        (string_bytes made.text) (string_bytes made.report) tally.old.fuel tally.new.fuel))) }
+        SpendsFrom fs cached.now.job.now cached.now.dir.now (changed before (S.faults inputs.old.store) after (S.faults inputs.new.store))
+        (record { text = string_bytes made.text; report = string_bytes made.report; fuel_before = tally.old.fuel; fuel_after = tally.new.fuel })))) }
 {
     let mut loading = Loading::new(cached.alloc);
     let came = load(
@@ -198,7 +206,7 @@ fn of_job<F: Files, S: Store, N: Ledger, L: Ledger>(
     of_loaded(
         cached,
         implementation,
-        (came, loading),
+        LoadedJob { came, loading },
         &mut inputs.store,
         tally,
     )
@@ -214,11 +222,11 @@ pub(crate) fn prepare_cached<F: Files, S: Store, N: Ledger, L: Ledger>(
 ) -> Result<Prepared, Unfinished>
     ensures later { S.faults inputs.old.store ≤ S.faults inputs.new.store }
     ensures gives { IfSome (F.told inputs.old.files) (λ fs. WhereTold (S.told inputs.old.store) (S.told inputs.new.store) (λ before after.
-        PreparesCached result fs cached.now.job.now cached.now.dir.now before (S.faults inputs.old.store) after (S.faults inputs.new.store))) }
+        PreparesCached result fs cached.now.job.now cached.now.dir.now (changed before (S.faults inputs.old.store) after (S.faults inputs.new.store)))) }
     ensures read { result ≡ Err Unfinished.Read → (inputs.new.store ≡ inputs.old.store) × Rose (F.faults inputs.old.files) (F.faults inputs.new.files) }
     ensures fuel { IfSome (F.told inputs.old.files) (λ fs. IfOk result (λ made. WhereTold (S.told inputs.old.store) (S.told inputs.new.store) (λ before after.
-        SpendsCached fs cached.now.job.now cached.now.dir.now before (S.faults inputs.old.store) after (S.faults inputs.new.store)
-        (string_bytes made.text) (string_bytes made.report) tally.old.fuel tally.new.fuel))) }
+        SpendsCached fs cached.now.job.now cached.now.dir.now (changed before (S.faults inputs.old.store) after (S.faults inputs.new.store))
+        (record { text = string_bytes made.text; report = string_bytes made.report; fuel_before = tally.old.fuel; fuel_after = tally.new.fuel })))) }
 {
     let prelude = prelude(cached.alloc, primitives, tally)?;
     let implementation = Implementation {

@@ -1,6 +1,6 @@
 //! The top call.
 
-ghost use Rattle.std.specs.Prelude.{◌≡◌, [], Err, IfOk};
+ghost use Rattle.std.specs.Prelude.{◌≡◌, ◌⊎◌, [], Err, IfOk};
 ghost use Rattle.std.specs.String.{string_bytes};
 ghost use Rattle.base_outside.specs.Causes.{Rose};
 ghost use Rattle.run_top.specs.Words.{texts};
@@ -128,11 +128,12 @@ fn prepared<F: Files, S: Store, N: Ledger, L: Ledger>(
         job.now job.now.cache) result }
     ensures store { KeepsJob (F.told inputs.old.files)
         (record { before = S.told inputs.old.store; after = S.told inputs.new.store; faults_before = S.faults inputs.old.store; faults_after = S.faults inputs.new.store })
-        job.now job.now.cache inputs.old.store inputs.new.store }
+        job.now job.now.cache (inputs.new.store ≡ inputs.old.store) }
     ensures read { result ≡ Err Unfinished.Read → Rose (F.faults inputs.old.files) (F.faults inputs.new.files) }
     ensures fuel { IfOk result (λ made. SpendsJob (F.told inputs.old.files)
         (record { before = S.told inputs.old.store; after = S.told inputs.new.store; faults_before = S.faults inputs.old.store; faults_after = S.faults inputs.new.store })
-        job.now job.now.cache (string_bytes made.text) (string_bytes made.report) tally.old.fuel tally.new.fuel) }
+        job.now job.now.cache
+        (record { text = string_bytes made.text; report = string_bytes made.report; fuel_before = tally.old.fuel; fuel_after = tally.new.fuel })) }
 {
     match &job.cache {
         Some(dir) => {
@@ -158,7 +159,7 @@ fn run_words<F: Files, S: Store, O: Sink, E: Sink, N: Ledger, L: Ledger>(
     ensures files { LeavesFiles (texts words.now) outside.old.inputs.files outside.new.inputs.files }
     ensures store { KeepsStore (F.told outside.old.inputs.files)
         (record { before = S.told outside.old.inputs.store; after = S.told outside.new.inputs.store; faults_before = S.faults outside.old.inputs.store; faults_after = S.faults outside.new.inputs.store })
-        (texts words.now) outside.old.inputs.store outside.new.inputs.store }
+        (texts words.now) (outside.new.inputs.store ≡ outside.old.inputs.store) }
     ensures fuel { SpendsIfDone (F.told outside.old.inputs.files)
         (record { before = S.told outside.old.inputs.store; after = S.told outside.new.inputs.store; faults_before = S.faults outside.old.inputs.store; faults_after = S.faults outside.new.inputs.store })
         (texts words.now)
@@ -203,12 +204,12 @@ pub fn run<F: Files, S: Store, O: Sink, E: Sink, N: Ledger, L: Ledger>(
         (record { before = O.told outside.old.out; after = O.told outside.new.out; faults_before = O.faults outside.old.out; faults_after = O.faults outside.new.out; puts_before = O.puts outside.old.out; puts_after = O.puts outside.new.out })
         (record { before = E.told outside.old.err; after = E.told outside.new.err; faults_before = E.faults outside.old.err; faults_after = E.faults outside.new.err; puts_before = E.puts outside.old.err; puts_after = E.puts outside.new.err }) result }
     ensures complete { Complete (F.told outside.old.inputs.files) (texts words.now)
-        (Rose (F.faults outside.old.inputs.files) (F.faults outside.new.inputs.files))
-        (Rose (O.faults outside.old.out) (O.faults outside.new.out)) (Rose (E.faults outside.old.err) (E.faults outside.new.err)) result }
+        (Rose (F.faults outside.old.inputs.files) (F.faults outside.new.inputs.files)
+        ⊎ (Rose (O.faults outside.old.out) (O.faults outside.new.out) ⊎ Rose (E.faults outside.old.err) (E.faults outside.new.err))) result }
     ensures files { LeavesFiles (texts words.now) outside.old.inputs.files outside.new.inputs.files }
     ensures store { KeepsStore (F.told outside.old.inputs.files)
         (record { before = S.told outside.old.inputs.store; after = S.told outside.new.inputs.store; faults_before = S.faults outside.old.inputs.store; faults_after = S.faults outside.new.inputs.store })
-        (texts words.now) outside.old.inputs.store outside.new.inputs.store }
+        (texts words.now) (outside.new.inputs.store ≡ outside.old.inputs.store) }
     ensures fuel { SpendsIfDone (F.told outside.old.inputs.files)
         (record { before = S.told outside.old.inputs.store; after = S.told outside.new.inputs.store; faults_before = S.faults outside.old.inputs.store; faults_after = S.faults outside.new.inputs.store })
         (texts words.now)

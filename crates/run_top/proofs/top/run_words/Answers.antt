@@ -1,4 +1,4 @@
-use Rattle.std.proofs.Common.{sym, ◌∙◌}
+use Rattle.std.proofs.Common.{◌≡◌, sym, ◌∙◌}
 use Rattle.run_top.proofs.FuelLemmas.{made_spends, usage_spends, written_spends}
 use Rattle.run_top.specs.Words.{texts}
 use Rattle.run_top.proofs.CachedLemmas.{kept_by_words, still_kept}
@@ -30,7 +30,7 @@ returns-in-Ok-Expand-clause-store g c =
     let is = c.prepared-prepared.new.inputs.store in
     kept_by_words (g.F.Files.told c.args.outside.now.inputs.files)
     (record { before = g.S.Store.told was; after = g.S.Store.told is; faults_before = g.S.Store.faults was; faults_after = g.S.Store.faults is })
-    _ was is (texts c.args.words.now) c.in-Ok-Expand.job (sym c.in-Ok-Expand.ensures ∙ c.in-Ok-Expand.field-0-is) c.prepared-prepared.ensures.store
+    (is ≡ was) (texts c.args.words.now) c.in-Ok-Expand.job (sym c.in-Ok-Expand.ensures ∙ c.in-Ok-Expand.field-0-is) c.prepared-prepared.ensures.store
 
 pub returns-in-Err-clause-store : goal.returns-in-Err-clause-store
 returns-in-Err-clause-store g c =
