@@ -49,3 +49,18 @@ pub mod HygienicForms
 pub mod HygienicRuns
 pub mod KeptTransformers
 pub mod NestedForms
+pub mod Texts
+pub mod Records
+pub mod Heights
+pub mod TextsNest
+pub mod Spans
+pub mod Spelt
+pub mod Formed
+pub mod TextsPass
+mod Parts
+mod References
+mod FollowerRows
+mod Kept
+mod VersionLemmas
+mod PassLemmas
+pub mod GrownLemmas

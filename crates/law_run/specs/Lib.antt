@@ -15,3 +15,10 @@ pub mod Hygienic
 pub mod Transformers
 pub mod Nested
 pub mod Mapped
+pub mod Limits
+pub mod Nesting
+pub mod Pass
+pub mod Followers
+pub mod Passing
+pub mod Grown
+pub mod Said

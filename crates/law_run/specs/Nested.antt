@@ -15,6 +15,7 @@ use Rattle.expand_forms.specs.Inside.{Inside}
 use Rattle.expand_forms.specs.Top.{top}
 use Rattle.expand_forms.specs.declared.top.TopAt.{TopAt}
 use Rattle.expand_forms.specs.Forms.{procedure_parts}
+use Rattle.expand_forms.specs.Site.{site_at}
 use Rattle.law_expand.specs.Kept.{MakesName, IsKeptWith}
 use Rattle.law_expand.specs.States.{IsOwn}
 use Rattle.expand_heads.specs.Items.{is_top}

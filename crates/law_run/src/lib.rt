@@ -36,16 +36,22 @@
 //! More stand in modules of their own: `by_name`, that the text is closed and bound once by the names in it; `follow`,
 //! that the records follow one another; `memory`, that want of memory hides no other cause; `spelled`, that the text is spelled by the
 //! grammar of core text; `readable`, that each constant in it, and the whole text, is read back; `hygiene`, that each record is hygienic;
-//! `stuck`, that no run ends with the fault of cells that don't fit; and `maps`, that a binding map has the faults of core text.
+//! `stuck`, that no run ends with the fault of cells that don't fit; `maps`, that a binding map has the faults of core text; `nesting`, how
+//! deep the text nests; `pass`, that the checker accepts it; `followers`, that records which follow others keep to all that is asked of
+//! them; and `cached`, what runs over a store leave and say.
 //!
 //! Nothing is computed here: each function stands for the law that it ensures.
 #![tactic(auto)]
 
 pub mod by_name;
+pub mod cached;
 pub mod follow;
+pub mod followers;
 pub mod hygiene;
 pub mod maps;
 pub mod memory;
+pub mod nesting;
+pub mod pass;
 pub mod readable;
 pub mod spelled;
 pub mod stuck;

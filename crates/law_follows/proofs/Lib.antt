@@ -1,6 +1,0 @@
-mod Parts
-mod References
-mod Rows
-mod Kept
-mod VersionLemmas
-mod PassLemmas

@@ -1,2 +1,0 @@
-pub mod Followers
-pub mod Passing

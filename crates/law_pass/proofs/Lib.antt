@@ -1,4 +1,0 @@
-pub mod Spans
-pub mod Spelt
-pub mod Formed
-pub mod Pass

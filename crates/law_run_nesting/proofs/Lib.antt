@@ -1,4 +1,0 @@
-pub mod Texts
-pub mod Records
-pub mod Heights
-pub mod Nesting
