@@ -1,5 +1,5 @@
 mod Effects
-mod Same
+pub mod Same
 mod WalkLaw
 mod ReadLaw
 mod NamesLaw
@@ -9,4 +9,3 @@ mod VerdictLaw
 mod RunLaw
 mod Steps
 mod PrimitiveNames
-pub mod Same

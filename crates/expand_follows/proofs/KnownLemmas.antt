@@ -1,13 +1,13 @@
 -- A table of a record's own labels tells which labels it knows.
 use Rattle.std.proofs.Common.{◌≡◌, ℕ, Bool, true, false, cond, List, [], ◌∷◌, ◌++◌, map, Option, Some, None, refl, sym, ap, ◌∙◌}
-use Rattle.std.specs.Prelude.{◌||◌, is_some, if◌then◌else◌}
+use Rattle.std.specs.Prelude.{◌&&◌, ◌||◌, is_some, if◌then◌else◌}
 use Rattle.std.specs.List.{flat_map}
 use Rattle.std.specs.Map.{lookup}
 use Rattle.base_data.specs.declared.name.Label.{Label}
 use Rattle.core_language.specs.Labels.{same_label}
 use Rattle.core_language.specs.declared.binding.Binding.{Binding}
 use Rattle.core_language.specs.declared.record.CompiledLibrary.{CompiledLibrary}
-use Rattle.law_core.specs.Follows.{bound_labels, is_given, is_known}
+use Rattle.law_core.specs.Follows.{bound_labels, export_labels, is_given, is_known, knows_its_labels, row_labels}
 use Rattle.law_core.specs.Words.{among, each}
 use Rattle.law_core.proofs.Decisions.{label_decides}
 use Rattle.core_well_made.proofs.Sets.{among_joined}
@@ -67,3 +67,8 @@ known_is r earlier l =
 pub each_known : (own : List (Label × Option ℕ)) (r : CompiledLibrary) (earlier : List CompiledLibrary) → own ≡ with_indices [] r.bindings → (ls : List Label)
     → each (known_by own (flat_map bound_labels earlier)) ls ≡ each (is_known r earlier) ls
 each_known own r earlier is ls = ap (λ rows. each (known_by rows (flat_map bound_labels earlier)) ls) is ∙ (λ i. each (λ l. known_is r earlier l i) ls)
+
+-- where the exports are known, the rows decide
+pub rows_decide : (r : CompiledLibrary) (earlier : List CompiledLibrary) → true ≡ each (is_known r earlier) (export_labels r)
+    → (known : Bool) → known ≡ each (is_known r earlier) (row_labels r) → known ≡ knows_its_labels r earlier
+rows_decide r earlier exported known is = is ∙ ap (λ c. c && each (is_known r earlier) (row_labels r)) exported

@@ -32,6 +32,10 @@ one_up site = record site { level = site.level + 1 }
 abbrev pub at_place : Span → Site → Site
 at_place place site = record site { place = place }
 
+-- what has its own depth
+abbrev pub at_depth : ℕ → Site → Site
+at_depth depth site = record site { depth = depth }
+
 -- a form of a body
 abbrev pub site_in : BodyAt → ℕ → Site
 site_in at depth = site_at at.place at.level depth

@@ -6,7 +6,6 @@ ghost use Rattle.expand_forms.specs.ExpandUses.{used_form, next_form, set_step, 
 
 use crate::at::{FormAt, ItemAt, ItemForm};
 use crate::links::link;
-use crate::site::Site;
 use crate::transformers::Transformers;
 use base_data::fault::{FaultKind, Stop};
 use base_data::memory::Memory;
@@ -203,16 +202,11 @@ pub(crate) fn expand_uses<M: Transformers, N: Ledger, L: Ledger>(
 ) -> Result<PlannedForm, Stop>
     ensures { GivesAfter (λ d. d) result state.new (expand_uses (M.records at.now.means.now) at.now.site.now.place at.now.site.now.level form.now state.old) }
 {
-    let outer = at.site;
     let mut left = state.uses_left();
     let mut form = form.share()?;
-    let mut place = outer.place.share()?;
+    let mut place = at.site.share_place()?;
     loop {
-        let site = Site {
-            place: &place,
-            level: outer.level,
-            depth: outer.depth,
-        };
+        let site = at.site.at_place(&place);
         let here = FormAt { site: &site, ..*at };
         let keyword = match next_step(state, &form, &here, counts)? {
             PlanOrUse::Plan(plan) => return planned_form(state, place, form, plan),

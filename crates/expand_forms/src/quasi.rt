@@ -8,7 +8,6 @@ ghost use Rattle.expand_forms.specs.Quasi.{parts_in_order, quasi_made, quasi_for
 
 use crate::at::FormAt;
 use crate::expression::expression;
-use crate::site::Site;
 use crate::transformers::Transformers;
 use base_data::fault::Stop;
 use core_language::code::Core;
@@ -53,14 +52,9 @@ fn parts_in_order<M: Transformers, N: Ledger, L: Ledger>(
     ensures { GivesAfter (λ c. c.items) result state.new
         (parts_in_order (inside (M.records at.now.means.now) at.now.room) at.now.site.now.place at.now.site.now.level parts.now state.old) }
 {
-    let outer = at.site;
     let mut done = Vec::new(state.alloc());
     for part in parts {
-        let site = Site {
-            place: outer.place,
-            level: outer.level,
-            depth: part.depth,
-        };
+        let site = at.site.at_depth(part.depth);
         let inner = FormAt { site: &site, ..*at };
         let core = expression(state, &part.form, &inner, counts)?;
         done.push(core)?;

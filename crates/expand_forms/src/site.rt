@@ -1,8 +1,9 @@
 //! Where forms stand.
 
-ghost use Rattle.std.specs.Prelude.{◌≡◌};
-ghost use Rattle.expand_forms.specs.Site.{at_place, one_deeper, site_in, site_of};
+ghost use Rattle.std.specs.Prelude.{◌≡◌, IfOk};
+ghost use Rattle.expand_forms.specs.Site.{at_depth, at_place, one_deeper, site_in, site_of};
 
+use base_data::memory::Memory;
 use base_data::span::Span;
 use expand_heads::depth::deeper;
 use expand_heads::taken::{BodyAt, Waiting};
@@ -49,6 +50,24 @@ impl<'a> Site<'a> {
             place,
             level: self.level,
             depth: self.depth,
+        }
+    }
+
+    /// Another owner of the place.
+    pub(crate) fn share_place(&self) -> Result<Span, Memory>
+        ensures { IfOk result (λ p. p ≡ self.now.place) }
+    {
+        self.place.share()
+    }
+
+    /// The site here, at another depth.
+    pub(crate) fn at_depth(&self, depth: u16) -> Site<'a>
+        ensures { result ≡ at_depth depth self.now }
+    {
+        Site {
+            place: self.place,
+            level: self.level,
+            depth,
         }
     }
 }

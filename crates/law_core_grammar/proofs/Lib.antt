@@ -1,5 +1,5 @@
 mod Plain
-mod Called
+pub mod Called
 mod Texts
 mod Spellings
 mod Codes
@@ -8,4 +8,3 @@ pub mod Whole
 pub mod Bound
 mod Examples
 mod Given
-pub mod Called

@@ -197,7 +197,7 @@ module _ (own : LibName) (K : ℕ → Mark → Type 0) (J : ℕ → FrameNo → 
     item-by-holds d t f role.Sequence s h k g = shaped t (shape f t at.place) (begin_item at d t) s (shape-holds (P s.names.number) f t at.place g) (λ x j. begin-holds d t x s h k j)
     item-by-holds d t f role.Definition s h k g =
         shaped t (shape f t at.place) (λ x. alone (define_item at depth d t x)) s (shape-holds (P s.names.number) f t at.place g)
-        (λ x j. (gave-after own K J P lives first) TakenAt BothAt s (define_item at depth d t x s) (λ e. give (e, items.Nothing)) (define-item-holds d t x s h k g j) (λ e u i y. ((state-self own K J P lives first) u ((state-then own K J P lives first) s u h i), (y, tt))))
+        (λ x j. (gave-after own K J P lives first) TakenAt BothAt s (define_item at depth d t x s) (λ e. give (e, head_items.Item items.Nothing)) (define-item-holds d t x s h k g j) (λ e u i y. ((state-self own K J P lives first) u ((state-then own K J P lives first) s u h i), (y, tt))))
     item-by-holds d t f role.Keywords s h k g = shaped t (shape f t at.place) (keywords_item at d t f) s (shape-holds (P s.names.number) f t at.place g) (λ x j. keywords-item-holds d t f x s h k j)
     item-by-holds d t f role.Record s h k g = ((state-self own K J P lives first) s h, (k, tt))
     item-by-holds d t f role.RecordValue s h k g = ((state-self own K J P lives first) s h, (k, tt))

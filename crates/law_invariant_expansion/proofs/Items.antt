@@ -180,7 +180,7 @@ module _ (I : Invariant) (kept : IsKeptByExpansion I) where
     item-by-holds d t f role.Sequence s h k g = shaped t (shape f t at.place) (begin_item at d t) s (shape-holds I kept.built.closed f t at.place g) (λ x j. begin-holds d t x s h k j)
     item-by-holds d t f role.Definition s h k g =
         shaped t (shape f t at.place) (λ x. alone (define_item at depth d t x)) s (shape-holds I kept.built.closed f t at.place g)
-        (λ x j. gave-after I kept TakenAt BothAt (define_item at depth d t x s) (λ e. give (e, items.Nothing)) (define-item-holds d t x s h k g j) (λ e u i y. (i, (y, tt))))
+        (λ x j. gave-after I kept TakenAt BothAt (define_item at depth d t x s) (λ e. give (e, head_items.Item items.Nothing)) (define-item-holds d t x s h k g j) (λ e u i y. (i, (y, tt))))
     item-by-holds d t f role.Keywords s h k g = shaped t (shape f t at.place) (keywords_item at d t f) s (shape-holds I kept.built.closed f t at.place g) (λ x j. keywords-item-holds d t f x s h k j)
     item-by-holds d t f role.Record s h k g = (h, (k, tt))
     item-by-holds d t f role.RecordValue s h k g = (h, (k, tt))

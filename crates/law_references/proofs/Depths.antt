@@ -206,8 +206,8 @@ module _ (depth : ℕ) where
 
     -- Uses.
 
-    shallow-waited : (done : Taken) (t : Tree) (s : State) → shallow_with (after (wait at depth done t s) (expand_uses.item_done (head_items.Item items.Nothing))) ≡ after (wait at 0 (shallow done) t s) (expand_uses.item_done (head_items.Item items.Nothing))
-    shallow-waited done t s = ap (λ (d : Taken). Ok ((d, item_steps.Item (head_items.Item items.Nothing)), s)) (shallow-more done (waits.Expression t) true)
+    shallow-waited : (done : Taken) (t : Tree) (s : State) → shallow_with (after (wait at depth done t s) (expand_uses.item_done items.Nothing)) ≡ after (wait at 0 (shallow done) t s) (expand_uses.item_done items.Nothing)
+    shallow-waited done t s = ap (λ (d : Taken). Ok ((d, item_steps.Item items.Nothing), s)) (shallow-more done (waits.Expression t) true)
 
     shallow-asked : (done : Taken) (t : Tree) (l : Label) (b : Bool) (s : State) → shallow_with (set_item_step at depth done t l b s) ≡ set_item_step at 0 (shallow done) t l b s
     shallow-asked done t l true s = refl

@@ -94,8 +94,8 @@ module _ (place : Span) (level : ℕ) (s : State) where
 
   plan-told : (t : Tree) → Gave (Untold s) (plan_of place level t s)
   plan-told t = plan-cases (Untold s) place level s (λ d. told-self s)
-      (λ id. gave-less (Refers place level s (standing_of s id)) (Untold s) (reference place level id s) (reference-is place level s id) (λ p u k. told-same s u (ap (λ (x : State). x.keywords) k.0)))
-      (λ x id value. gave-less (AssignsBy place level s id value (standing_of s id)) (Untold s) (assign place level x id value s) (assign-is place level s x id value) (λ p u k. told-same s u (assigned id value (standing_of s id) p u k)))
+      (λ id. gave-less (Refers place level s (standing_of s id)) (Untold s) (reference place level id s) (reference-is place level s id) (λ p u k. same-told s u (ap (λ (x : State). x.keywords) k.0)))
+      (λ x id value. gave-less (AssignsBy place level s id value (standing_of s id)) (Untold s) (assign place level x id value s) (assign-is place level s x id value) (λ p u k. same-told s u (assigned id value (standing_of s id) p u k)))
       (λ x operand. then-told s (template_of place level operand s) (λ y. give (head_plans.Plan (plans.Done (instance y (place_of x place))))) (template-told place level operand s) (λ y v. told-self v))
       (λ p h. told-self s) t
 

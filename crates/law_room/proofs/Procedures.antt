@@ -60,7 +60,7 @@ unfolding inside
 item-is rs room at depth done t s = refl
 
 module _ (go : Inside) (at : BodyAt) (depth : ℕ) (t : Tree) (s : State) (done : Taken) where
-  settled : (left : ℕ) → item_plan at depth begun t s ≡ Ok ((done, head_items.Item items.Nothing), s) → expand_item_uses_to go.earlier left at depth begun t s ≡ Ok ((done, record { at = at; form = t; item = (head_items.Item items.Nothing) }), s)
+  settled : (left : ℕ) → item_plan at depth begun t s ≡ Ok ((done, head_items.Item items.Nothing), s) → expand_item_uses_to go.earlier left at depth begun t s ≡ Ok ((done, record { at = at; form = t; item = items.Nothing }), s)
   unfolding expand_item_uses_to item_step
   settled zero e = ap (λ r. after (after r (λ (p : Taken × HeadItem). item_step_of go.earlier at depth t p.0 p.1)) (item_by (λ done k. too_many t at.place) at t)) e
   settled (suc left) e =

@@ -16,7 +16,6 @@ use Rattle.eval_code.specs.Codes.{Codes}
 use Rattle.eval_pattern.specs.Compile.{PatternScope, compiled as compiled_pattern}
 use Rattle.eval_pattern.specs.declared.compile.Compiled.{Compiled}
 use Rattle.eval_template.specs.Compile.{TemplateScope, compiled as compiled_template}
-use Rattle.eval_value.specs.Cells as cells
 use Rattle.expand_forms.specs.Expanding.{ready, library_record}
 use Rattle.law_compiled.specs.Templates.{HoldsLists}
 use Rattle.law_core.specs.Follows.{all_cores}
@@ -59,6 +58,6 @@ HasLevels n (matching c cs s) = Each (λ p. pattern_levels p ≤ n) (clause_patt
 abbrev pub LevelsStayWithin : Type 0
 LevelsStayWithin = (own : LibName) (path : List ℕ) (records : List CompiledLibrary) (imports : List ImportedName)
     (version : List ℕ) (place : Span) (exports : List (List ℕ × Tree)) (forms : List Tree) (codes : Codes) (r : CompiledLibrary)
-    → cells.Each SpelledRecord records → CodesHold spelled codes → cells.Each SpelledTree forms
+    → Each SpelledRecord records → CodesHold spelled codes → Each SpelledTree forms
     → library_record (ready own path records imports codes) records version place exports forms ≡ Ok r
     → Each (λ c. Each (HasLevels max_height) (parts c)) (all_cores r)

@@ -119,11 +119,11 @@ quasi::parts_in_order-loop-part-init g t c = rw (c.new-done.ensures.items, map-i
 pub quasi::parts_in_order-returns-in_err-core : goal.quasi::parts_in_order-returns-in_err-core
 quasi::parts_in_order-returns-in_err-core g t c =
     let p = err_from_is_err_and c.from_residual.result c.from_residual.ensures.1 in
-    rw (p.1, p.2) (each_stops (λ x. x) (part_core (inside (g.M.Transformers.records c.args.at.now.means.now) c.args.at.now.room) c.args.at.now.site.now.place c.args.at.now.site.now.level) c.loop-part.done.items c.args.parts.now c.loop-part.part-index c.part-item.result c.loop-part.state _ c.in_err-core.field-0.0 c.loop-part-test.true c.part-item.is c.in_err-core.ensures c.loop-part.invariant)
+    rw (p.1, p.2) (each_stops (λ x. x) (part_core (inside (g.M.Transformers.records c.args.at.now.means.now) c.args.at.now.room) c.args.at.now.site.now.place c.args.at.now.site.now.level) c.loop-part.done.items c.args.parts.now c.loop-part.part-index c.part-item.result c.loop-part.state _ c.in_err-core.field-0.0 c.loop-part-test.true c.part-item.is (rw c.at_depth-site.ensures at c.in_err-core.ensures) c.loop-part.invariant)
 
 pub quasi::parts_in_order-loop-part-preserved : goal.quasi::parts_in_order-loop-part-preserved
 quasi::parts_in_order-loop-part-preserved g t c =
-    rw c.in_ok-push.ensures.items (each_on (λ x. x) (part_core (inside (g.M.Transformers.records c.args.at.now.means.now) c.args.at.now.room) c.args.at.now.site.now.place c.args.at.now.site.now.level) c.loop-part.done.items c.args.parts.now c.loop-part.part-index c.part-item.result c.loop-part.state _ c.in_ok-core.core c.expression.new.state c.loop-part-test.true c.part-item.is c.in_ok-core.ensures c.loop-part.invariant)
+    rw c.in_ok-push.ensures.items (each_on (λ x. x) (part_core (inside (g.M.Transformers.records c.args.at.now.means.now) c.args.at.now.room) c.args.at.now.site.now.place c.args.at.now.site.now.level) c.loop-part.done.items c.args.parts.now c.loop-part.part-index c.part-item.result c.loop-part.state _ c.in_ok-core.core c.expression.new.state c.loop-part-test.true c.part-item.is (rw c.at_depth-site.ensures at c.in_ok-core.ensures) c.loop-part.invariant)
 
 pub quasi::parts_in_order-returns : goal.quasi::parts_in_order-returns
 quasi::parts_in_order-returns g t c = each_done (λ x. x) (part_core (inside (g.M.Transformers.records c.args.at.now.means.now) c.args.at.now.room) c.args.at.now.site.now.place c.args.at.now.site.now.level) c.loop-part.done.items c.args.parts.now c.loop-part.part-index c.loop-part.state _ c.loop-part-test.false c.loop-part.invariant
