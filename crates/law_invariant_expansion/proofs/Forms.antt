@@ -49,7 +49,7 @@ use Rattle.law_invariant_expansion.proofs.Items.{WaitsAt, WaitingAt, TakenAt}
 use Rattle.law_invariant_expansion.proofs.Shapes.{FormalsHold, LambdaHolds, PatternCaseHolds}
 use Rattle.law_invariant_expansion.proofs.Standing.{F, Ts, C, Gave, gave-after, gave-if, gave-each, gave-gather, gave-within, gave-apart, counted-holds, SpecAt, BoundHolds, bind-formals-holds, bind-specs-holds, bind-keywords-holds, finish-keyword-holds, PatternAt, pattern-holds, literals-hold, bind-pattern-holds}
 use Rattle.law_invariants.specs.Invariant.{Invariant}
-use Rattle.law_invariant_expansion.specs.Kept.{IsPattern, IsKeptByExpansion}
+use Rattle.law_invariant_expansion.specs.Kept.{PatternIsKept, IsKeptByExpansion}
 
 module _ (I : Invariant) (kept : IsKeptByExpansion I) where
   abbrev pub CaseAt : Lambda → Type 0
@@ -91,7 +91,7 @@ module _ (I : Invariant) (kept : IsKeptByExpansion I) where
   inits-hold (i ∷ is) h = (h.0, inits-hold is h.1)
 
   abbrev ClauseAt : Clause → Type 0
-  ClauseAt c = IsPattern I c.pattern × (OptionHolds (C I kept) c.fender × C I kept c.output)
+  ClauseAt c = PatternIsKept I c.pattern × (OptionHolds (C I kept) c.fender × C I kept c.output)
 
   clauses-hold : (cs : List Clause) → Each ClauseAt cs → ClausesHold I (clauses cs)
   clauses-hold [] h = tt

@@ -56,7 +56,7 @@ use Rattle.law_invariants.proofs.Steady.{GaveStage, begin-holds, finish-holds, a
 use Rattle.law_invariant_expansion.proofs.Shapes.{FormalsHold, SpecHolds}
 use Rattle.law_invariant_expansion.proofs.Templates as of_templates
 use Rattle.law_invariants.specs.Invariant.{Invariant}
-use Rattle.law_invariant_expansion.specs.Kept.{IsPattern, IsKeptByExpansion}
+use Rattle.law_invariant_expansion.specs.Kept.{PatternIsKept, IsKeptByExpansion}
 use Rattle.stx_tree.specs.Tree.{Tree, atom, leaf, pair, vector, span_of}
 use Rattle.stx_scope.specs.Stands.{symbol_of, row_for}
 
@@ -316,7 +316,7 @@ module _ (I : Invariant) (kept : IsKeptByExpansion I) where
 
   -- the pattern of a form, behind which names were taken
   abbrev pub PatternAt : Compiled → Type 0
-  PatternAt m = IsPattern I m.pattern
+  PatternAt m = PatternIsKept I m.pattern
 
   pattern-named-holds : (c : patterns.PatternScope) (t : Tree) (names : Named) (s : State) → F s → I.trees t → Gave PatternAt (staged s (stage_patterns.named (stage_of s) (patterns.compiled c t names)))
   pattern-named-holds c t names s h k = by (patterns.compiled c t names) refl

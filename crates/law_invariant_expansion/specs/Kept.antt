@@ -33,7 +33,7 @@ pub record IsBuilt (I : Invariant) : Type 0 where
   pub symbols : (s : Option Span) (x : List ℕ) (c : LeafContext) → I.trees (leaf s x c) → I.symbols x
 
 -- a pattern that such a form stands for
-pub record IsPattern (I : Invariant) (p : PlainPattern) : Type 0 where
+pub record PatternIsKept (I : Invariant) (p : PlainPattern) : Type 0 where
   pub scope : PatternScope
   pub form : Tree
   pub names : Named
@@ -52,6 +52,6 @@ pub record IsKeptByExpansion (I : Invariant) : Type 1 where
   pub ellipsis : I.trees dots
   pub records : (fs : Scope) (t : Tree) (f : CoreForm) (place : Span) (own : LibName) (count : ℕ) → I.trees t
       → OkHolds I.trees (record_forms fs t f place (record_uid own t count))
-  pub clauses : (p : PlainPattern) (A : Type 0) → IsPattern I p → A → I.clauses p A
+  pub clauses : (p : PlainPattern) (A : Type 0) → PatternIsKept I p → A → I.clauses p A
   pub inserts : (vs : List PatternVariable) (A : Type 0) → Each (λ (v : PatternVariable). v.depth ≤ 1) vs → A → I.clauses (inserts_pattern vs) A
   pub templates : (c : TemplateScope) (t : Tree) (x : PlainTemplate) (A : Type 0) → I.trees t → compiled_template c t ≡ Ok x → A → I.templates x A

@@ -28,7 +28,7 @@ use Rattle.law_expand.proofs.Shallow.{records-shallow}
 use Rattle.law_invariants.specs.Holds.{LineHolds, LinesHold}
 use Rattle.law_invariant_expansion.specs.States.{BindingHolds, BindingsHold}
 use Rattle.law_spellings.specs.Numbers.{Has, IsShort, LineFits, BindingFits, NumbersFit}
-use Rattle.law_spellings.specs.Rising.{Rises}
+use Rattle.law_spellings.specs.Rising.{RecordRises}
 use Rattle.law_spellings.specs.Spelled.{SpelledRecord, spelled}
 use Rattle.law_spellings.specs.Spellings.{RecordsHaveSpellings}
 use Rattle.law_spellings.proofs.Rising.{rise}
@@ -83,7 +83,7 @@ bindings-fit (x ∷ bs) h i m k =
     both-true (One x) (list_all One bs) (binding-fits x h.0 i.0 (before IsMade (keyword_of x) (flat_map keyword_of bs) m) k.0)
     (bindings-fit bs h.1 i.1 (behind IsMade (keyword_of x) (flat_map keyword_of bs) m) k.1)
 
-record-fits : (r : CompiledLibrary) → SpelledRecord r → Rises r → Each IsRecorded r.bindings → Each IsMade (line_cores r) → Each IsMade (keywords r) → NumbersFit r → has_spelling r ≡ true
+record-fits : (r : CompiledLibrary) → SpelledRecord r → RecordRises r → Each IsRecorded r.bindings → Each IsMade (line_cores r) → Each IsMade (keywords r) → NumbersFit r → has_spelling r ≡ true
 unfolding lib_record
 record-fits r h rises kinds lines defined n =
     let bindings = both-true ((listed (label then binding)).fits r.bindings) (bindings_rise r.bindings) (both-true (u64.fits (length r.bindings)) (list_all One r.bindings) n.bindings.0 (bindings-fit r.bindings h.bindings kinds defined n.bindings.1)) rises.bindings in

@@ -14,7 +14,7 @@ use Rattle.law_invariants.specs.Closed.{IsClosed}
 use Rattle.law_invariants.specs.Invariant.{DatumHolds}
 use Rattle.law_invariants.specs.Steady.{IsSteady}
 use Rattle.base_data.proofs.ElementLemmas.{each-implied}
-use Rattle.law_invariant_expansion.specs.Kept.{IsBuilt, IsPattern, IsKeptByExpansion}
+use Rattle.law_invariant_expansion.specs.Kept.{IsBuilt, PatternIsKept, IsKeptByExpansion}
 use Rattle.law_invariant_expansion.proofs.RecordForms.{Introduces, record-holds}
 use Rattle.law_limits.proofs.Limits.{fits-lawful}
 use Rattle.law_readable.specs.Readable.{ReadableTree, readable}
@@ -137,7 +137,7 @@ spelled-introduces = record {
 
 -- Patterns.
 
-pattern-spelled : (p : PlainPattern) → IsPattern spelled p → (pattern_levels p ≤ max_height) × SpelledPattern p
+pattern-spelled : (p : PlainPattern) → PatternIsKept spelled p → (pattern_levels p ≤ max_height) × SpelledPattern p
 pattern-spelled p m =
     let levels = through (pattern_levels m.compiled.0.pattern) (height m.form) max_height (patterns.compiled-levels m.scope m.form m.names m.compiled m.made) m.holds.0.0 in
     let is = patterns.compiled-spelled first-spelled rest-spelled elements-spelled m.scope m.form m.names m.compiled m.made m.holds in

@@ -36,7 +36,7 @@ use Rattle.stx_frames.specs.Listed.{rows_in, AreOrdered}
 use Rattle.stx_frames.proofs.ListedLaws.{ordered_rows_in}
 use Rattle.stx_tree.specs.Tree.{Tree}
 use Rattle.stx_tree.specs.declared.frame_row.FrameRow.{FrameRow}
-use Rattle.law_spellings.specs.Rising.{Rises, RecordsRise}
+use Rattle.law_spellings.specs.Rising.{RecordRises, RecordsRise}
 
 -- What holds of every record that the definition builds.
 
@@ -148,6 +148,6 @@ ordered-rise l (r ∷ rs) h = rows-on l r.frame rs h.0 h.2
 
 pub rise : RecordsRise
 rise own path records imports version place es forms codes r e =
-    of-record Rises r (top (inside records full_room) (body_of (ready own path records imports codes) version place) es forms (started own records imports codes))
-    (of-top Rises (λ at ls lines s. record { bindings = own-rise s; rows = ordered-rise s.library (rows_in s.library s.frames) (ordered_rows_in s.library s.frames) })
+    of-record RecordRises r (top (inside records full_room) (body_of (ready own path records imports codes) version place) es forms (started own records imports codes))
+    (of-top RecordRises (λ at ls lines s. record { bindings = own-rise s; rows = ordered-rise s.library (rows_in s.library s.frames) (ordered_rows_in s.library s.frames) })
     (inside records full_room) (body_of (ready own path records imports codes) version place) es forms (started own records imports codes)) e

@@ -10,11 +10,11 @@ use Rattle.expand_forms.specs.Expanding.{ready, library_record}
 use Rattle.stx_tree.specs.Tree.{Tree}
 
 -- Each label that a record binds comes after the one before it, and no row's frame before that of the row before it, whatever is expanded.
-pub record Rises (r : CompiledLibrary) : Type 0 where
+pub record RecordRises (r : CompiledLibrary) : Type 0 where
   pub bindings : bindings_rise r.bindings ≡ true
   pub rows : rows_rise r.frames ≡ true
 
 abbrev pub RecordsRise : Type 0
 RecordsRise = (own : LibName) (path : List ℕ) (records : List CompiledLibrary) (imports : List ImportedName)
     (version : List ℕ) (place : Span) (exports : List (List ℕ × Tree)) (forms : List Tree) (codes : Codes) (r : CompiledLibrary)
-    → library_record (ready own path records imports codes) records version place exports forms ≡ Ok r → Rises r
+    → library_record (ready own path records imports codes) records version place exports forms ≡ Ok r → RecordRises r
