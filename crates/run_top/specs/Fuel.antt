@@ -16,7 +16,7 @@ use Rattle.run_command.specs.declared.job.Job.{Job}
 use Rattle.run_command.specs.declared.words.Words.{Words}
 use Rattle.run_command.specs.declared.words.Words.TheVariants.{Expand, Make, Usage}
 use Rattle.run_top.specs.Cached.{ComesOf, kept_of, load_job}
-use Rattle.run_top.specs.Headline.{Finishes, Storage, Sunk}
+use Rattle.run_top.specs.Headline.{Finishes, OutsideChange, Storage}
 use Rattle.run_top.specs.Whole.{RunOutcome, done, made_job}
 use Rattle.run_top.specs.Words.{words_asked}
 use Rattle.run_top.specs.declared.cached.LoadedJob.{LoadedJob}
@@ -77,12 +77,12 @@ SpendsAsked told store Usage spent = spent.fuel_after ≡ spent.fuel_before
 -- ---- what a run spends
 
 -- a text was written, and behind it a report, and this much is spent for them
-pub record Spends (told : Option Paths) (store : Storage) (words : Words) (out err : Sunk) (fuel_before fuel_after : ℕ) : Type 0 where
+pub record Spends (outside : OutsideChange) (words : Words) (fuel_before fuel_after : ℕ) : Type 0 where
   pub text : List ℕ
   pub report : List ℕ
-  pub wrote : Finishes out err text report status.Done
-  pub spends : SpendsAsked told store words (record { text = text; report = report; fuel_before = fuel_before; fuel_after = fuel_after })
+  pub wrote : Finishes outside.out outside.err text report status.Done
+  pub spends : SpendsAsked outside.files.told outside.store words (record { text = text; report = report; fuel_before = fuel_before; fuel_after = fuel_after })
 
-abbrev pub SpendsIfDone : Option Paths → Storage → List (List ℕ) → Sunk → Sunk → ℕ → ℕ → Status → Type 0
-SpendsIfDone told store words out err fuel_before fuel_after status.Done = Spends told store (words_asked words) out err fuel_before fuel_after
-SpendsIfDone told store words out err fuel_before fuel_after s = Unit {0}
+abbrev pub SpendsIfDone : OutsideChange → List (List ℕ) → ℕ → ℕ → Status → Type 0
+SpendsIfDone outside words fuel_before fuel_after status.Done = Spends outside (words_asked words) fuel_before fuel_after
+SpendsIfDone outside words fuel_before fuel_after s = Unit {0}

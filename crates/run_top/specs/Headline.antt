@@ -53,6 +53,36 @@ pub record Storage : Type 0 where
   pub faults_before : ℕ
   pub faults_after : ℕ
 
+-- the files that a run reads: what they hold, where that is told, and their count of faults before the run and after it
+pub record ReadFiles : Type 0 where
+  pub told : Option Paths
+  pub faults_before : ℕ
+  pub faults_after : ℕ
+
+-- what lies outside the program, before a run and after it
+pub record OutsideChange : Type 0 where
+  pub files : ReadFiles
+  pub store : Storage
+  pub out : Sunk
+  pub err : Sunk
+
+-- a sink, a store and files, by what they tell and count
+abbrev pub sunk_by : {O : Type 0} → (told : O → Option (List ℕ)) (faults puts : O → ℕ) (before after : O) → Sunk
+sunk_by told faults puts before after = record {
+  before = told before;
+  after = told after;
+  faults_before = faults before;
+  faults_after = faults after;
+  puts_before = puts before;
+  puts_after = puts after;
+}
+
+abbrev pub storage_by : {S : Type 0} → (told : S → Option Paths) (faults : S → ℕ) (before after : S) → Storage
+storage_by told faults before after = record { before = told before; after = told after; faults_before = faults before; faults_after = faults after }
+
+abbrev pub read_by : {F : Type 0} → (told : F → Option Paths) (faults : F → ℕ) (before after : F) → ReadFiles
+read_by told faults before after = record { told = told before; faults_before = faults before; faults_after = faults after }
+
 -- What a run with a cache comes to. Over an honest store that is what one without gives.
 pub record SaysCached (files : Paths) (job : Job) (dir : List ℕ) (change : StoreChange) (outcome : RunOutcome) : Type 0 where
   pub comes : Comes files job dir change outcome
@@ -93,15 +123,15 @@ pub data Complains (out err : Sunk) (line : List ℕ) (s : Status) : Status → 
   no_line : Untouched out → Broke err line → Complains out err line s status.WriteFault
 
 -- What a run wrote, and why it ended as it did. With `--make` the text is the summary line, and the definition always gives it.
-pub data Headline (told : Option Paths) (store : Storage) (words : List (List ℕ)) (faults_before faults_after : ℕ) (out err : Sunk) (s : Status) : Type 0 where
-  wrote_text : (text report : List ℕ) → Says told store words (done text report) → Finishes out err text report s
-      → Headline told store words faults_before faults_after out err s
-  wrote_fault : (line : List ℕ) → Says told store words (fault line) → Complains out err line status.Fault s
-      → Headline told store words faults_before faults_after out err s
-  wrong_words : words_asked words ≡ Usage → Complains out err usage_line status.Usage s → Headline told store words faults_before faults_after out err s
-  read_fault : s ≡ status.ReadFault → Rose faults_before faults_after → Untouched out → Untouched err
-      → Headline told store words faults_before faults_after out err s
-  no_memory : s ≡ status.Memory → Untouched out → Untouched err → Headline told store words faults_before faults_after out err s
+pub data Headline (outside : OutsideChange) (words : List (List ℕ)) (s : Status) : Type 0 where
+  wrote_text : (text report : List ℕ) → Says outside.files.told outside.store words (done text report) → Finishes outside.out outside.err text report s
+      → Headline outside words s
+  wrote_fault : (line : List ℕ) → Says outside.files.told outside.store words (fault line) → Complains outside.out outside.err line status.Fault s
+      → Headline outside words s
+  wrong_words : words_asked words ≡ Usage → Complains outside.out outside.err usage_line status.Usage s → Headline outside words s
+  read_fault : s ≡ status.ReadFault → Rose outside.files.faults_before outside.files.faults_after → Untouched outside.out → Untouched outside.err
+      → Headline outside words s
+  no_memory : s ≡ status.Memory → Untouched outside.out → Untouched outside.err → Headline outside words s
 
 abbrev pub status_of : RunOutcome → Status
 status_of usage = status.Usage

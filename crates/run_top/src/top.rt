@@ -4,7 +4,8 @@ ghost use Rattle.std.specs.Prelude.{◌≡◌, ◌⊎◌, [], Err, IfOk};
 ghost use Rattle.std.specs.String.{string_bytes};
 ghost use Rattle.base_outside.specs.Causes.{Rose};
 ghost use Rattle.run_top.specs.Words.{texts};
-ghost use Rattle.run_top.specs.Headline.{Sunk, Wrote, Reports, Finishes, Complains, Headline, Complete, LeavesFiles, IsCoreIfCached, SaysJob, KeepsJob, KeepsStore};
+ghost use Rattle.run_top.specs.Headline.{Reports, Finishes, Complains, Headline, Complete, LeavesFiles};
+ghost use Rattle.run_top.specs.Headline.{IsCoreIfCached, SaysJob, KeepsJob, KeepsStore, read_by, storage_by, sunk_by};
 ghost use Rattle.run_top.specs.Fuel.{SpendsIfDone, SpendsJob};
 ghost use Rattle.run_top.specs.Prepared.{PreparesBy, Writes};
 
@@ -39,14 +40,7 @@ pub struct Outside<F, S, O, E> {
 
 // Puts a report on `err`.
 fn tell<E: Sink>(err: &mut E, report: &[u8]) -> Status
-    ensures { Reports (record {
-      before = E.told err.old;
-      after = E.told err.new;
-      faults_before = E.faults err.old;
-      faults_after = E.faults err.new;
-      puts_before = E.puts err.old;
-      puts_after = E.puts err.new;
-    }) report.now result }
+    ensures { Reports (sunk_by E.told E.faults E.puts err.old err.new) report.now result }
 {
     match err.put(report) {
         Ok(()) => Status::Done,
@@ -56,15 +50,8 @@ fn tell<E: Sink>(err: &mut E, report: &[u8]) -> Status
 
 // Puts a text on `out`, and behind it a report on `err`.
 fn finish<O: Sink, E: Sink>(out: &mut O, err: &mut E, text: &[u8], report: &[u8]) -> Status
-    ensures { Finishes (record {
-      before = O.told out.old;
-      after = O.told out.new;
-      faults_before = O.faults out.old;
-      faults_after = O.faults out.new;
-      puts_before = O.puts out.old;
-      puts_after = O.puts out.new;
-    })
-        (record { before = E.told err.old; after = E.told err.new; faults_before = E.faults err.old; faults_after = E.faults err.new; puts_before = E.puts err.old; puts_after = E.puts err.new }) text.now report.now result }
+    ensures { Finishes (sunk_by O.told O.faults O.puts out.old out.new)
+        (sunk_by E.told E.faults E.puts err.old err.new) text.now report.now result }
 {
     match out.put(text) {
         Ok(()) => tell(err, report),
@@ -74,15 +61,8 @@ fn finish<O: Sink, E: Sink>(out: &mut O, err: &mut E, text: &[u8], report: &[u8]
 
 // Puts a line on `err`, for a status.
 fn complain<O: Sink, E: Sink>(out: &mut O, err: &mut E, line: &[u8], status: Status) -> Status
-    ensures { Complains (record {
-      before = O.told out.old;
-      after = O.told out.new;
-      faults_before = O.faults out.old;
-      faults_after = O.faults out.new;
-      puts_before = O.puts out.old;
-      puts_after = O.puts out.new;
-    })
-        (record { before = E.told err.old; after = E.told err.new; faults_before = E.faults err.old; faults_after = E.faults err.new; puts_before = E.puts err.old; puts_after = E.puts err.new }) line.now status result }
+    ensures { Complains (sunk_by O.told O.faults O.puts out.old out.new)
+        (sunk_by E.told E.faults E.puts err.old err.new) line.now status result }
 {
     match err.put(line) {
         Ok(()) => status,
@@ -96,15 +76,8 @@ fn write<O: Sink, E: Sink>(
     err: &mut E,
     prepared: &Result<Prepared, Unfinished>,
 ) -> Status
-    ensures { Writes prepared.now (record {
-      before = O.told out.old;
-      after = O.told out.new;
-      faults_before = O.faults out.old;
-      faults_after = O.faults out.new;
-      puts_before = O.puts out.old;
-      puts_after = O.puts out.new;
-    })
-        (record { before = E.told err.old; after = E.told err.new; faults_before = E.faults err.old; faults_after = E.faults err.new; puts_before = E.puts err.old; puts_after = E.puts err.new }) result }
+    ensures { Writes prepared.now (sunk_by O.told O.faults O.puts out.old out.new)
+        (sunk_by E.told E.faults E.puts err.old err.new) result }
 {
     match prepared {
         Ok(made) => finish(out, err, made.text.as_bytes(), made.report.as_bytes()),
@@ -124,14 +97,14 @@ fn prepared<F: Files, S: Store, N: Ledger, L: Ledger>(
 ) -> Result<Prepared, Unfinished>
     requires { IsCoreIfCached job.now }
     ensures gives { PreparesBy (SaysJob (F.told inputs.old.files)
-        (record { before = S.told inputs.old.store; after = S.told inputs.new.store; faults_before = S.faults inputs.old.store; faults_after = S.faults inputs.new.store })
+        (storage_by S.told S.faults inputs.old.store inputs.new.store)
         job.now job.now.cache) result }
     ensures store { KeepsJob (F.told inputs.old.files)
-        (record { before = S.told inputs.old.store; after = S.told inputs.new.store; faults_before = S.faults inputs.old.store; faults_after = S.faults inputs.new.store })
+        (storage_by S.told S.faults inputs.old.store inputs.new.store)
         job.now job.now.cache (inputs.new.store ≡ inputs.old.store) }
     ensures read { result ≡ Err Unfinished.Read → Rose (F.faults inputs.old.files) (F.faults inputs.new.files) }
     ensures fuel { IfOk result (λ made. SpendsJob (F.told inputs.old.files)
-        (record { before = S.told inputs.old.store; after = S.told inputs.new.store; faults_before = S.faults inputs.old.store; faults_after = S.faults inputs.new.store })
+        (storage_by S.told S.faults inputs.old.store inputs.new.store)
         job.now job.now.cache
         (record { text = string_bytes made.text; report = string_bytes made.report; fuel_before = tally.old.fuel; fuel_after = tally.new.fuel })) }
 {
@@ -151,21 +124,22 @@ fn run_words<F: Files, S: Store, O: Sink, E: Sink, N: Ledger, L: Ledger>(
     primitives: &PrimTable,
     tally: &mut Tally<N, L>,
 ) -> Status
-    ensures headline { Headline (F.told outside.old.inputs.files)
-        (record { before = S.told outside.old.inputs.store; after = S.told outside.new.inputs.store; faults_before = S.faults outside.old.inputs.store; faults_after = S.faults outside.new.inputs.store })
-        (texts words.now) (F.faults outside.old.inputs.files) (F.faults outside.new.inputs.files)
-        (record { before = O.told outside.old.out; after = O.told outside.new.out; faults_before = O.faults outside.old.out; faults_after = O.faults outside.new.out; puts_before = O.puts outside.old.out; puts_after = O.puts outside.new.out })
-        (record { before = E.told outside.old.err; after = E.told outside.new.err; faults_before = E.faults outside.old.err; faults_after = E.faults outside.new.err; puts_before = E.puts outside.old.err; puts_after = E.puts outside.new.err }) result }
+    ensures headline { Headline (record {
+      files = read_by F.told F.faults outside.old.inputs.files outside.new.inputs.files;
+      store = storage_by S.told S.faults outside.old.inputs.store outside.new.inputs.store;
+      out = sunk_by O.told O.faults O.puts outside.old.out outside.new.out;
+      err = sunk_by E.told E.faults E.puts outside.old.err outside.new.err;
+    }) (texts words.now) result }
     ensures files { LeavesFiles (texts words.now) outside.old.inputs.files outside.new.inputs.files }
     ensures store { KeepsStore (F.told outside.old.inputs.files)
-        (record { before = S.told outside.old.inputs.store; after = S.told outside.new.inputs.store; faults_before = S.faults outside.old.inputs.store; faults_after = S.faults outside.new.inputs.store })
+        (storage_by S.told S.faults outside.old.inputs.store outside.new.inputs.store)
         (texts words.now) (outside.new.inputs.store ≡ outside.old.inputs.store) }
-    ensures fuel { SpendsIfDone (F.told outside.old.inputs.files)
-        (record { before = S.told outside.old.inputs.store; after = S.told outside.new.inputs.store; faults_before = S.faults outside.old.inputs.store; faults_after = S.faults outside.new.inputs.store })
-        (texts words.now)
-        (record { before = O.told outside.old.out; after = O.told outside.new.out; faults_before = O.faults outside.old.out; faults_after = O.faults outside.new.out; puts_before = O.puts outside.old.out; puts_after = O.puts outside.new.out })
-        (record { before = E.told outside.old.err; after = E.told outside.new.err; faults_before = E.faults outside.old.err; faults_after = E.faults outside.new.err; puts_before = E.puts outside.old.err; puts_after = E.puts outside.new.err })
-        tally.old.fuel tally.new.fuel result }
+    ensures fuel { SpendsIfDone (record {
+      files = read_by F.told F.faults outside.old.inputs.files outside.new.inputs.files;
+      store = storage_by S.told S.faults outside.old.inputs.store outside.new.inputs.store;
+      out = sunk_by O.told O.faults O.puts outside.old.out outside.new.out;
+      err = sunk_by E.told E.faults E.puts outside.old.err outside.new.err;
+    }) (texts words.now) tally.old.fuel tally.new.fuel result }
 {
     let Outside { inputs, out, err } = outside;
     match words_asked(alloc, words) {
@@ -198,24 +172,25 @@ pub fn run<F: Files, S: Store, O: Sink, E: Sink, N: Ledger, L: Ledger>(
     primitives: &PrimTable,
     tally: &mut Tally<N, L>,
 ) -> Status
-    ensures headline { Headline (F.told outside.old.inputs.files)
-        (record { before = S.told outside.old.inputs.store; after = S.told outside.new.inputs.store; faults_before = S.faults outside.old.inputs.store; faults_after = S.faults outside.new.inputs.store })
-        (texts words.now) (F.faults outside.old.inputs.files) (F.faults outside.new.inputs.files)
-        (record { before = O.told outside.old.out; after = O.told outside.new.out; faults_before = O.faults outside.old.out; faults_after = O.faults outside.new.out; puts_before = O.puts outside.old.out; puts_after = O.puts outside.new.out })
-        (record { before = E.told outside.old.err; after = E.told outside.new.err; faults_before = E.faults outside.old.err; faults_after = E.faults outside.new.err; puts_before = E.puts outside.old.err; puts_after = E.puts outside.new.err }) result }
+    ensures headline { Headline (record {
+      files = read_by F.told F.faults outside.old.inputs.files outside.new.inputs.files;
+      store = storage_by S.told S.faults outside.old.inputs.store outside.new.inputs.store;
+      out = sunk_by O.told O.faults O.puts outside.old.out outside.new.out;
+      err = sunk_by E.told E.faults E.puts outside.old.err outside.new.err;
+    }) (texts words.now) result }
     ensures complete { Complete (F.told outside.old.inputs.files) (texts words.now)
         (Rose (F.faults outside.old.inputs.files) (F.faults outside.new.inputs.files)
         ⊎ (Rose (O.faults outside.old.out) (O.faults outside.new.out) ⊎ Rose (E.faults outside.old.err) (E.faults outside.new.err))) result }
     ensures files { LeavesFiles (texts words.now) outside.old.inputs.files outside.new.inputs.files }
     ensures store { KeepsStore (F.told outside.old.inputs.files)
-        (record { before = S.told outside.old.inputs.store; after = S.told outside.new.inputs.store; faults_before = S.faults outside.old.inputs.store; faults_after = S.faults outside.new.inputs.store })
+        (storage_by S.told S.faults outside.old.inputs.store outside.new.inputs.store)
         (texts words.now) (outside.new.inputs.store ≡ outside.old.inputs.store) }
-    ensures fuel { SpendsIfDone (F.told outside.old.inputs.files)
-        (record { before = S.told outside.old.inputs.store; after = S.told outside.new.inputs.store; faults_before = S.faults outside.old.inputs.store; faults_after = S.faults outside.new.inputs.store })
-        (texts words.now)
-        (record { before = O.told outside.old.out; after = O.told outside.new.out; faults_before = O.faults outside.old.out; faults_after = O.faults outside.new.out; puts_before = O.puts outside.old.out; puts_after = O.puts outside.new.out })
-        (record { before = E.told outside.old.err; after = E.told outside.new.err; faults_before = E.faults outside.old.err; faults_after = E.faults outside.new.err; puts_before = E.puts outside.old.err; puts_after = E.puts outside.new.err })
-        tally.old.fuel tally.new.fuel result }
+    ensures fuel { SpendsIfDone (record {
+      files = read_by F.told F.faults outside.old.inputs.files outside.new.inputs.files;
+      store = storage_by S.told S.faults outside.old.inputs.store outside.new.inputs.store;
+      out = sunk_by O.told O.faults O.puts outside.old.out outside.new.out;
+      err = sunk_by E.told E.faults E.puts outside.old.err outside.new.err;
+    }) (texts words.now) tally.old.fuel tally.new.fuel result }
 {
     run_words(alloc, words, outside, primitives, tally)
 }
