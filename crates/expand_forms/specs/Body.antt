@@ -34,25 +34,26 @@ use Rattle.expand_forms.specs.declared.expand_uses.PlannedItem.{PlannedItem}
 
 -- The first pass.
 
-abbrev pub splice : Inside → BodyAt → ℕ → Taken → List Tree → Does Taken
-splice go at depth = gather (go.item at depth)
+module _ (go : Inside) where
+  abbrev pub splice : BodyAt → ℕ → Taken → List Tree → Does Taken
+  splice at depth = gather (go.item at depth)
 
--- What is done with a form that is no use. What lies in it is one deeper; the forms of `begin`, `let-syntax` and `letrec-syntax` are
--- forms of the body.
-unfoldable pub perform_item : Inside → BodyAt → ℕ → Taken → Tree → Item → Does Taken
-perform_item go at depth done t items.Nothing s = give done s
-perform_item go at depth done t (items.Forms forms) s = splice go at (deeper depth) done forms s
-perform_item go at depth done t (items.Keyword b) s = after (define_syntax go at (deeper depth) done (definition_parts t b) s) (λ _. give done)
-perform_item go at depth done t (items.Keywords recursive bs forms) s =
-    after (with_keywords go (one_deeper (site_in at depth)) (let_syntax_parts recursive bs forms) s) (splice go at (deeper depth) done)
+  -- What is done with a form that is no use. What lies in it is one deeper; the forms of `begin`, `let-syntax` and `letrec-syntax` are
+  -- forms of the body.
+  unfoldable pub perform_item : BodyAt → ℕ → Taken → Tree → Item → Does Taken
+  perform_item at depth done t items.Nothing s = give done s
+  perform_item at depth done t (items.Forms forms) s = splice at (deeper depth) done forms s
+  perform_item at depth done t (items.Keyword b) s = after (define_syntax go at (deeper depth) done (definition_parts t b) s) (λ _. give done)
+  perform_item at depth done t (items.Keywords recursive bs forms) s =
+      after (with_keywords go (one_deeper (site_in at depth)) (let_syntax_parts recursive bs forms) s) (splice at (deeper depth) done)
 
-abbrev pub perform_settled : Inside → ℕ → Taken × PlannedItem → Does Taken
-perform_settled go depth p = perform_item go p.1.at depth p.0 p.1.form p.1.item
+  abbrev pub perform_settled : ℕ → Taken × PlannedItem → Does Taken
+  perform_settled depth p = perform_item p.1.at depth p.0 p.1.form p.1.item
 
--- takes a form of a body
-unfoldable pub item : Inside → BodyAt → ℕ → Taken → Tree → Does Taken
-item go at depth done t s = if nat_lt most_round depth then fault_form kind.TooDeep t at.place s else after
-    (expand_item_uses go.earlier at depth done t s) (perform_settled go depth)
+  -- takes a form of a body
+  unfoldable pub item : BodyAt → ℕ → Taken → Tree → Does Taken
+  item at depth done t s = if nat_lt most_round depth then fault_form kind.TooDeep t at.place s else after
+      (expand_item_uses go.earlier at depth done t s) (perform_settled depth)
 
 -- The second pass.
 

@@ -39,15 +39,6 @@ use Rattle.expand_forms.specs.declared.expand_uses.ItemOrUse.{ItemOrUse}
 use Rattle.expand_forms.specs.declared.expand_uses.ItemOrUse.TheVariants as item_steps
 use Rattle.expand_forms.specs.declared.expand_uses.PlannedItem.{PlannedItem}
 
--- the form that a use gives, of a keyword with a transformer or of a record form
-abbrev pub used_form : List CompiledLibrary → Span → Tree → KeywordUse → Option FrameNo → Does Tree
-used_form rs place t (keyword_use.Macro l) frame = use_keyword rs place t l frame
-used_form rs place t (keyword_use.Record f) frame = use_record place t f frame
-
--- the form that a use gives, after which so many uses are left; what comes of it has the place of the use
-unfoldable pub next_form : List CompiledLibrary → ℕ → Span → Tree → KeywordUse → Option FrameNo → Does Tree
-next_form rs left place t k frame s = used_form rs (place_of t place) t k frame (record s { uses_left = left })
-
 abbrev pub too_many : {A : Type 0} → Tree → Span → Does A
 too_many t place = fault_form kind.TooManyExpansions t place
 
@@ -57,14 +48,6 @@ too_many t place = fault_form kind.TooManyExpansions t place
 abbrev pub set_step : Span → Tree → Label → Tree → Bool → Does PlanOrUse
 set_step place t l id true = give (steps.Use (keyword_use.Macro l))
 set_step place t l id false = fault_word kind.KeywordMisuse id t place
-
-abbrev pub step_of : List CompiledLibrary → Span → Tree → HeadPlan → Does PlanOrUse
-step_of rs place t (head_plans.Plan p) s = give (steps.Plan p) s
-step_of rs place t (head_plans.Use k) s = give (steps.Use k) s
-step_of rs place t (head_plans.SetUse l id) s = after (asks_variable rs (place_of t place) l s) (set_step place t l id)
-
-unfoldable pub step : List CompiledLibrary → Span → ℕ → Tree → Does PlanOrUse
-step rs place level t s = after (plan_of place level t s) (step_of rs place t)
 
 abbrev pub first_span : Tree → Option Span
 first_span (tree.pair p id rest) = span_of id
@@ -94,15 +77,6 @@ abbrev pub planned_by : (KeywordUse → Does PlannedForm) → Span → Tree → 
 planned_by onward place t (steps.Plan p) s = Ok (record { place = place; form = t; plan = p }, linked t p s)
 planned_by onward place t (steps.Use k) s = onward k s
 
--- what is to be done with the form that comes of uses, where so many are left
-unfoldable pub expand_uses_to : List CompiledLibrary → ℕ → Span → ℕ → Tree → Does PlannedForm
-expand_uses_to rs zero place level t s = after (step rs place level t s) (planned_by (λ k. too_many t place) place t)
-expand_uses_to rs (suc left) place level t s =
-    after (step rs place level t s) (planned_by (λ k s'. after (next_form rs left place t k None s') (expand_uses_to rs left (place_of t place) level)) place t)
-
-abbrev pub expand_uses : List CompiledLibrary → Span → ℕ → Tree → Does PlannedForm
-expand_uses rs place level t s = expand_uses_to rs s.uses_left place level t s
-
 -- Forms of a body. A use in a body has the frame of the body.
 
 abbrev pub at_use : BodyAt → Tree → BodyAt
@@ -111,28 +85,57 @@ at_use at t = record at { place = place_of t at.place }
 abbrev pub item_done : Item → Taken → Does (Taken × ItemOrUse)
 item_done i done = give (done, item_steps.Item i)
 
-abbrev pub set_item_step : BodyAt → ℕ → Taken → Tree → Label → Bool → Does (Taken × ItemOrUse)
-set_item_step at depth done t l true s = Ok ((done, item_steps.Use (keyword_use.Macro l)), s)
-set_item_step at depth done t l false s = after (wait at depth done t s) (item_done items.Nothing)
-
-abbrev pub item_step_of : List CompiledLibrary → BodyAt → ℕ → Tree → Taken → HeadItem → Does (Taken × ItemOrUse)
-item_step_of rs at depth t done (head_items.Item i) s = item_done i done s
-item_step_of rs at depth t done (head_items.Use k) s = give (done, item_steps.Use k) s
-item_step_of rs at depth t done (head_items.SetUse l) s = after (asks_variable rs (place_of t at.place) l s) (set_item_step at depth done t l)
-
-unfoldable pub item_step : List CompiledLibrary → BodyAt → ℕ → Taken → Tree → Does (Taken × ItemOrUse)
-item_step rs at depth done t s = after (item_plan at depth done t s) (λ p. item_step_of rs at depth t p.0 p.1)
+module _ (at : BodyAt) (depth : ℕ) where
+  abbrev pub set_item_step : Taken → Tree → Label → Bool → Does (Taken × ItemOrUse)
+  set_item_step done t l true s = Ok ((done, item_steps.Use (keyword_use.Macro l)), s)
+  set_item_step done t l false s = after (wait at depth done t s) (item_done items.Nothing)
 
 abbrev pub item_by : (Taken → KeywordUse → Does (Taken × PlannedItem)) → BodyAt → Tree → Taken × ItemOrUse → Does (Taken × PlannedItem)
 item_by onward at t (done, item_steps.Item i) = give (done, record { at = at; form = t; item = i })
 item_by onward at t (done, item_steps.Use k) = onward done k
 
--- what is to be done with the form of a body that comes of uses, where so many are left
-unfoldable pub expand_item_uses_to : List CompiledLibrary → ℕ → BodyAt → ℕ → Taken → Tree → Does (Taken × PlannedItem)
-expand_item_uses_to rs zero at depth done t s = after (item_step rs at depth done t s) (item_by (λ done k. too_many t at.place) at t)
-expand_item_uses_to rs (suc left) at depth done t s =
-    after (item_step rs at depth done t s)
-    (item_by (λ taken k s'. after (next_form rs left at.place t k (Some at.frame) s') (expand_item_uses_to rs left (at_use at t) depth taken)) at t)
+-- Behind these records. First expressions, and then forms of a body.
+module _ (rs : List CompiledLibrary) where
+  -- the form that a use gives, of a keyword with a transformer or of a record form
+  abbrev pub used_form : Span → Tree → KeywordUse → Option FrameNo → Does Tree
+  used_form place t (keyword_use.Macro l) frame = use_keyword rs place t l frame
+  used_form place t (keyword_use.Record f) frame = use_record place t f frame
 
-abbrev pub expand_item_uses : List CompiledLibrary → BodyAt → ℕ → Taken → Tree → Does (Taken × PlannedItem)
-expand_item_uses rs at depth done t s = expand_item_uses_to rs s.uses_left at depth done t s
+  -- the form that a use gives, after which so many uses are left; what comes of it has the place of the use
+  unfoldable pub next_form : ℕ → Span → Tree → KeywordUse → Option FrameNo → Does Tree
+  next_form left place t k frame s = used_form (place_of t place) t k frame (record s { uses_left = left })
+
+  abbrev pub step_of : Span → Tree → HeadPlan → Does PlanOrUse
+  step_of place t (head_plans.Plan p) s = give (steps.Plan p) s
+  step_of place t (head_plans.Use k) s = give (steps.Use k) s
+  step_of place t (head_plans.SetUse l id) s = after (asks_variable rs (place_of t place) l s) (set_step place t l id)
+
+  unfoldable pub step : Span → ℕ → Tree → Does PlanOrUse
+  step place level t s = after (plan_of place level t s) (step_of place t)
+
+  -- what is to be done with the form that comes of uses, where so many are left
+  unfoldable pub expand_uses_to : ℕ → Span → ℕ → Tree → Does PlannedForm
+  expand_uses_to zero place level t s = after (step place level t s) (planned_by (λ k. too_many t place) place t)
+  expand_uses_to (suc left) place level t s =
+      after (step place level t s) (planned_by (λ k s'. after (next_form left place t k None s') (expand_uses_to left (place_of t place) level)) place t)
+
+  abbrev pub expand_uses : Span → ℕ → Tree → Does PlannedForm
+  expand_uses place level t s = expand_uses_to s.uses_left place level t s
+
+  abbrev pub item_step_of : BodyAt → ℕ → Tree → Taken → HeadItem → Does (Taken × ItemOrUse)
+  item_step_of at depth t done (head_items.Item i) s = item_done i done s
+  item_step_of at depth t done (head_items.Use k) s = give (done, item_steps.Use k) s
+  item_step_of at depth t done (head_items.SetUse l) s = after (asks_variable rs (place_of t at.place) l s) (set_item_step at depth done t l)
+
+  unfoldable pub item_step : BodyAt → ℕ → Taken → Tree → Does (Taken × ItemOrUse)
+  item_step at depth done t s = after (item_plan at depth done t s) (λ p. item_step_of at depth t p.0 p.1)
+
+  -- what is to be done with the form of a body that comes of uses, where so many are left
+  unfoldable pub expand_item_uses_to : ℕ → BodyAt → ℕ → Taken → Tree → Does (Taken × PlannedItem)
+  expand_item_uses_to zero at depth done t s = after (item_step at depth done t s) (item_by (λ done k. too_many t at.place) at t)
+  expand_item_uses_to (suc left) at depth done t s =
+      after (item_step at depth done t s)
+      (item_by (λ taken k s'. after (next_form left at.place t k (Some at.frame) s') (expand_item_uses_to left (at_use at t) depth taken)) at t)
+
+  abbrev pub expand_item_uses : BodyAt → ℕ → Taken → Tree → Does (Taken × PlannedItem)
+  expand_item_uses at depth done t s = expand_item_uses_to s.uses_left at depth done t s

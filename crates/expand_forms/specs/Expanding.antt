@@ -51,14 +51,16 @@ lambda_body rs site forms = body (inside rs full_room) site nowhere forms
 abbrev pub body_of : Expanding → List ℕ → Span → TopAt
 body_of e version place = record { path = e.path; version = version; frame = e.frame; place = place }
 
--- the record of a library or program with these exports and forms, behind these records
-abbrev pub library_record : Expanding → List CompiledLibrary → List ℕ → Span → List (List ℕ × Tree) → List Tree → Result CompiledLibrary Fault
-library_record e rs version place exports forms = record_in (top (inside rs full_room) (body_of e version place) exports forms e.state)
+-- What an expander gives behind these records.
+module _ (e : Expanding) (rs : List CompiledLibrary) where
+  -- the record of a library or program with these exports and forms, behind these records
+  abbrev pub library_record : List ℕ → Span → List (List ℕ × Tree) → List Tree → Result CompiledLibrary Fault
+  library_record version place exports forms = record_in (top (inside rs full_room) (body_of e version place) exports forms e.state)
 
--- the same, with the links of its expansion
-abbrev pub library_linked : Expanding → List CompiledLibrary → List ℕ → Span → List (List ℕ × Tree) → List Tree → Result Linked Fault
-library_linked e rs version place exports forms = linked_in (top (inside rs full_room) (body_of e version place) exports forms e.state)
+  -- the same, with the links of its expansion
+  abbrev pub library_linked : List ℕ → Span → List (List ℕ × Tree) → List Tree → Result Linked Fault
+  library_linked version place exports forms = linked_in (top (inside rs full_room) (body_of e version place) exports forms e.state)
 
--- the fuel that its expansion spends, where it gives a record
-abbrev pub library_spent : Expanding → List CompiledLibrary → List ℕ → Span → List (List ℕ × Tree) → List Tree → ℕ
-library_spent e rs version place exports forms = spent_in (top (inside rs full_room) (body_of e version place) exports forms e.state)
+  -- the fuel that its expansion spends, where it gives a record
+  abbrev pub library_spent : List ℕ → Span → List (List ℕ × Tree) → List Tree → ℕ
+  library_spent version place exports forms = spent_in (top (inside rs full_room) (body_of e version place) exports forms e.state)

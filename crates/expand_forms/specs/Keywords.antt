@@ -17,29 +17,30 @@ use Rattle.expand_forms.specs.Forms.{KeywordDefinition, LetSyntaxForm}
 use Rattle.expand_forms.specs.Inside.{Inside}
 use Rattle.expand_forms.specs.Site.{Site, one_up, site_in}
 
--- the expression of a keyword is expanded one level up, with nothing in scope, and then evaluated
-unfoldable pub expand_transformer : Inside → Site → BoundSpec → Does (Unit {0})
-expand_transformer go site b s = after (apart (go.form (one_up site) b.init) s) (evaluate_transformer go.earlier (place_of b.init site.place) b.label)
-
 -- the expressions of `letrec-syntax` see its keywords
 abbrev pub seen_in : Bool → FrameNo → BoundSpec → BoundSpec
 seen_in recursive frame b = if recursive then record b { init = stamp frame b.init } else b
 
-abbrev pub expand_transformer_in : Inside → Site → Bool → FrameNo → Unit {0} → BoundSpec → Does (Unit {0})
-expand_transformer_in go site recursive frame done b = expand_transformer go site (seen_in recursive frame b)
+module _ (go : Inside) where
+  -- the expression of a keyword is expanded one level up, with nothing in scope, and then evaluated
+  unfoldable pub expand_transformer : Site → BoundSpec → Does (Unit {0})
+  expand_transformer site b s = after (apart (go.form (one_up site) b.init) s) (evaluate_transformer go.earlier (place_of b.init site.place) b.label)
 
-abbrev pub expand_transformers : Inside → Site → Bool → FrameNo → List BoundSpec → Does (Unit {0})
-expand_transformers go site recursive frame bs = gather (expand_transformer_in go site recursive frame) tt bs
+  abbrev pub expand_transformer_in : Site → Bool → FrameNo → Unit {0} → BoundSpec → Does (Unit {0})
+  expand_transformer_in site recursive frame done b = expand_transformer site (seen_in recursive frame b)
 
--- the keywords of `let-syntax`, or of `letrec-syntax` where it is recursive, in a frame: all are bound before the first is evaluated
-unfoldable pub keywords : Inside → Site → Bool → List BindingSpec → FrameNo → Does (Unit {0})
-keywords go site recursive bs frame s = after (bind_keywords frame site.place site.level bs s) (expand_transformers go site recursive frame)
+  abbrev pub expand_transformers : Site → Bool → FrameNo → List BoundSpec → Does (Unit {0})
+  expand_transformers site recursive frame bs = gather (expand_transformer_in site recursive frame) tt bs
 
--- such keywords, with the forms in which they stand
-abbrev pub with_keywords : Inside → Site → LetSyntaxForm → Does (List Tree)
-with_keywords go site f s =
-    after (fresh_frame s) (λ frame s'. after (keywords go site f.recursive f.specs frame s') (λ _. give (map (stamp frame) f.forms)))
+  -- the keywords of `let-syntax`, or of `letrec-syntax` where it is recursive, in a frame: all are bound before the first is evaluated
+  unfoldable pub keywords : Site → Bool → List BindingSpec → FrameNo → Does (Unit {0})
+  keywords site recursive bs frame s = after (bind_keywords frame site.place site.level bs s) (expand_transformers site recursive frame)
 
--- a keyword that a form of a body defines
-unfoldable pub define_syntax : Inside → BodyAt → ℕ → Taken → KeywordDefinition → Does (Unit {0})
-define_syntax go at depth done d s = after (define_keyword at done d.form d.spec s) (expand_transformer go (site_in at depth))
+  -- such keywords, with the forms in which they stand
+  abbrev pub with_keywords : Site → LetSyntaxForm → Does (List Tree)
+  with_keywords site f s =
+      after (fresh_frame s) (λ frame s'. after (keywords site f.recursive f.specs frame s') (λ _. give (map (stamp frame) f.forms)))
+
+  -- a keyword that a form of a body defines
+  unfoldable pub define_syntax : BodyAt → ℕ → Taken → KeywordDefinition → Does (Unit {0})
+  define_syntax at depth done d s = after (define_keyword at done d.form d.spec s) (expand_transformer (site_in at depth))
