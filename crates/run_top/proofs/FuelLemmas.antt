@@ -24,7 +24,7 @@ use Rattle.run_command.specs.declared.job.Job.{Job}
 use Rattle.run_command.specs.declared.words.Words.{Words}
 use Rattle.run_top.specs.Cached.{kept_of, PreparesText}
 use Rattle.run_top.specs.Fuel.{SpentText, job_spent, loads_spent, ComesSpending, SpendsCached, SpendsJob, SpendsAsked, SpendsIfDone}
-use Rattle.run_top.specs.Headline.{OutsideChange, Storage, Complains, said, no_line}
+use Rattle.run_top.specs.Headline.{Sunk, Storage, OutsideChange, Complains, said, no_line}
 use Rattle.run_top.specs.Prepared.{Writes}
 use Rattle.run_top.specs.Whole.{done, libraries, made_job}
 use Rattle.run_top.specs.Words.{words_asked, usage_line}
@@ -110,15 +110,18 @@ module _ (told : Option Paths) (store : Storage) (job : Job) (f0 f1 : ℕ) where
 
 -- ---- what a run spends
 
-module _ (outside : OutsideChange) (words : List (List ℕ)) (f0 f1 : ℕ) where
+module _ (told : Option Paths) (store : Storage) (words : List (List ℕ)) (fb fa : ℕ) (out err : Sunk) (f0 f1 : ℕ) where
+  abbrev Outside : OutsideChange
+  Outside = record { files = record { told = told; faults_before = fb; faults_after = fa }; store = store; out = out; err = err }
+
   abbrev Spent-on : Prepared → SpentText
   Spent-on made = record { text = string_bytes made.text; report = string_bytes made.report; fuel_before = f0; fuel_after = f1 }
 
   abbrev Spent : Status → Type 0
-  Spent s = SpendsIfDone outside words f0 f1 s
+  Spent s = SpendsIfDone Outside words f0 f1 s
 
   -- where a line is written that isn't a text, the run isn't done
-  no_text : (line : List ℕ) (want s : Status) → (want ≡ status.Done → ⊥) → Complains outside.out outside.err line want s → s ≡ status.Done → ⊥
+  no_text : (line : List ℕ) (want s : Status) → (want ≡ status.Done → ⊥) → Complains out err line want s → s ≡ status.Done → ⊥
   no_text line want s other (said a b) is = other is
   no_text line want s other (no_line a b) is = absurd (cc)
 
@@ -130,18 +133,18 @@ module _ (outside : OutsideChange) (words : List (List ℕ)) (f0 f1 : ℕ) where
   unless_done status.WriteFault other = tt
   unless_done status.Memory other = tt
 
-  line_done : (line : List ℕ) (want s : Status) → (want ≡ status.Done → ⊥) → Complains outside.out outside.err line want s → Spent s
+  line_done : (line : List ℕ) (want s : Status) → (want ≡ status.Done → ⊥) → Complains out err line want s → Spent s
   line_done line want s other h = unless_done s (no_text line want s other h)
 
-  pub usage_spends : (s : Status) → Complains outside.out outside.err usage_line status.Usage s → Spent s
+  pub usage_spends : (s : Status) → Complains out err usage_line status.Usage s → Spent s
   usage_spends s h = line_done usage_line status.Usage s (λ e. absurd (cc)) h
 
-  text_done : (asked : Words) (made : Prepared) (s : Status) → words_asked words ≡ asked → SpendsAsked outside.files.told outside.store asked (Spent-on made) → Writes (Ok made) outside.out outside.err s → Spent s
+  text_done : (asked : Words) (made : Prepared) (s : Status) → words_asked words ≡ asked → SpendsAsked told store asked (Spent-on made) → Writes (Ok made) out err s → Spent s
   text_done asked made status.Done is h w = record {
     text = string_bytes made.text;
     report = string_bytes made.report;
     wrote = w;
-    spends = subst (λ (x : Words). SpendsAsked outside.files.told outside.store x (Spent-on made)) (sym is) h;
+    spends = subst (λ (x : Words). SpendsAsked told store x (Spent-on made)) (sym is) h;
   }
   text_done asked made status.Fault is h w = tt
   text_done asked made status.Usage is h w = tt
@@ -151,7 +154,7 @@ module _ (outside : OutsideChange) (words : List (List ℕ)) (f0 f1 : ℕ) where
 
   -- what was prepared for the words, and then written
   pub written_spends : (asked : Words) (prepared : Result Prepared Unfinished) (s : Status) → words_asked words ≡ asked
-      → IfOk prepared (λ (made : Prepared). SpendsAsked outside.files.told outside.store asked (Spent-on made)) → Writes prepared outside.out outside.err s → Spent s
+      → IfOk prepared (λ (made : Prepared). SpendsAsked told store asked (Spent-on made)) → Writes prepared out err s → Spent s
   written_spends asked (Ok made) s is h w = text_done asked made s is h w
   written_spends asked (Err (unfinished.Line line)) s is h w = line_done (string_bytes line) status.Fault s (λ e. absurd (cc)) w
   written_spends asked (Err unfinished.Read) s is h w = unless_done s (λ e. let no : status.ReadFault ≡ status.Done = sym w.0 ∙ e in absurd (cc))

@@ -39,21 +39,22 @@ by_made count (Err unfinished.Memory) h = tt
 pub asked_of : (told : Option Paths) (store : Storage) (words : List (List ℕ)) (asked : Words) (prepared : Result Prepared Unfinished) → words_asked words ≡ asked → PreparesBy (SaysAsked told store asked) prepared → PreparesBy (Says told store words) prepared
 asked_of told store words asked prepared is given = subst (λ (w : Words). PreparesBy (SaysAsked told store w) prepared) (sym is) given
 
--- what was prepared for the words, and then written, ends a run as the headline says
-pub ended : (outside : OutsideChange) (words : List (List ℕ)) (prepared : Result Prepared Unfinished) (s : Status)
-    → PreparesBy (Says outside.files.told outside.store words) prepared → (prepared ≡ Err unfinished.Read → Rose outside.files.faults_before outside.files.faults_after)
-    → Writes prepared outside.out outside.err s → Headline outside words s
-ended outside words (Ok made) s gives read w = wrote_text (string_bytes made.text) (string_bytes made.report) gives w
-ended outside words (Err (unfinished.Line line)) s gives read w = wrote_fault (string_bytes line) gives w
-ended outside words (Err unfinished.Read) s gives read w = read_fault w.0 (read refl) w.1.0 w.1.1
-ended outside words (Err unfinished.Memory) s gives read w = no_memory w.0 w.1.0 w.1.1
+module _ (told : Option Paths) (store : Storage) (words : List (List ℕ)) (fb fa : ℕ) (out err : Sunk) where
+  abbrev Outside : OutsideChange
+  Outside = record { files = record { told = told; faults_before = fb; faults_after = fa }; store = store; out = out; err = err }
 
--- ---- a status is excused, or it is that of what the definition gives
+  -- what was prepared for the words, and then written, ends a run as the headline says
+  pub ended : (prepared : Result Prepared Unfinished) (s : Status) → PreparesBy (Says told store words) prepared → (prepared ≡ Err unfinished.Read → Rose fb fa)
+      → Writes prepared out err s → Headline Outside words s
+  ended (Ok made) s gives read w = wrote_text (string_bytes made.text) (string_bytes made.report) gives w
+  ended (Err (unfinished.Line line)) s gives read w = wrote_fault (string_bytes line) gives w
+  ended (Err unfinished.Read) s gives read w = read_fault w.0 (read refl) w.1.0 w.1.1
+  ended (Err unfinished.Memory) s gives read w = no_memory w.0 w.1.0 w.1.1
 
-module _ (outside : OutsideChange) (words : List (List ℕ)) where
+  -- ---- a status is excused, or it is that of what the definition gives
+
   abbrev A-count-rose : Type 0
-  A-count-rose = Rose outside.files.faults_before outside.files.faults_after
-      ⊎ (Rose outside.out.faults_before outside.out.faults_after ⊎ Rose outside.err.faults_before outside.err.faults_after)
+  A-count-rose = Rose fb fa ⊎ (Rose out.faults_before out.faults_after ⊎ Rose err.faults_before err.faults_after)
 
   abbrev Unexcused : Status → Type 0
   Unexcused s = ¬ A-count-rose → ¬ (s ≡ status.Memory) → ⊥
@@ -67,29 +68,29 @@ module _ (outside : OutsideChange) (words : List (List ℕ)) where
   -- the outcome, and its status
   record Given (s : Status) : Type 0 where
     pub outcome : RunOutcome
-    pub says : Says outside.files.told outside.store words outcome
+    pub says : Says told store words outcome
     pub of : IsOf outcome
     pub is : s ≡ status_of outcome
 
   abbrev Judged : Status → Type 0
   Judged s = Unexcused s ⊎ Given s
 
-  by_report : (s : Status) (text report : List ℕ) → Says outside.files.told outside.store words (done text report) → Reports outside.err report s → Judged s
+  by_report : (s : Status) (text report : List ℕ) → Says told store words (done text report) → Reports err report s → Judged s
   by_report s text report given (reported b) = inr (record { outcome = done text report; says = given; of = tt; is = refl })
   by_report s text report given (unreported b) = inl (λ p m. p (inr (inr b.rose)))
 
-  by_text : (s : Status) (text report : List ℕ) → Says outside.files.told outside.store words (done text report) → Finishes outside.out outside.err text report s → Judged s
+  by_text : (s : Status) (text report : List ℕ) → Says told store words (done text report) → Finishes out err text report s → Judged s
   by_text s text report given (written a b) = by_report s text report given b
   by_text s text report given (broken a b) = inl (λ p m. p (inr (inl a.rose)))
 
-  by_line : (s want : Status) (line : List ℕ) (o : RunOutcome) → Says outside.files.told outside.store words o → IsOf o → want ≡ status_of o → Complains outside.out outside.err line want s → Judged s
+  by_line : (s want : Status) (line : List ℕ) (o : RunOutcome) → Says told store words o → IsOf o → want ≡ status_of o → Complains out err line want s → Judged s
   by_line s want line o given of e (said a b) = inr (record { outcome = o; says = given; of = of; is = e })
   by_line s want line o given of e (no_line a b) = inl (λ p m. p (inr (inr b.rose)))
 
-  judged : (s : Status) → Headline outside words s → Judged s
+  judged : (s : Status) → Headline Outside words s → Judged s
   judged s (wrote_text text report given h) = by_text s text report given h
   judged s (wrote_fault line given h) = by_line s status.Fault line (fault line) given tt refl h
-  judged s (wrong_words none h) = by_line s status.Usage usage_line usage (subst (λ (w : Words). SaysAsked outside.files.told outside.store w usage) (sym none) refl) none refl h
+  judged s (wrong_words none h) = by_line s status.Usage usage_line usage (subst (λ (w : Words). SaysAsked told store w usage) (sym none) refl) none refl h
   judged s (read_fault e rose a b) = inl (λ p m. p (inl rose))
   judged s (no_memory e a b) = inl (λ p m. m e)
 
@@ -115,26 +116,26 @@ module _ (outside : OutsideChange) (words : List (List ℕ)) where
   done_or_fault job s usage is of e = let no = sym is ∙ of in absurd (cc)
 
   abbrev CompleteFor : Words → Status → Type 0
-  CompleteFor asked s = CompleteAsked outside.files.told asked A-count-rose s
+  CompleteFor asked s = CompleteAsked told asked A-count-rose s
 
   abbrev CompleteFrom : Job → Option (List ℕ) → Status → Type 0
-  CompleteFrom job cache s = CompleteJob outside.files.told job cache A-count-rose s
+  CompleteFrom job cache s = CompleteJob told job cache A-count-rose s
 
   job_excused : (job : Job) (cache : Option (List ℕ)) (s : Status) → Unexcused s → CompleteFrom job cache s
-  job_excused job None s never = all_files s job outside.files.told never
+  job_excused job None s never = all_files s job told never
   job_excused job (Some dir) s never = unless s ((s ≡ status.Done) ⊎ (s ≡ status.Fault)) never
 
-  job_given : (job : Job) (cache : Option (List ℕ)) (s : Status) (o : RunOutcome) → words_asked words ≡ Expand job → SaysJob outside.files.told outside.store job cache o → IsOf o → s ≡ status_of o → CompleteFrom job cache s
-  job_given job None s o is says of e = in_files s o job outside.files.told says e
+  job_given : (job : Job) (cache : Option (List ℕ)) (s : Status) (o : RunOutcome) → words_asked words ≡ Expand job → SaysJob told store job cache o → IsOf o → s ≡ status_of o → CompleteFrom job cache s
+  job_given job None s o is says of e = in_files s o job told says e
   job_given job (Some dir) s o is says of e = λ p m. done_or_fault job s o is of e
 
   complete_asked : (asked : Words) (s : Status) → words_asked words ≡ asked → Judged s → CompleteFor asked s
   complete_asked (Expand job) s is (inl never) = job_excused job job.cache s never
-  complete_asked (Expand job) s is (inr g) = job_given job job.cache s g.outcome is (subst (λ (w : Words). SaysAsked outside.files.told outside.store w g.outcome) is g.says) g.of g.is
+  complete_asked (Expand job) s is (inr g) = job_given job job.cache s g.outcome is (subst (λ (w : Words). SaysAsked told store w g.outcome) is g.says) g.of g.is
   complete_asked (Make count) s is (inl never) = unless s (s ≡ status_of (of_made count)) never
-  complete_asked (Make count) s is (inr g) = λ p m. g.is ∙ ap status_of (sym (subst (λ (w : Words). SaysAsked outside.files.told outside.store w g.outcome) is g.says))
+  complete_asked (Make count) s is (inr g) = λ p m. g.is ∙ ap status_of (sym (subst (λ (w : Words). SaysAsked told store w g.outcome) is g.says))
   complete_asked Usage s is (inl never) = unless s (s ≡ status.Usage) never
-  complete_asked Usage s is (inr g) = λ p m. g.is ∙ ap status_of (sym (subst (λ (w : Words). SaysAsked outside.files.told outside.store w g.outcome) is g.says))
+  complete_asked Usage s is (inr g) = λ p m. g.is ∙ ap status_of (sym (subst (λ (w : Words). SaysAsked told store w g.outcome) is g.says))
 
-  pub complete : (s : Status) → Headline outside words s → Complete outside.files.told words A-count-rose s
+  pub complete : (s : Status) → Headline Outside words s → Complete told words A-count-rose s
   complete s h = complete_asked (words_asked words) s refl (judged s h)

@@ -9,14 +9,14 @@ use Rattle.run_command.specs.declared.words.Words.TheVariants.{Expand, Make}
 
 pub returns-in-Ok-Expand-clause-headline : goal.returns-in-Ok-Expand-clause-headline
 returns-in-Ok-Expand-clause-headline g c =
-    ended _ (texts c.args.words.now) c.prepared-prepared.result c.write.result
+    ended _ _ (texts c.args.words.now) _ _ _ _ c.prepared-prepared.result c.write.result
     (asked_of _ _ (texts c.args.words.now) (Expand c.in-Ok-Expand.job) c.prepared-prepared.result (sym c.in-Ok-Expand.ensures ∙ c.in-Ok-Expand.field-0-is) c.prepared-prepared.ensures.gives)
     c.prepared-prepared.ensures.read
     c.write.ensures
 
 pub returns-in-Ok-Make-clause-headline : goal.returns-in-Ok-Make-clause-headline
 returns-in-Ok-Make-clause-headline g c =
-    ended _ (texts c.args.words.now) c.prepare_made-prepared.result c.write-in-Ok-Make.result
+    ended _ _ (texts c.args.words.now) _ _ _ _ c.prepare_made-prepared.result c.write-in-Ok-Make.result
     (asked_of _ _ (texts c.args.words.now) (Make c.in-Ok-Make.count) c.prepare_made-prepared.result (sym c.in-Ok-Make.ensures ∙ c.in-Ok-Make.field-0-is) (by_made c.in-Ok-Make.count c.prepare_made-prepared.result c.prepare_made-prepared.ensures.gives))
     (λ is. absurd (c.prepare_made-prepared.ensures.unread is))
     c.write-in-Ok-Make.ensures
@@ -38,12 +38,12 @@ returns-in-Err-clause-store g c =
 
 pub returns-in-Ok-Expand-clause-fuel : goal.returns-in-Ok-Expand-clause-fuel
 returns-in-Ok-Expand-clause-fuel g c =
-    written_spends _ (texts c.args.words.now) _ _ (Expand c.in-Ok-Expand.job) c.prepared-prepared.result c.write.result (sym c.in-Ok-Expand.ensures ∙ c.in-Ok-Expand.field-0-is) c.prepared-prepared.ensures.fuel c.write.ensures
+    written_spends _ _ (texts c.args.words.now) _ _ _ _ _ _ (Expand c.in-Ok-Expand.job) c.prepared-prepared.result c.write.result (sym c.in-Ok-Expand.ensures ∙ c.in-Ok-Expand.field-0-is) c.prepared-prepared.ensures.fuel c.write.ensures
 
 pub returns-in-Ok-Make-clause-fuel : goal.returns-in-Ok-Make-clause-fuel
 returns-in-Ok-Make-clause-fuel g c =
-    written_spends _ (texts c.args.words.now) _ _ (Make c.in-Ok-Make.count) c.prepare_made-prepared.result c.write-in-Ok-Make.result (sym c.in-Ok-Make.ensures ∙ c.in-Ok-Make.field-0-is)
+    written_spends _ _ (texts c.args.words.now) _ _ _ _ _ _ (Make c.in-Ok-Make.count) c.prepare_made-prepared.result c.write-in-Ok-Make.result (sym c.in-Ok-Make.ensures ∙ c.in-Ok-Make.field-0-is)
     (made_spends c.in-Ok-Make.count _ _ c.prepare_made-prepared.result c.prepare_made-prepared.ensures.fuel) c.write-in-Ok-Make.ensures
 
 pub returns-in-Ok-Usage-clause-fuel : goal.returns-in-Ok-Usage-clause-fuel
-returns-in-Ok-Usage-clause-fuel g c = usage_spends _ (texts c.args.words.now) _ _ c.complain.result c.complain.ensures
+returns-in-Ok-Usage-clause-fuel g c = usage_spends _ _ (texts c.args.words.now) _ _ _ _ _ _ c.complain.result c.complain.ensures
