@@ -10,7 +10,7 @@ use Rattle.eval_code.specs.Spread.{Call, apply_args, parted, with_elements, with
 use Rattle.eval_code.specs.State.{WorldState}
 use Rattle.eval_code.proofs.Paid.{within_or_past, charged_paid, charged_short}
 use Rattle.eval_code.proofs.Spreading.{parted_last, args_shorter}
-use Rattle.law_given.specs.Calls.{End, ended, call_of, CallEnds, Calls}
+use Rattle.law_given.specs.Calls.{End, ended, call_to, call_of, CallEnds, Calls}
 use Rattle.law_given.proofs.Giving.{gives-same}
 use Rattle.law_eval.proofs.Carried.{front_shorter}
 
@@ -53,7 +53,7 @@ module _ (s : WorldState) where
 
 module _ (w : PlainSetting) (f : Value) (front xs : List Value) (l : Value) (s : WorldState) where
   -- with so much fuel beside the cost of the elements
-  pub applies : (n m : ℕ) → n ≡ m + length xs → list_elements s.cells l ≡ Some xs → call_of w (value.Prim (record { 0 = names.APPLY })) (f ∷ (front ++ l ∷ [])) s n ≡ call_of w f (front ++ xs) s m
+  pub applies : (n m : ℕ) → n ≡ m + length xs → list_elements s.cells l ≡ Some xs → call_of w (call_to (value.Prim (record { 0 = names.APPLY })) (f ∷ (front ++ l ∷ []))) s n ≡ call_of w (call_to f (front ++ xs)) s m
   unfolding applied spread spread_once
   applies n m e has =
       let again : Call = spread_to (n + suc (suc (length (front ++ l ∷ [])))) s (first_called w (eval_of w) s) in
@@ -63,14 +63,14 @@ module _ (w : PlainSetting) (f : Value) (front xs : List Value) (l : Value) (s :
       ∙ turns-same s (n + suc (suc (length (front ++ l ∷ [])))) (suc (m + suc (length (front ++ xs)))) (first_called w (eval_of w) s) (f ∷ (front ++ xs)) m
       (omega (arith, e, length-append front (l ∷ []), length-append front xs)) (omega arith)
 
-  pub apply-ends : (r : End) (t : WorldState) → list_elements s.cells l ≡ Some xs → CallEnds w f (front ++ xs) s r t → CallEnds w (value.Prim (record { 0 = names.APPLY })) (f ∷ (front ++ l ∷ [])) s r t
+  pub apply-ends : (r : End) (t : WorldState) → list_elements s.cells l ≡ Some xs → CallEnds w (call_to f (front ++ xs)) s r t → CallEnds w (call_to (value.Prim (record { 0 = names.APPLY })) (f ∷ (front ++ l ∷ []))) s r t
   apply-ends r t has h = (h.0 + length xs, by)
     where
-      by : (left : ℕ) → call_of w (value.Prim (record { 0 = names.APPLY })) (f ∷ (front ++ l ∷ [])) s (left + (h.0 + length xs)) ≡ ended r t left
+      by : (left : ℕ) → call_of w (call_to (value.Prim (record { 0 = names.APPLY })) (f ∷ (front ++ l ∷ []))) s (left + (h.0 + length xs)) ≡ ended r t left
       by left = applies (left + (h.0 + length xs)) (left + h.0) (omega arith) has ∙ h.1 left
 
   -- where the last argument has no elements, the call itself
-  pub apply-none : list_elements s.cells l ≡ Some xs → xs ≡ [] → (v : Value) (t : WorldState) → Calls w (value.Prim (record { 0 = names.APPLY })) (f ∷ (front ++ l ∷ [])) s v t → Calls w f (front ++ xs) s v t
+  pub apply-none : list_elements s.cells l ≡ Some xs → xs ≡ [] → (v : Value) (t : WorldState) → Calls w (call_to (value.Prim (record { 0 = names.APPLY })) (f ∷ (front ++ l ∷ []))) s v t → Calls w (call_to f (front ++ xs)) s v t
   apply-none has empty v t h =
       let none : length xs ≡ 0 = ap (λ (ys : List Value). length ys) empty in
-      gives-same (call_of w (value.Prim (record { 0 = names.APPLY })) (f ∷ (front ++ l ∷ [])) s) (call_of w f (front ++ xs) s) v t (λ n. sym (applies n n (omega (arith, none)) has)) h
+      gives-same (call_of w (call_to (value.Prim (record { 0 = names.APPLY })) (f ∷ (front ++ l ∷ []))) s) (call_of w (call_to f (front ++ xs)) s) v t (λ n. sym (applies n n (omega (arith, none)) has)) h

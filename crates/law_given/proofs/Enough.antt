@@ -6,7 +6,7 @@ use Rattle.eval_code.specs.State.{WorldState, Outcome, done, faulted, unfit}
 use Rattle.law_eval.specs.MoreFuel.{more_left, IsSpent, MoreIsLeft, LeavesAtLeast, LeftIsNotNeeded, LeavesAtMost, FuelFalls}
 use Rattle.law_eval.specs.Runs.{ByFuel}
 use Rattle.law_eval.proofs.Carried.{everywhere, more_is_left, left_is_not_needed, fuel_falls}
-use Rattle.law_given.specs.Calls.{Gives, call_of, Calls}
+use Rattle.law_given.specs.Calls.{Gives, call_to, call_of, Calls}
 use Rattle.law_given.proofs.Unique.{value_or, state_or}
 
 abbrev fuel_or : ℕ → Outcome → ℕ
@@ -60,7 +60,7 @@ module _ (run : ByFuel) (falls : FuelFalls run) (free : LeftIsNotNeeded run) (mo
   pub enough-gives : (n m : ℕ) (v : Value) (t : WorldState) → run n ≡ done v t m → Gives run v t
   enough-gives n m v t e = (n - m, enough-by n m v t e)
 
-pub some-fuel : (w : PlainSetting) (f : Value) (args : List Value) (s : WorldState) (n m : ℕ) (v : Value) (t : WorldState) → call_of w f args s n ≡ done v t m → Calls w f args s v t
+pub some-fuel : (w : PlainSetting) (f : Value) (args : List Value) (s : WorldState) (n m : ℕ) (v : Value) (t : WorldState) → call_of w (call_to f args) s n ≡ done v t m → Calls w (call_to f args) s v t
 some-fuel w f args s n m v t e =
-    enough-gives (call_of w f args s) ((everywhere FuelFalls fuel_falls).calls w (f ∷ args) s) ((everywhere LeftIsNotNeeded left_is_not_needed).calls w (f ∷ args) s)
+    enough-gives (call_of w (call_to f args) s) ((everywhere FuelFalls fuel_falls).calls w (f ∷ args) s) ((everywhere LeftIsNotNeeded left_is_not_needed).calls w (f ∷ args) s)
     ((everywhere MoreIsLeft more_is_left).calls w (f ∷ args) s) n m v t e

@@ -16,7 +16,7 @@ use Rattle.eval_code.specs.Variables.{Entries}
 use Rattle.law_eval.specs.Kept.{LaterWorld}
 use Rattle.law_eval.proofs.Keeping.{later_then, later_with}
 use Rattle.law_lists.specs.Runs.{IsList}
-use Rattle.law_given.specs.Calls.{call_of, Calls}
+use Rattle.law_given.specs.Calls.{call_to, call_of, Calls}
 use Rattle.law_given.specs.Codes.{label, code_no, var, one_case, app, car, cdr, cons, filter_some, filter_loop}
 use Rattle.law_given.specs.Given.{Filters, Filtered}
 use Rattle.law_given.specs.InTurn.{InTurn, one_call, when_true, chosen}
@@ -48,8 +48,8 @@ module _ (w : PlainSetting) (known : code_at w.codes (code_no 61) ≡ Some (proc
   abbrev Did : List Value → WorldState → Value → WorldState → Type 0
   Did xs s v t = Filtered w f chosen xs s v t
 
-  module _ (x l d : Value) (xs : List Value) (s : WorldState) (round : Home s.cells p home) (pair : pair_of s.cells l ≡ Some (x, d)) (v : Value) (t : WorldState) (called : Calls w g (f ∷ l ∷ []) s v t)
-      (again : (u : WorldState) → LaterWorld s u → (y : Value) (r : WorldState) → Calls w g (f ∷ d ∷ []) u y r → Did xs u y r) where
+  module _ (x l d : Value) (xs : List Value) (s : WorldState) (round : Home s.cells p home) (pair : pair_of s.cells l ≡ Some (x, d)) (v : Value) (t : WorldState) (called : Calls w (call_to g (f ∷ l ∷ [])) s v t)
+      (again : (u : WorldState) → LaterWorld s u → (y : Value) (r : WorldState) → Calls w (call_to g (f ∷ d ∷ [])) u y r → Did xs u y r) where
     abbrev at : WorldState
     at = loop.entered w 61 60 63 64 filter_loop known p home names f l s round
 
@@ -67,7 +67,7 @@ module _ (w : PlainSetting) (known : code_at w.codes (code_no 61) ≡ Some (proc
     parts : Parted (eval_of w (app (var 63) (car (var 64) ∷ [])) q at) (two_arms w (eval_of w) (cons (car (var 64)) (app (var 60) (var 63 ∷ cdr (var 64) ∷ []))) (app (var 60) (var 63 ∷ cdr (var 64) ∷ [])) q) v t
     parts = if-back w (app (var 63) (car (var 64) ∷ [])) (cons (car (var 64)) (app (var 60) (var 63 ∷ cdr (var 64) ∷ []))) (app (var 60) (var 63 ∷ cdr (var 64) ∷ [])) q at v t choice
 
-    first : Calls w f (x ∷ []) at parts.value parts.state
+    first : Calls w (call_to f (x ∷ [])) at parts.value parts.state
     first = first-back w 61 60 63 64 filter_loop known p home names f l s round at (later-refl at) x d pair parts.value parts.state parts.first
 
     behind : LaterWorld at parts.state
@@ -127,11 +127,11 @@ module _ (w : PlainSetting) (known : code_at w.codes (code_no 61) ≡ Some (proc
     some-did : Did (x ∷ xs) s v t
     some-did = by-truth (truth_of parts.value) (Did (x ∷ xs) s v t) taken left_out
 
-  loop-did : (xs : List Value) (l : Value) (s : WorldState) (v : Value) (t : WorldState) → Home s.cells p home → IsList s.cells xs l → Calls w g (f ∷ l ∷ []) s v t → Did xs s v t
+  loop-did : (xs : List Value) (l : Value) (s : WorldState) (v : Value) (t : WorldState) → Home s.cells p home → IsList s.cells xs l → Calls w (call_to g (f ∷ l ∷ [])) s v t → Did xs s v t
   loop-did [] l s v t round r called =
-      let m : Filters w g (f ∷ l ∷ []) f chosen [] s = filter-loop w known f p [] l s round r tt in
-      let value_is = gives-one-value (call_of w g (f ∷ l ∷ []) s) m.value v m.state t m.called called in
-      let state_is = gives-one-state (call_of w g (f ∷ l ∷ []) s) m.value v m.state t m.called called in
+      let m : Filters w (call_to g (f ∷ l ∷ [])) f chosen [] s = filter-loop w known f p [] l s round r tt in
+      let value_is = gives-one-value (call_of w (call_to g (f ∷ l ∷ [])) s) m.value v m.state t m.called called in
+      let state_is = gives-one-state (call_of w (call_to g (f ∷ l ∷ [])) s) m.value v m.state t m.called called in
       record {
         answers = m.answers;
         in_turn = subst (λ a. InTurn w f [] s m.answers a) state_is m.in_turn;
@@ -141,7 +141,7 @@ module _ (w : PlainSetting) (known : code_at w.codes (code_no 61) ≡ Some (proc
       let c = list-some r in
       some-did x l c.0 xs s round c.1 v t called (λ u k y z h. loop-did xs c.0 u y z (home-later s u k p home round) (list-later s u k xs c.0 c.2) h)
 
-pub filter-only : (w : PlainSetting) (knows : Knows w.codes) (f l : Value) (xs : List Value) (s : WorldState) (v : Value) (t : WorldState) → IsList s.cells xs l → Calls w (value.Prim (record { 0 = ops.FILTER })) (f ∷ l ∷ []) s v t
+pub filter-only : (w : PlainSetting) (knows : Knows w.codes) (f l : Value) (xs : List Value) (s : WorldState) (v : Value) (t : WorldState) → IsList s.cells xs l → Calls w (call_to (value.Prim (record { 0 = ops.FILTER })) (f ∷ l ∷ [])) s v t
     → Filtered w f chosen xs s v t
 unfolding has_text
 filter-only w knows f l xs s v t r called = record { answers = m.answers; in_turn = in-turn-from w f xs m.answers s (ready w s 60 61) t (ready-later w s 60 61) m.in_turn; list = m.list }

@@ -16,7 +16,7 @@ use Rattle.eval_code.specs.Variables.{Entries}
 use Rattle.law_eval.specs.Kept.{LaterWorld}
 use Rattle.law_eval.proofs.Keeping.{later_then}
 use Rattle.law_lists.specs.Runs.{IsList}
-use Rattle.law_given.specs.Calls.{End, CallEnds, Calls}
+use Rattle.law_given.specs.Calls.{End, call_to, CallEnds, Calls}
 use Rattle.law_given.specs.Codes.{label, code_no, var, one_case, app, car, cdr, filter_some, filter_loop}
 use Rattle.law_given.specs.Given.{Filters, Faults}
 use Rattle.law_given.specs.InTurn.{stops_here, stops_behind, AfterValue, AllEnd, chosen}
@@ -39,10 +39,10 @@ module _ (w : PlainSetting) (known : code_at w.codes (code_no 61) ≡ Some (proc
   g = value.Closure (code_no 61) p
 
   abbrev Kept : List Value → Value → WorldState → Type 0
-  Kept xs l s = Filters w g (f ∷ l ∷ []) f chosen xs s
+  Kept xs l s = Filters w (call_to g (f ∷ l ∷ [])) f chosen xs s
 
   abbrev Faulted : List Value → Value → WorldState → Type 0
-  Faulted xs l s = Faults w g (f ∷ l ∷ []) f xs s
+  Faulted xs l s = Faults w (call_to g (f ∷ l ∷ [])) f xs s
 
   abbrev names : Names 60 63 64 home g
   names = record { procedure = λ f l. refl; list = λ f l. refl; no_loop = λ f l. refl; loop = refl }
@@ -57,13 +57,13 @@ module _ (w : PlainSetting) (known : code_at w.codes (code_no 61) ≡ Some (proc
     enter : LaterWorld s at
     enter = loop.entered-later w 61 60 63 64 filter_loop known p home names f l s round
 
-    with-null : (r : End) (t : WorldState) → ExpressionEnds w filter_some q at r t → CallEnds w g (f ∷ l ∷ []) s r t
+    with-null : (r : End) (t : WorldState) → ExpressionEnds w filter_some q at r t → CallEnds w (call_to g (f ∷ l ∷ [])) s r t
     with-null r t h =
         loop.loop-ends w 61 60 63 64 filter_loop known p home names f l s round r t
         (false-ends w _ _ _ q at at t (truth false) r (loop.not-null w 61 60 63 64 filter_loop known p home names f l s round at (later-refl at) x d pair) refl h)
 
     -- the call faults
-    stopped : (e : Bare) (u : WorldState) → CallEnds w f (x ∷ []) at (Err e) u → Faulted (x ∷ xs) l s
+    stopped : (e : Bare) (u : WorldState) → CallEnds w (call_to f (x ∷ [])) at (Err e) u → Faulted (x ∷ xs) l s
     stopped e u h = record {
       fault = e;
       state = u;
@@ -72,7 +72,7 @@ module _ (w : PlainSetting) (known : code_at w.codes (code_no 61) ≡ Some (proc
     }
 
     -- a later call faults
-    stopped-behind : (y : Value) (u : WorldState) → Calls w f (x ∷ []) at y u → Faulted xs d u → Faulted (x ∷ xs) l s
+    stopped-behind : (y : Value) (u : WorldState) → Calls w (call_to f (x ∷ [])) at y u → Faulted xs d u → Faulted (x ∷ xs) l s
     stopped-behind y u called rest = record {
       fault = rest.fault;
       state = rest.state;
@@ -96,7 +96,7 @@ module _ (w : PlainSetting) (known : code_at w.codes (code_no 61) ≡ Some (proc
         by false e = false-ends w _ _ _ q at u rest.state y (Err rest.fault) test e again
 
     -- by the end of the call
-    ends-by : (r : End) (u : WorldState) → CallEnds w f (x ∷ []) at r u → AfterValue r (AllEnd w f xs u)
+    ends-by : (r : End) (u : WorldState) → CallEnds w (call_to f (x ∷ [])) at r u → AfterValue r (AllEnd w f xs u)
         → ((v : WorldState) → LaterWorld s v → AllEnd w f xs v → Kept xs d v ⊎ Faulted xs d v) → Kept (x ∷ xs) l s ⊎ Faulted (x ∷ xs) l s
     ends-by (Ok y) u h a again = elim (again u (later_then s at u enter (calls-later w f (x ∷ []) at y u h)) a) [
       | inl m ↦ inl (some w known f p x l d xs s round pair y u h m)
@@ -113,7 +113,7 @@ module _ (w : PlainSetting) (known : code_at w.codes (code_no 61) ≡ Some (proc
       (λ v k a. filter-ends xs c.0 v (home-later s v k p home round) (list-later s v k xs c.0 c.2) a)
 
 pub filter-ended : (w : PlainSetting) (knows : Knows w.codes) (f l : Value) (xs : List Value) (s : WorldState) → IsList s.cells xs l → AllEnd w f xs s
-    → Filters w (value.Prim (record { 0 = ops.FILTER })) (f ∷ l ∷ []) f chosen xs s ⊎ Faults w (value.Prim (record { 0 = ops.FILTER })) (f ∷ l ∷ []) f xs s
+    → Filters w (call_to (value.Prim (record { 0 = ops.FILTER })) (f ∷ l ∷ [])) f chosen xs s ⊎ Faults w (call_to (value.Prim (record { 0 = ops.FILTER })) (f ∷ l ∷ [])) f xs s
 unfolding has_text
 filter-ended w knows f l xs s r give =
     elim (filter-ends w knows.filter_loop f (home_place w s 60 61) xs l at (ready-home w s 60 61) (list-later s at behind xs l r) (all-end-later w f xs s at behind give)) [

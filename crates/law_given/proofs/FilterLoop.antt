@@ -15,7 +15,7 @@ use Rattle.eval_code.specs.Variables.{Entries}
 use Rattle.law_eval.specs.Kept.{LaterWorld}
 use Rattle.law_eval.proofs.Keeping.{later_then, later_with}
 use Rattle.law_lists.specs.Runs.{here, IsList}
-use Rattle.law_given.specs.Calls.{Calls}
+use Rattle.law_given.specs.Calls.{call_to, Calls}
 use Rattle.law_given.specs.Codes.{label, code_no, var, one_case, app, car, cdr, filter_some, filter_loop}
 use Rattle.law_given.specs.Given.{Filters}
 use Rattle.law_given.specs.InTurn.{no_call, one_call, AllGive, when_true, chosen}
@@ -35,7 +35,7 @@ module _ (w : PlainSetting) (known : code_at w.codes (code_no 61) ≡ Some (proc
   g = value.Closure (code_no 61) p
 
   abbrev Filtered : List Value → Value → WorldState → Type 0
-  Filtered xs l s = Filters w g (f ∷ l ∷ []) f chosen xs s
+  Filtered xs l s = Filters w (call_to g (f ∷ l ∷ [])) f chosen xs s
 
   abbrev names : Names 60 63 64 home g
   names = record { procedure = λ f l. refl; list = λ f l. refl; no_loop = λ f l. refl; loop = refl }
@@ -58,7 +58,7 @@ module _ (w : PlainSetting) (known : code_at w.codes (code_no 61) ≡ Some (proc
     abbrev s1 : WorldState
     s1 = loop.entered w 61 60 63 64 filter_loop known p home names f l s round
 
-    pub some : (y : Value) (u : WorldState) → Calls w f (x ∷ []) s1 y u → Filtered xs d u → Filtered (x ∷ xs) l s
+    pub some : (y : Value) (u : WorldState) → Calls w (call_to f (x ∷ [])) s1 y u → Filtered xs d u → Filtered (x ∷ xs) l s
     some y u called rest = by (truth_of y) refl
       where
         q : Place
@@ -76,7 +76,7 @@ module _ (w : PlainSetting) (known : code_at w.codes (code_no 61) ≡ Some (proc
         others : Evaluates w (app (var 60) (var 63 ∷ cdr (var 64) ∷ [])) q u rest.value rest.state
         others = loop.loop-again w 61 60 63 64 filter_loop known p home names f l s round u behind x d pair rest.value rest.state rest.called
 
-        with-null : (v : Value) (t : WorldState) → Evaluates w filter_some q s1 v t → Calls w g (f ∷ l ∷ []) s v t
+        with-null : (v : Value) (t : WorldState) → Evaluates w filter_some q s1 v t → Calls w (call_to g (f ∷ l ∷ [])) s v t
         with-null v t h =
             loop.loop-called w 61 60 63 64 filter_loop known p home names f l s round v t
             (if-false w _ _ _ q s1 s1 t (truth false) v (loop.not-null w 61 60 63 64 filter_loop known p home names f l s round s1 (later-refl s1) x d pair) refl h)

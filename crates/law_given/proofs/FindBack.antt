@@ -15,7 +15,7 @@ use Rattle.eval_code.specs.Variables.{Entries}
 use Rattle.law_eval.specs.Kept.{LaterWorld}
 use Rattle.law_eval.proofs.Keeping.{later_then}
 use Rattle.law_lists.specs.Runs.{IsList}
-use Rattle.law_given.specs.Calls.{call_of, Calls}
+use Rattle.law_given.specs.Calls.{call_to, call_of, Calls}
 use Rattle.law_given.specs.Codes.{label, code_no, var, one_case, app, car, cdr, find_some, find_loop}
 use Rattle.law_given.specs.Given.{Finds, FoundGiven, first_or_false}
 use Rattle.law_given.specs.InTurn.{SearchCalls, passed, there}
@@ -42,8 +42,8 @@ module _ (w : PlainSetting) (known : code_at w.codes (code_no 78) ≡ Some (proc
   names : Names 77 80 81 home g
   names = record { procedure = λ f l. refl; list = λ f l. refl; no_loop = λ f l. refl; loop = refl }
 
-  module _ (x l d : Value) (xs : List Value) (s : WorldState) (round : Home s.cells p home) (pair : pair_of s.cells l ≡ Some (x, d)) (v : Value) (t : WorldState) (called : Calls w g (f ∷ l ∷ []) s v t)
-      (again : (u : WorldState) → LaterWorld s u → (y : Value) (r : WorldState) → Calls w g (f ∷ d ∷ []) u y r → FoundGiven w f xs u y r) where
+  module _ (x l d : Value) (xs : List Value) (s : WorldState) (round : Home s.cells p home) (pair : pair_of s.cells l ≡ Some (x, d)) (v : Value) (t : WorldState) (called : Calls w (call_to g (f ∷ l ∷ [])) s v t)
+      (again : (u : WorldState) → LaterWorld s u → (y : Value) (r : WorldState) → Calls w (call_to g (f ∷ d ∷ [])) u y r → FoundGiven w f xs u y r) where
     abbrev at : WorldState
     at = loop.entered w 78 77 80 81 find_loop known p home names f l s round
 
@@ -61,7 +61,7 @@ module _ (w : PlainSetting) (known : code_at w.codes (code_no 78) ≡ Some (proc
     parts : Parted (eval_of w (app (var 80) (car (var 81) ∷ [])) q at) (two_arms w (eval_of w) (car (var 81)) (app (var 77) (var 80 ∷ cdr (var 81) ∷ [])) q) v t
     parts = if-back w (app (var 80) (car (var 81) ∷ [])) (car (var 81)) (app (var 77) (var 80 ∷ cdr (var 81) ∷ [])) q at v t choice
 
-    first : Calls w f (x ∷ []) at parts.value parts.state
+    first : Calls w (call_to f (x ∷ [])) at parts.value parts.state
     first = first-back w 78 77 80 81 find_loop known p home names f l s round at (later-refl at) x d pair parts.value parts.state parts.first
 
     behind : LaterWorld at parts.state
@@ -95,17 +95,17 @@ module _ (w : PlainSetting) (known : code_at w.codes (code_no 78) ≡ Some (proc
     some-did : FoundGiven w f (x ∷ xs) s v t
     some-did = by-truth (truth_of parts.value) (FoundGiven w f (x ∷ xs) s v t) taken missed
 
-  loop-did : (xs : List Value) (l : Value) (s : WorldState) (v : Value) (t : WorldState) → Home s.cells p home → IsList s.cells xs l → Calls w g (f ∷ l ∷ []) s v t → FoundGiven w f xs s v t
+  loop-did : (xs : List Value) (l : Value) (s : WorldState) (v : Value) (t : WorldState) → Home s.cells p home → IsList s.cells xs l → Calls w (call_to g (f ∷ l ∷ [])) s v t → FoundGiven w f xs s v t
   loop-did [] l s v t round r called =
-      let m : Finds w g (f ∷ l ∷ []) f [] s = find-loop w known f p [] l s round r tt in
-      let value_is = gives-one-value (call_of w g (f ∷ l ∷ []) s) (first_or_false m.rest) v m.state t m.called called in
-      let state_is = gives-one-state (call_of w g (f ∷ l ∷ []) s) (first_or_false m.rest) v m.state t m.called called in
+      let m : Finds w (call_to g (f ∷ l ∷ [])) f [] s = find-loop w known f p [] l s round r tt in
+      let value_is = gives-one-value (call_of w (call_to g (f ∷ l ∷ [])) s) (first_or_false m.rest) v m.state t m.called called in
+      let state_is = gives-one-state (call_of w (call_to g (f ∷ l ∷ [])) s) (first_or_false m.rest) v m.state t m.called called in
       record { rest = m.rest; search = subst (λ a. SearchCalls w f [] s m.rest a) state_is m.search; value_is = sym value_is }
   loop-did (x ∷ xs) l s v t round r called =
       let c = list-some r in
       some-did x l c.0 xs s round c.1 v t called (λ u k y z h. loop-did xs c.0 u y z (home-later s u k p home round) (list-later s u k xs c.0 c.2) h)
 
-pub find-only : (w : PlainSetting) (knows : Knows w.codes) (f l : Value) (xs : List Value) (s : WorldState) (v : Value) (t : WorldState) → IsList s.cells xs l → Calls w (value.Prim (record { 0 = ops.FIND })) (f ∷ l ∷ []) s v t → FoundGiven w f xs s v t
+pub find-only : (w : PlainSetting) (knows : Knows w.codes) (f l : Value) (xs : List Value) (s : WorldState) (v : Value) (t : WorldState) → IsList s.cells xs l → Calls w (call_to (value.Prim (record { 0 = ops.FIND })) (f ∷ l ∷ [])) s v t → FoundGiven w f xs s v t
 unfolding has_text
 find-only w knows f l xs s v t r called = record { rest = m.rest; search = search-from w f xs m.rest s (ready w s 77 78) t (ready-later w s 77 78) m.search; value_is = m.value_is }
   where

@@ -16,7 +16,7 @@ use Rattle.eval_code.specs.Variables.{Entries}
 use Rattle.law_eval.specs.Kept.{LaterWorld}
 use Rattle.law_eval.proofs.Keeping.{later_then}
 use Rattle.law_lists.specs.Runs.{IsList}
-use Rattle.law_given.specs.Calls.{End, CallEnds, Calls}
+use Rattle.law_given.specs.Calls.{End, call_to, CallEnds, Calls}
 use Rattle.law_given.specs.Codes.{label, code_no, one_case, find_some, find_loop}
 use Rattle.law_given.specs.Given.{Finds, first_or_false, SearchFaults}
 use Rattle.law_given.specs.InTurn.{search_stops, search_goes_on, AfterFalse, SearchEnds}
@@ -39,10 +39,10 @@ module _ (w : PlainSetting) (known : code_at w.codes (code_no 78) ≡ Some (proc
   g = value.Closure (code_no 78) p
 
   abbrev Ended : List Value → Value → WorldState → Type 0
-  Ended xs l s = Finds w g (f ∷ l ∷ []) f xs s
+  Ended xs l s = Finds w (call_to g (f ∷ l ∷ [])) f xs s
 
   abbrev Faulted : List Value → Value → WorldState → Type 0
-  Faulted xs l s = SearchFaults w g (f ∷ l ∷ []) f xs s
+  Faulted xs l s = SearchFaults w (call_to g (f ∷ l ∷ [])) f xs s
 
   abbrev names : Names 77 80 81 home g
   names = record { procedure = λ f l. refl; list = λ f l. refl; no_loop = λ f l. refl; loop = refl }
@@ -57,13 +57,13 @@ module _ (w : PlainSetting) (known : code_at w.codes (code_no 78) ≡ Some (proc
     enter : LaterWorld s at
     enter = loop.entered-later w 78 77 80 81 find_loop known p home names f l s round
 
-    with-null : (r : End) (t : WorldState) → ExpressionEnds w find_some q at r t → CallEnds w g (f ∷ l ∷ []) s r t
+    with-null : (r : End) (t : WorldState) → ExpressionEnds w find_some q at r t → CallEnds w (call_to g (f ∷ l ∷ [])) s r t
     with-null r t h =
         loop.loop-ends w 78 77 80 81 find_loop known p home names f l s round r t
         (false-ends w _ _ _ q at at t (truth false) r (loop.not-null w 78 77 80 81 find_loop known p home names f l s round at (later-refl at) x d pair) refl h)
 
     -- the call faults
-    stopped : (e : Bare) (u : WorldState) → CallEnds w f (x ∷ []) at (Err e) u → Faulted (x ∷ xs) l s
+    stopped : (e : Bare) (u : WorldState) → CallEnds w (call_to f (x ∷ [])) at (Err e) u → Faulted (x ∷ xs) l s
     stopped e u h = record {
       fault = e;
       state = u;
@@ -72,7 +72,7 @@ module _ (w : PlainSetting) (known : code_at w.codes (code_no 78) ≡ Some (proc
     }
 
     -- a later call faults
-    stopped-behind : (y : Value) (u : WorldState) → Calls w f (x ∷ []) at y u → truth_of y ≡ false → Faulted xs d u → Faulted (x ∷ xs) l s
+    stopped-behind : (y : Value) (u : WorldState) → Calls w (call_to f (x ∷ [])) at y u → truth_of y ≡ false → Faulted xs d u → Faulted (x ∷ xs) l s
     stopped-behind y u called e rest = record {
       fault = rest.fault;
       state = rest.state;
@@ -83,7 +83,7 @@ module _ (w : PlainSetting) (known : code_at w.codes (code_no 78) ≡ Some (proc
     }
 
     -- by the end of the call
-    ends-by : (r : End) (u : WorldState) → CallEnds w f (x ∷ []) at r u → AfterFalse r (SearchEnds w f xs u)
+    ends-by : (r : End) (u : WorldState) → CallEnds w (call_to f (x ∷ [])) at r u → AfterFalse r (SearchEnds w f xs u)
         → ((v : WorldState) → LaterWorld s v → SearchEnds w f xs v → Ended xs d v ⊎ Faulted xs d v) → Ended (x ∷ xs) l s ⊎ Faulted (x ∷ xs) l s
     ends-by (Ok y) u h a again =
         by-truth (truth_of y) (Ended (x ∷ xs) l s ⊎ Faulted (x ∷ xs) l s) (λ e. inl (found w known f p x l d xs s round pair y u h e))
@@ -102,7 +102,7 @@ module _ (w : PlainSetting) (known : code_at w.codes (code_no 78) ≡ Some (proc
       (λ v k a. find-ends xs c.0 v (home-later s v k p home round) (list-later s v k xs c.0 c.2) a)
 
 pub find-ended : (w : PlainSetting) (knows : Knows w.codes) (f l : Value) (xs : List Value) (s : WorldState) → IsList s.cells xs l → SearchEnds w f xs s
-    → Finds w (value.Prim (record { 0 = ops.FIND })) (f ∷ l ∷ []) f xs s ⊎ SearchFaults w (value.Prim (record { 0 = ops.FIND })) (f ∷ l ∷ []) f xs s
+    → Finds w (call_to (value.Prim (record { 0 = ops.FIND })) (f ∷ l ∷ [])) f xs s ⊎ SearchFaults w (call_to (value.Prim (record { 0 = ops.FIND })) (f ∷ l ∷ [])) f xs s
 unfolding has_text
 find-ended w knows f l xs s r give =
     elim (find-ends w knows.find_loop f (home_place w s 77 78) xs l at (ready-home w s 77 78) (list-later s at behind xs l r) (search-ends-later w f xs s at behind give)) [

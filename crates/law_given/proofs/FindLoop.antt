@@ -14,7 +14,7 @@ use Rattle.eval_code.specs.Variables.{Entries}
 use Rattle.law_eval.specs.Kept.{LaterWorld}
 use Rattle.law_eval.proofs.Keeping.{later_then}
 use Rattle.law_lists.specs.Runs.{IsList}
-use Rattle.law_given.specs.Calls.{Calls}
+use Rattle.law_given.specs.Calls.{call_to, Calls}
 use Rattle.law_given.specs.Codes.{label, code_no, var, one_case, app, car, find_some, find_loop}
 use Rattle.law_given.specs.Given.{Finds, first_or_false}
 use Rattle.law_given.specs.InTurn.{not_there, passed, there, SearchGives}
@@ -39,7 +39,7 @@ module _ (w : PlainSetting) (known : code_at w.codes (code_no 78) ≡ Some (proc
   g = value.Closure (code_no 78) p
 
   abbrev FoundGiven : List Value → Value → WorldState → Type 0
-  FoundGiven xs l s = Finds w g (f ∷ l ∷ []) f xs s
+  FoundGiven xs l s = Finds w (call_to g (f ∷ l ∷ [])) f xs s
 
   abbrev names : Names 77 80 81 home g
   names = record { procedure = λ f l. refl; list = λ f l. refl; no_loop = λ f l. refl; loop = refl }
@@ -63,14 +63,14 @@ module _ (w : PlainSetting) (known : code_at w.codes (code_no 78) ≡ Some (proc
     enter : LaterWorld s s1
     enter = loop.entered-later w 78 77 80 81 find_loop known p home names f l s round
 
-    with-test : (y : Value) (u : WorldState) (v : Value) (t : WorldState) → Calls w f (x ∷ []) s1 y u
-        → (Evaluates w (app (var 80) (car (var 81) ∷ [])) (next_place s) s1 y u → Evaluates w find_some (next_place s) s1 v t) → Calls w g (f ∷ l ∷ []) s v t
+    with-test : (y : Value) (u : WorldState) (v : Value) (t : WorldState) → Calls w (call_to f (x ∷ [])) s1 y u
+        → (Evaluates w (app (var 80) (car (var 81) ∷ [])) (next_place s) s1 y u → Evaluates w find_some (next_place s) s1 v t) → Calls w (call_to g (f ∷ l ∷ [])) s v t
     with-test y u v t called h =
         loop.loop-called w 78 77 80 81 find_loop known p home names f l s round v t
         (if-false w _ _ _ (next_place s) s1 s1 t (truth false) v (loop.not-null w 78 77 80 81 find_loop known p home names f l s round s1 (later-refl s1) x d pair) refl
         (h (loop.first-called w 78 77 80 81 find_loop known p home names f l s round s1 (later-refl s1) x d pair y u called)))
 
-    pub found : (y : Value) (u : WorldState) → Calls w f (x ∷ []) s1 y u → truth_of y ≡ true → FoundGiven (x ∷ xs) l s
+    pub found : (y : Value) (u : WorldState) → Calls w (call_to f (x ∷ [])) s1 y u → truth_of y ≡ true → FoundGiven (x ∷ xs) l s
     found y u called e = record {
       state = u;
       rest = x ∷ xs;
@@ -79,7 +79,7 @@ module _ (w : PlainSetting) (known : code_at w.codes (code_no 78) ≡ Some (proc
           (λ test. if-true w _ _ _ (next_place s) s1 u u y x test e (loop.first-read w 78 77 80 81 find_loop known p home names f l s round u (calls-later w f (x ∷ []) s1 y u called) x d pair));
     }
 
-    pub missed : (y : Value) (u : WorldState) → Calls w f (x ∷ []) s1 y u → truth_of y ≡ false → FoundGiven xs d u → FoundGiven (x ∷ xs) l s
+    pub missed : (y : Value) (u : WorldState) → Calls w (call_to f (x ∷ [])) s1 y u → truth_of y ≡ false → FoundGiven xs d u → FoundGiven (x ∷ xs) l s
     missed y u called e rest = record {
       state = rest.state;
       rest = rest.rest;

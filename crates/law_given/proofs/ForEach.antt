@@ -19,7 +19,7 @@ use Rattle.eval_code.specs.Variables.{Entries}
 use Rattle.law_eval.specs.Kept.{LaterWorld}
 use Rattle.law_eval.proofs.Keeping.{later_then, later_with}
 use Rattle.law_lists.specs.Runs.{IsList}
-use Rattle.law_given.specs.Calls.{End, CallEnds, Calls}
+use Rattle.law_given.specs.Calls.{End, call_to, CallEnds, Calls}
 use Rattle.law_given.specs.Codes.{label, code_no, var, prim, formals, one_case, app, datum_at, text_code, for_each_body, for_each_text}
 use Rattle.law_given.specs.Given.{Maps, Mapped, Visits, Visited, Faults}
 use Rattle.law_given.specs.InTurn.{InTurn, AllGive, AllEnd}
@@ -63,7 +63,7 @@ module _ (w : PlainSetting) (knows : Knows w.codes) (f l : Value) (s : WorldStat
   abbrev q : Place
   q = next_place outside
 
-  body-ends : (r : End) (t : WorldState) → ExpressionEnds w for_each_body q inner r t → CallEnds w (value.Prim (record { 0 = names.FOR_EACH })) (f ∷ l ∷ []) s r t
+  body-ends : (r : End) (t : WorldState) → ExpressionEnds w for_each_body q inner r t → CallEnds w (call_to (value.Prim (record { 0 = names.FOR_EACH })) (f ∷ l ∷ [])) s r t
   unfolding has_text
   body-ends r t h =
       text-ends w (record { 0 = names.FOR_EACH }) (f ∷ l ∷ []) s outside t (text_code names.FOR_EACH for_each_text) for_each_text (code_no 21) p r refl refl knows.for_each_text refl
@@ -77,7 +77,7 @@ module _ (w : PlainSetting) (knows : Knows w.codes) (f l : Value) (s : WorldStat
   behind = later_then s outside inner (later_with s (cell.Scope [] None)) (later_with outside (cell.Scope vars (Some p)))
 
   -- (apply map f l ls)
-  mapping : (r : End) (t : WorldState) → CallEnds w (value.Prim (record { 0 = names.MAP })) (f ∷ l ∷ []) inner r t → ExpressionEnds w (app (prim names.APPLY) (prim names.MAP ∷ var 23 ∷ var 24 ∷ var 25 ∷ [])) q inner r t
+  mapping : (r : End) (t : WorldState) → CallEnds w (call_to (value.Prim (record { 0 = names.MAP })) (f ∷ l ∷ [])) inner r t → ExpressionEnds w (app (prim names.APPLY) (prim names.MAP ∷ var 23 ∷ var 24 ∷ var 25 ∷ [])) q inner r t
   mapping r t h =
       call-four-ends w (prim names.APPLY) (prim names.MAP) (var 23) (var 24) (var 25) q inner inner inner inner inner inner t
       (value.Prim (record { 0 = names.APPLY })) (value.Prim (record { 0 = names.MAP })) f l nil r
@@ -85,7 +85,7 @@ module _ (w : PlainSetting) (knows : Knows w.codes) (f l : Value) (s : WorldStat
       (own w inner q vars p [] inside (label 23) f refl) (own w inner q vars p [] inside (label 24) l refl) (own w inner q vars p [] inside (label 25) nil refl)
       (apply-ends w (value.Prim (record { 0 = names.MAP })) (f ∷ l ∷ []) [] nil inner r t (nil-elements inner.cells) h)
 
-  visited : (xs : List Value) → Maps w (value.Prim (record { 0 = names.MAP })) (f ∷ l ∷ []) f xs inner → Visits w (value.Prim (record { 0 = names.FOR_EACH })) (f ∷ l ∷ []) f xs s value.Unspecified
+  visited : (xs : List Value) → Maps w (call_to (value.Prim (record { 0 = names.MAP })) (f ∷ l ∷ [])) f xs inner → Visits w (call_to (value.Prim (record { 0 = names.FOR_EACH })) (f ∷ l ∷ [])) f xs s value.Unspecified
   visited xs m = record {
     state = m.state;
     called = body-ends (Ok value.Unspecified) m.state
@@ -94,11 +94,11 @@ module _ (w : PlainSetting) (knows : Knows w.codes) (f l : Value) (s : WorldStat
     in_turn = in-turn-from w f xs m.answers s inner m.state behind m.in_turn;
   }
 
-  pub for-each-given : (xs : List Value) → IsList s.cells xs l → AllGive w f xs s → Visits w (value.Prim (record { 0 = names.FOR_EACH })) (f ∷ l ∷ []) f xs s value.Unspecified
+  pub for-each-given : (xs : List Value) → IsList s.cells xs l → AllGive w f xs s → Visits w (call_to (value.Prim (record { 0 = names.FOR_EACH })) (f ∷ l ∷ [])) f xs s value.Unspecified
   for-each-given xs r give = visited xs (map-given w inner knows f l xs (list-later s inner behind xs l r) (all-give-later w f xs s inner behind give))
 
   pub for-each-ended : (xs : List Value) → IsList s.cells xs l → AllEnd w f xs s
-      → Visits w (value.Prim (record { 0 = names.FOR_EACH })) (f ∷ l ∷ []) f xs s value.Unspecified ⊎ Faults w (value.Prim (record { 0 = names.FOR_EACH })) (f ∷ l ∷ []) f xs s
+      → Visits w (call_to (value.Prim (record { 0 = names.FOR_EACH })) (f ∷ l ∷ [])) f xs s value.Unspecified ⊎ Faults w (call_to (value.Prim (record { 0 = names.FOR_EACH })) (f ∷ l ∷ [])) f xs s
   for-each-ended xs r give = elim (map-ended w inner knows f l xs (list-later s inner behind xs l r) (all-end-later w f xs s inner behind give)) [
     | inl m ↦ inl (visited xs m)
     | inr m ↦ inr (record {
@@ -110,7 +110,7 @@ module _ (w : PlainSetting) (knows : Knows w.codes) (f l : Value) (s : WorldStat
   ]
 
   -- what a call that gave a value did
-  pub for-each-only : (xs : List Value) (v : Value) (t : WorldState) → IsList s.cells xs l → Calls w (value.Prim (record { 0 = names.FOR_EACH })) (f ∷ l ∷ []) s v t → Visited w f xs s v t
+  pub for-each-only : (xs : List Value) (v : Value) (t : WorldState) → IsList s.cells xs l → Calls w (call_to (value.Prim (record { 0 = names.FOR_EACH })) (f ∷ l ∷ [])) s v t → Visited w f xs s v t
   unfolding has_text
   for-each-only xs v t r called = record {
     answers = m.answers;
@@ -136,7 +136,7 @@ module _ (w : PlainSetting) (knows : Knows w.codes) (f l : Value) (s : WorldStat
       state_is : parts.state ≡ t
       state_is = gives-one-state (eval_of w nothing q parts.state) value.Unspecified v parts.state t second parts.onward
 
-      mapped : Calls w (value.Prim (record { 0 = names.MAP })) (f ∷ l ∷ []) inner parts.value parts.state
+      mapped : Calls w (call_to (value.Prim (record { 0 = names.MAP })) (f ∷ l ∷ [])) inner parts.value parts.state
       mapped =
           apply-none w (value.Prim (record { 0 = names.MAP })) (f ∷ l ∷ []) [] nil inner (nil-elements inner.cells) refl parts.value parts.state
           (call-four-back w (prim names.APPLY) (prim names.MAP) (var 23) (var 24) (var 25) q inner inner inner inner inner inner parts.state

@@ -14,7 +14,7 @@ use Rattle.eval_code.specs.State.{WorldState, done, Go, then_do, charged}
 use Rattle.eval_code.proofs.Fuel.{eval_of_is}
 use Rattle.eval_code.proofs.Paid.{charged_paid}
 use Rattle.law_eval.specs.Runs.{ByFuel}
-use Rattle.law_given.specs.Calls.{End, ended, Ends, Gives, CallEnds, Calls}
+use Rattle.law_given.specs.Calls.{End, ended, Ends, Gives, call_to, CallEnds, Calls}
 
 pub gives-done : (v : Value) (s : WorldState) → Gives (λ n. done v s n) v s
 gives-done v s = (0, λ left. ap (λ n. done v s n) (omega arith))
@@ -139,34 +139,34 @@ module _ (w : PlainSetting) where
 
   -- calls of one operand, of two and more
   pub call-one-ends : (c d : PlainCore) (scope : Place) (s t u q : WorldState) (f x : Value) (r : End)
-      → Evaluates c scope s f t → Evaluates d scope t x u → CallEnds w f (x ∷ []) u r q → ExpressionEnds (call c (more d none)) scope s r q
+      → Evaluates c scope s f t → Evaluates d scope t x u → CallEnds w (call_to f (x ∷ [])) u r q → ExpressionEnds (call c (more d none)) scope s r q
   call-one-ends c d scope s t u q f x r g h k = call-ends c (more d none) scope s t q f r g (operand-ends d none scope (f ∷ []) t u q x r h k)
 
   pub call-one : (c d : PlainCore) (scope : Place) (s t u r : WorldState) (f x v : Value)
-      → Evaluates c scope s f t → Evaluates d scope t x u → Calls w f (x ∷ []) u v r → Evaluates (call c (more d none)) scope s v r
+      → Evaluates c scope s f t → Evaluates d scope t x u → Calls w (call_to f (x ∷ [])) u v r → Evaluates (call c (more d none)) scope s v r
   call-one c d scope s t u r f x v g h k = call-one-ends c d scope s t u r f x (Ok v) g h k
 
   pub call-two-ends : (c d e : PlainCore) (scope : Place) (s t u q p : WorldState) (f x y : Value) (r : End)
-      → Evaluates c scope s f t → Evaluates d scope t x u → Evaluates e scope u y q → CallEnds w f (x ∷ y ∷ []) q r p
+      → Evaluates c scope s f t → Evaluates d scope t x u → Evaluates e scope u y q → CallEnds w (call_to f (x ∷ y ∷ [])) q r p
       → ExpressionEnds (call c (more d (more e none))) scope s r p
   call-two-ends c d e scope s t u q p f x y r g h j k =
       call-ends c (more d (more e none)) scope s t p f r g
       (operand-ends d (more e none) scope (f ∷ []) t u p x r h (operand-ends e none scope (f ∷ x ∷ []) u q p y r j k))
 
   pub call-two : (c d e : PlainCore) (scope : Place) (s t u q r : WorldState) (f x y v : Value)
-      → Evaluates c scope s f t → Evaluates d scope t x u → Evaluates e scope u y q → Calls w f (x ∷ y ∷ []) q v r
+      → Evaluates c scope s f t → Evaluates d scope t x u → Evaluates e scope u y q → Calls w (call_to f (x ∷ y ∷ [])) q v r
       → Evaluates (call c (more d (more e none))) scope s v r
   call-two c d e scope s t u q r f x y v g h j k = call-two-ends c d e scope s t u q r f x y (Ok v) g h j k
 
   pub call-three-ends : (c d e a : PlainCore) (scope : Place) (s t u q p o : WorldState) (f x y z : Value) (r : End)
-      → Evaluates c scope s f t → Evaluates d scope t x u → Evaluates e scope u y q → Evaluates a scope q z p → CallEnds w f (x ∷ y ∷ z ∷ []) p r o
+      → Evaluates c scope s f t → Evaluates d scope t x u → Evaluates e scope u y q → Evaluates a scope q z p → CallEnds w (call_to f (x ∷ y ∷ z ∷ [])) p r o
       → ExpressionEnds (call c (more d (more e (more a none)))) scope s r o
   call-three-ends c d e a scope s t u q p o f x y z r g h j i k =
       call-ends c (more d (more e (more a none))) scope s t o f r g
       (operand-ends d (more e (more a none)) scope (f ∷ []) t u o x r h (operand-ends e (more a none) scope (f ∷ x ∷ []) u q o y r j (operand-ends a none scope (f ∷ x ∷ y ∷ []) q p o z r i k)))
 
   pub call-four-ends : (c d e a b : PlainCore) (scope : Place) (s t u q p o l : WorldState) (f x y z k : Value) (r : End)
-      → Evaluates c scope s f t → Evaluates d scope t x u → Evaluates e scope u y q → Evaluates a scope q z p → Evaluates b scope p k o → CallEnds w f (x ∷ y ∷ z ∷ k ∷ []) o r l
+      → Evaluates c scope s f t → Evaluates d scope t x u → Evaluates e scope u y q → Evaluates a scope q z p → Evaluates b scope p k o → CallEnds w (call_to f (x ∷ y ∷ z ∷ k ∷ [])) o r l
       → ExpressionEnds (call c (more d (more e (more a (more b none))))) scope s r l
   call-four-ends c d e a b scope s t u q p o l f x y z k r g h j i m n =
       call-ends c (more d (more e (more a (more b none)))) scope s t l f r g

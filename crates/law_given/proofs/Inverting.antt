@@ -19,7 +19,7 @@ use Rattle.eval_code.proofs.Fuel.{eval_of_is}
 use Rattle.law_eval.specs.MoreFuel.{MoreIsLeft, LeftIsNotNeeded, FuelFalls}
 use Rattle.law_eval.specs.Runs.{ByFuel}
 use Rattle.law_eval.proofs.Carried.{everywhere, more_is_left, left_is_not_needed, fuel_falls}
-use Rattle.law_given.specs.Calls.{Gives, call_of, Calls}
+use Rattle.law_given.specs.Calls.{Gives, call_to, call_of, Calls}
 use Rattle.law_given.specs.Codes.{prim, cons}
 use Rattle.law_given.proofs.Giving.{gives-same, Evaluates, primitive-is}
 use Rattle.law_given.proofs.Calling.{called-at-once, not-apply}
@@ -117,13 +117,13 @@ module _ (w : PlainSetting) where
   -- Of calls whose operands are known.
 
   pub call-one-back : (c d : PlainCore) (scope : Place) (s t u q : WorldState) (f x v : Value)
-      → Evaluates w c scope s f t → Evaluates w d scope t x u → Evaluates w (call c (more d none)) scope s v q → Calls w f (x ∷ []) u v q
+      → Evaluates w c scope s f t → Evaluates w d scope t x u → Evaluates w (call c (more d none)) scope s v q → Calls w (call_to f (x ∷ [])) u v q
   call-one-back c d scope s t u q f x v h k g =
       known-first (eval_of w d scope t) (λ a. operands w (eval_of w) none scope ((f ∷ []) ++ a ∷ [])) v x q u (steady d scope t) k
       (known-first (eval_of w c scope s) (λ a. operands w (eval_of w) (more d none) scope (a ∷ [])) v f q t (steady c scope s) h (expressed-gives (call c (more d none)) scope s v q g))
 
   pub call-two-back : (c d e : PlainCore) (scope : Place) (s t u q p : WorldState) (f x y v : Value)
-      → Evaluates w c scope s f t → Evaluates w d scope t x u → Evaluates w e scope u y q → Evaluates w (call c (more d (more e none))) scope s v p → Calls w f (x ∷ y ∷ []) q v p
+      → Evaluates w c scope s f t → Evaluates w d scope t x u → Evaluates w e scope u y q → Evaluates w (call c (more d (more e none))) scope s v p → Calls w (call_to f (x ∷ y ∷ [])) q v p
   call-two-back c d e scope s t u q p f x y v h k j g =
       known-first (eval_of w e scope u) (λ a. operands w (eval_of w) none scope ((f ∷ x ∷ []) ++ a ∷ [])) v y p q (steady e scope u) j
       (known-first (eval_of w d scope t) (λ a. operands w (eval_of w) (more e none) scope ((f ∷ []) ++ a ∷ [])) v x p u (steady d scope t) k
@@ -132,7 +132,7 @@ module _ (w : PlainSetting) where
 
   pub call-four-back : (c d e a b : PlainCore) (scope : Place) (s t u q p o l : WorldState) (f x y z k v : Value)
       → Evaluates w c scope s f t → Evaluates w d scope t x u → Evaluates w e scope u y q → Evaluates w a scope q z p → Evaluates w b scope p k o
-      → Evaluates w (call c (more d (more e (more a (more b none))))) scope s v l → Calls w f (x ∷ y ∷ z ∷ k ∷ []) o v l
+      → Evaluates w (call c (more d (more e (more a (more b none))))) scope s v l → Calls w (call_to f (x ∷ y ∷ z ∷ k ∷ [])) o v l
   call-four-back c d e a b scope s t u q p o l f x y z k v g h i j m given =
       known-first (eval_of w b scope p) (λ r. operands w (eval_of w) none scope ((f ∷ x ∷ y ∷ z ∷ []) ++ r ∷ [])) v k l o (steady b scope p) m
       (known-first (eval_of w a scope q) (λ r. operands w (eval_of w) (more b none) scope ((f ∷ x ∷ y ∷ []) ++ r ∷ [])) v z l p (steady a scope q) j
@@ -173,8 +173,8 @@ module _ (w : PlainSetting) where
     cdr_value = second.value;
     behind = second.state;
     cdr_given = second.first;
-    value_is = gives-one-value (call_of w op (first.value ∷ second.value ∷ []) second.state) (next_pair w second.state) v (with_cell (cell.Pair first.value second.value) second.state) t made second.onward;
-    state_is = gives-one-state (call_of w op (first.value ∷ second.value ∷ []) second.state) (next_pair w second.state) v (with_cell (cell.Pair first.value second.value) second.state) t made second.onward;
+    value_is = gives-one-value (call_of w (call_to op (first.value ∷ second.value ∷ [])) second.state) (next_pair w second.state) v (with_cell (cell.Pair first.value second.value) second.state) t made second.onward;
+    state_is = gives-one-state (call_of w (call_to op (first.value ∷ second.value ∷ [])) second.state) (next_pair w second.state) v (with_cell (cell.Pair first.value second.value) second.state) t made second.onward;
   }
     where
       op : Value
@@ -191,7 +191,7 @@ module _ (w : PlainSetting) where
       second : Parted (eval_of w d scope first.state) (λ a. operands w (eval_of w) none scope ((op ∷ first.value ∷ []) ++ a ∷ [])) v t
       second = parted (eval_of w d scope first.state) (λ a. operands w (eval_of w) none scope ((op ∷ first.value ∷ []) ++ a ∷ [])) v t (steady d scope first.state) first.onward
 
-      made : Calls w op (first.value ∷ second.value ∷ []) second.state (next_pair w second.state) (with_cell (cell.Pair first.value second.value) second.state)
+      made : Calls w (call_to op (first.value ∷ second.value ∷ [])) second.state (next_pair w second.state) (with_cell (cell.Pair first.value second.value) second.state)
       made = cons-called w first.value second.value second.state
 
   -- Of procedures and texts.
@@ -208,14 +208,14 @@ module _ (w : PlainSetting) where
   pub text-back : (op : Op) (args : List Value) (s t u : WorldState) (code : PlainCode) (body : PlainCore) (number : CodeNo) (parent : Place) (v : Value)
       → nat_eq op.0 names.APPLY ≡ false → has_text op.0 ≡ true → code_at w.codes (text_number op.0) ≡ Some code → text_body (Some code) ≡ Some body
       → Evaluates w body (next_place s) (with_cell (cell.Scope [] None) s) (value.Closure number parent) t
-      → Calls w (value.Prim op) args s v u → Gives (procedure_called w (eval_of w) number parent args t) v u
+      → Calls w (call_to (value.Prim op) args) s v u → Gives (procedure_called w (eval_of w) number parent args t) v u
   unfolding op_called
   text-back op args s t u code body number parent v other some is text given g =
       known-first (eval_of w body (next_place s) (with_cell (cell.Scope [] None) s)) (text_value_called w (eval_of w) args) v (value.Closure number parent) u t
       (steady body (next_place s) (with_cell (cell.Scope [] None) s)) given
-      (gives-same (call_of w (value.Prim op) args s) (λ n. by_text w (eval_of w) args s n (Some body)) v u by g)
+      (gives-same (call_of w (call_to (value.Prim op) args) s) (λ n. by_text w (eval_of w) args s n (Some body)) v u by g)
     where
-      by : (n : ℕ) → by_text w (eval_of w) args s n (Some body) ≡ call_of w (value.Prim op) args s n
+      by : (n : ℕ) → by_text w (eval_of w) args s n (Some body) ≡ call_of w (call_to (value.Prim op) args) s n
       by n =
           sym (called-at-once w (value.Prim op) args s n (not-apply w op args other)
           ∙ ap (λ b. if b then by_text w (eval_of w) args s n (text_body (code_at w.codes (text_number op.0))) else primitive_called w op.0 args s n) some

@@ -10,7 +10,7 @@ use Rattle.law_eval.specs.Runs.{ByFuel}
 use Rattle.law_eval.proofs.Keeping.{keeps-call, later_then}
 use Rattle.law_lists.specs.Runs.{IsList}
 use Rattle.law_lists.proofs.RunLemmas.{runs_still}
-use Rattle.law_given.specs.Calls.{End, Ends, call_of, CallEnds, Calls}
+use Rattle.law_given.specs.Calls.{End, Ends, call_to, call_of, CallEnds, Calls}
 use Rattle.law_given.specs.InTurn.{InTurn, no_call, one_call, Stops, stops_here, stops_behind, AllGive, AllEnd, SearchCalls, not_there, passed, there, SearchGives, SearchStops, search_stops, search_goes_on, SearchEnds}
 use Rattle.law_given.proofs.Looking.{later-stay}
 
@@ -21,10 +21,10 @@ ends-later : (run : ByFuel) (r : End) (s t : WorldState) → ((n : ℕ) → Ends
 ends-later run (Ok v) s t ends g = subst (EndsLater s) (g.1 0) (ends (0 + g.0))
 ends-later run (Err f) s t ends g = subst (EndsLater s) (g.1 0) (ends (0 + g.0))
 
-pub call-ends-later : (w : PlainSetting) (f : Value) (args : List Value) (s : WorldState) (r : End) (t : WorldState) → CallEnds w f args s r t → LaterWorld s t
-call-ends-later w f args s r t h = ends-later (call_of w f args s) r s t (λ n. keeps-call w (f ∷ args) s n) h
+pub call-ends-later : (w : PlainSetting) (f : Value) (args : List Value) (s : WorldState) (r : End) (t : WorldState) → CallEnds w (call_to f args) s r t → LaterWorld s t
+call-ends-later w f args s r t h = ends-later (call_of w (call_to f args) s) r s t (λ n. keeps-call w (f ∷ args) s n) h
 
-pub calls-later : (w : PlainSetting) (f : Value) (args : List Value) (s : WorldState) (v : Value) (t : WorldState) → Calls w f args s v t → LaterWorld s t
+pub calls-later : (w : PlainSetting) (f : Value) (args : List Value) (s : WorldState) (v : Value) (t : WorldState) → Calls w (call_to f args) s v t → LaterWorld s t
 calls-later w f args s v t h = call-ends-later w f args s (Ok v) t h
 
 pub list-later : (s t : WorldState) → LaterWorld s t → (xs : List Value) (x : Value) → IsList s.cells xs x → IsList t.cells xs x

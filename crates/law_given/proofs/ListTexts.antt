@@ -8,6 +8,7 @@ use Rattle.eval_code.specs.Setting.{PlainSetting}
 use Rattle.eval_code.specs.State.{WorldState}
 use Rattle.law_eval.specs.Kept.{LaterWorld}
 use Rattle.law_lists.specs.Runs.{IsList}
+use Rattle.law_given.specs.Calls.{call_to}
 use Rattle.law_given.specs.Codes.{code_no, filter_loop, find_loop, memp_loop}
 use Rattle.law_given.specs.Given.{Filters, Finds, first_or_false, FindsTail}
 use Rattle.law_given.specs.InTurn.{AllGive, SearchGives, chosen}
@@ -19,7 +20,7 @@ use Rattle.law_given.proofs.FindLoop.{find-loop}
 use Rattle.law_given.proofs.MempLoop.{memp-loop}
 
 module _ (w : PlainSetting) (knows : Knows w.codes) (f l : Value) (xs : List Value) (s : WorldState) (r : IsList s.cells xs l) where
-  pub filter-given : AllGive w f xs s → Filters w (value.Prim (record { 0 = names.FILTER })) (f ∷ l ∷ []) f chosen xs s
+  pub filter-given : AllGive w f xs s → Filters w (call_to (value.Prim (record { 0 = names.FILTER })) (f ∷ l ∷ [])) f chosen xs s
   unfolding has_text
   filter-given give = record {
     value = m.value;
@@ -36,10 +37,10 @@ module _ (w : PlainSetting) (knows : Knows w.codes) (f l : Value) (xs : List Val
       behind : LaterWorld s at
       behind = ready-later w s 60 61
 
-      m : Filters w (value.Closure (code_no 61) (home_place w s 60 61)) (f ∷ l ∷ []) f chosen xs at
+      m : Filters w (call_to (value.Closure (code_no 61) (home_place w s 60 61)) (f ∷ l ∷ [])) f chosen xs at
       m = filter-loop w knows.filter_loop f (home_place w s 60 61) xs l at (ready-home w s 60 61) (list-later s at behind xs l r) (all-give-later w f xs s at behind give)
 
-  pub find-given : SearchGives w f xs s → Finds w (value.Prim (record { 0 = names.FIND })) (f ∷ l ∷ []) f xs s
+  pub find-given : SearchGives w f xs s → Finds w (call_to (value.Prim (record { 0 = names.FIND })) (f ∷ l ∷ [])) f xs s
   unfolding has_text
   find-given give = record {
     state = m.state;
@@ -54,10 +55,10 @@ module _ (w : PlainSetting) (knows : Knows w.codes) (f l : Value) (xs : List Val
       behind : LaterWorld s at
       behind = ready-later w s 77 78
 
-      m : Finds w (value.Closure (code_no 78) (home_place w s 77 78)) (f ∷ l ∷ []) f xs at
+      m : Finds w (call_to (value.Closure (code_no 78) (home_place w s 77 78)) (f ∷ l ∷ [])) f xs at
       m = find-loop w knows.find_loop f (home_place w s 77 78) xs l at (ready-home w s 77 78) (list-later s at behind xs l r) (search-gives-later w f xs s at behind give)
 
-  pub memp-given : SearchGives w f xs s → FindsTail w (value.Prim (record { 0 = names.MEMP })) (f ∷ l ∷ []) f l xs s
+  pub memp-given : SearchGives w f xs s → FindsTail w (call_to (value.Prim (record { 0 = names.MEMP })) (f ∷ l ∷ [])) f l xs s
   unfolding has_text
   memp-given give = record {
     value = m.value;
@@ -74,5 +75,5 @@ module _ (w : PlainSetting) (knows : Knows w.codes) (f l : Value) (xs : List Val
       behind : LaterWorld s at
       behind = ready-later w s 85 86
 
-      m : FindsTail w (value.Closure (code_no 86) (home_place w s 85 86)) (f ∷ l ∷ []) f l xs at
+      m : FindsTail w (call_to (value.Closure (code_no 86) (home_place w s 85 86)) (f ∷ l ∷ [])) f l xs at
       m = memp-loop w knows.memp_loop f (home_place w s 85 86) xs l at (ready-home w s 85 86) (list-later s at behind xs l r) (search-gives-later w f xs s at behind give)

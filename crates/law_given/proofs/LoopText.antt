@@ -16,7 +16,7 @@ use Rattle.eval_code.specs.Setting.{PlainSetting}
 use Rattle.eval_code.specs.State.{WorldState, next_place, with_cell}
 use Rattle.law_eval.specs.Kept.{LaterWorld}
 use Rattle.law_eval.proofs.Keeping.{later_then, later_with}
-use Rattle.law_given.specs.Calls.{End, Ends, CallEnds, Calls}
+use Rattle.law_given.specs.Calls.{End, Ends, call_to, CallEnds, Calls}
 use Rattle.law_given.specs.Codes.{label, code_no, var, lambda, one_case, text_code}
 use Rattle.law_given.proofs.Giving.{Evaluates}
 use Rattle.law_given.proofs.Looking.{in_cell, variable-is}
@@ -48,7 +48,7 @@ module _ (w : PlainSetting) (s : WorldState) (go code : ℕ) where
         → code_at w.codes (text_number op) ≡ Some (text_code op (loop_text go code formals loop body))
         → Evaluates w body home_place ready (value.Closure (code_no number) home_place) ready
         → Ends (procedure_called w (eval_of w) (code_no number) home_place args ready) r t
-        → CallEnds w (value.Prim (record { 0 = op })) args s r t
+        → CallEnds w (call_to (value.Prim (record { 0 = op })) args) s r t
     text-by-ends body number args r t known is h =
         text-ends w (record { 0 = op }) args s ready t (text_code op (loop_text go code formals loop body)) (loop_text go code formals loop body) (code_no number) home_place r other yes known refl
         (letrec-is w (label go) self (code_no code) (one_case formals None loop) true body (next_place s) outside (value.Closure (code_no number) home_place) ready is) h
@@ -57,8 +57,8 @@ module _ (w : PlainSetting) (s : WorldState) (go code : ℕ) where
     pub loop-by-ends : (args : List Value) (r : End) (t : WorldState)
         → code_at w.codes (text_number op) ≡ Some (text_code op (loop_text go code formals loop (var go)))
         → lookup (same_label (label go)) (one_home (label go) (code_no code) home_place) ≡ Some (Some (value.Closure (code_no code) home_place))
-        → CallEnds w (value.Closure (code_no code) home_place) args ready r t
-        → CallEnds w (value.Prim (record { 0 = op })) args s r t
+        → CallEnds w (call_to (value.Closure (code_no code) home_place) args) ready r t
+        → CallEnds w (call_to (value.Prim (record { 0 = op })) args) s r t
     loop-by-ends args r t known found h =
         text-by-ends (var go) code args r t known
         (variable-is w (label go) home_place ready (value.Closure (code_no code) home_place) 1 (in_cell ready-home.is found) (omega arith))
@@ -67,6 +67,6 @@ module _ (w : PlainSetting) (s : WorldState) (go code : ℕ) where
     pub loop-by : (args : List Value) (v : Value) (t : WorldState)
         → code_at w.codes (text_number op) ≡ Some (text_code op (loop_text go code formals loop (var go)))
         → lookup (same_label (label go)) (one_home (label go) (code_no code) home_place) ≡ Some (Some (value.Closure (code_no code) home_place))
-        → Calls w (value.Closure (code_no code) home_place) args ready v t
-        → Calls w (value.Prim (record { 0 = op })) args s v t
+        → Calls w (call_to (value.Closure (code_no code) home_place) args) ready v t
+        → Calls w (call_to (value.Prim (record { 0 = op })) args) s v t
     loop-by args v t known found h = loop-by-ends args (Ok v) t known found h

@@ -22,7 +22,7 @@ use Rattle.law_eval.specs.Kept.{LaterWorld}
 use Rattle.law_eval.proofs.Keeping.{later_then, later_with}
 use Rattle.law_lists.specs.Runs.{here, next, IsList}
 use Rattle.law_lists.proofs.RunLemmas.{stay_added, pair_still, runs_still}
-use Rattle.law_given.specs.Calls.{End, call_of, CallEnds, Calls}
+use Rattle.law_given.specs.Calls.{End, call_to, call_of, CallEnds, Calls}
 use Rattle.law_given.specs.Codes.{label, code_no, var, formals, one_case, car, cdr, prim, cons, map_first, map_others, map_one}
 use Rattle.law_given.specs.Given.{Maps, Mapped, Faults}
 use Rattle.law_given.specs.InTurn.{InTurn, no_call, one_call, stops_here, stops_behind, AfterValue, AllGive, AllEnd}
@@ -60,10 +60,10 @@ module _ (w : PlainSetting) (known : code_at w.codes (code_no 4) ≡ Some (proce
   g = value.Closure (code_no 4) p
 
   abbrev MapGives : List Value → Value → WorldState → Type 0
-  MapGives xs l s = Maps w g (f ∷ l ∷ []) f xs s
+  MapGives xs l s = Maps w (call_to g (f ∷ l ∷ [])) f xs s
 
   abbrev Faulted : List Value → Value → WorldState → Type 0
-  Faulted xs l s = Faults w g (f ∷ l ∷ []) f xs s
+  Faulted xs l s = Faults w (call_to g (f ∷ l ∷ [])) f xs s
 
   abbrev vars : Value → Entries
   vars l = (label 6, Some f) ∷ (label 7, Some l) ∷ []
@@ -72,12 +72,12 @@ module _ (w : PlainSetting) (known : code_at w.codes (code_no 4) ≡ Some (proce
   begun l s = with_cell (cell.Scope (vars l) (Some p)) s
 
   -- the call, by its body
-  body-ends : (l : Value) (s : WorldState) (r : End) (t : WorldState) → ExpressionEnds w map_one (next_place s) (begun l s) r t → CallEnds w g (f ∷ l ∷ []) s r t
+  body-ends : (l : Value) (s : WorldState) (r : End) (t : WorldState) → ExpressionEnds w map_one (next_place s) (begun l s) r t → CallEnds w (call_to g (f ∷ l ∷ [])) s r t
   body-ends l s r t h =
       closure-ends w (code_no 4) p (f ∷ l ∷ []) s r t
       (case-ends w (code_no 4) p (f ∷ l ∷ []) s (procedure_code (code_no 4) (one_case (6 ∷ 7 ∷ []) None map_one) true) (formals (6 ∷ 7 ∷ []) None) map_one r t known refl h)
 
-  body-called : (l : Value) (s : WorldState) (v : Value) (t : WorldState) → Evaluates w map_one (next_place s) (begun l s) v t → Calls w g (f ∷ l ∷ []) s v t
+  body-called : (l : Value) (s : WorldState) (v : Value) (t : WorldState) → Evaluates w map_one (next_place s) (begun l s) v t → Calls w (call_to g (f ∷ l ∷ [])) s v t
   body-called l s v t h = body-ends l s (Ok v) t h
 
   nothing : (s : WorldState) → Home s.cells p (map_home p) → MapGives [] nil s
@@ -120,16 +120,16 @@ module _ (w : PlainSetting) (known : code_at w.codes (code_no 4) ≡ Some (proce
     list-read = own w at q (vars l) p (map_home p) inside (label 7) l refl
 
     -- what the pair's making ends with, the whole ends with
-    by-cons : (r : End) (t : WorldState) → ExpressionEnds w (cons map_first map_others) q at r t → CallEnds w g (f ∷ l ∷ []) s r t
+    by-cons : (r : End) (t : WorldState) → ExpressionEnds w (cons map_first map_others) q at r t → CallEnds w (call_to g (f ∷ l ∷ [])) s r t
     by-cons r t h =
         body-ends l s r t
         (false-ends w _ _ _ q at at t (truth false) r (null-is w (var 7) q at at l list-read false (pair-not-nil at.cells l x d pair-at)) refl h)
 
-    first-ends : (r : End) (u : WorldState) → CallEnds w f (x ∷ []) at r u → ExpressionEnds w map_first q at r u
+    first-ends : (r : End) (u : WorldState) → CallEnds w (call_to f (x ∷ [])) at r u → ExpressionEnds w map_first q at r u
     first-ends r u h = call-one-ends w (var 6) (car (var 7)) q at at at u f x r (own w at q (vars l) p (map_home p) inside (label 6) f refl) (car-is w (var 7) q at at l list-read x d pair-at) h
 
     -- the call faults
-    stops-here : (e : Bare) (u : WorldState) → CallEnds w f (x ∷ []) at (Err e) u → Faulted (x ∷ xs) l s
+    stops-here : (e : Bare) (u : WorldState) → CallEnds w (call_to f (x ∷ [])) at (Err e) u → Faulted (x ∷ xs) l s
     stops-here e u h = record {
       fault = e;
       state = u;
@@ -139,7 +139,7 @@ module _ (w : PlainSetting) (known : code_at w.codes (code_no 4) ≡ Some (proce
       stops = stops_here enter h;
     }
 
-    module _ (y : Value) (u : WorldState) (called : Calls w f (x ∷ []) at y u) where
+    module _ (y : Value) (u : WorldState) (called : Calls w (call_to f (x ∷ [])) at y u) where
       behind : LaterWorld at u
       behind = calls-later w f (x ∷ []) at y u called
 
@@ -149,7 +149,7 @@ module _ (w : PlainSetting) (known : code_at w.codes (code_no 4) ≡ Some (proce
       pair-then : pair_of u.cells l ≡ Some (x, d)
       pair-then = pair_still at.cells u.cells (later-stay at u behind) l x d pair-at
 
-      others-end : (r : End) (t : WorldState) → CallEnds w g (f ∷ d ∷ []) u r t → ExpressionEnds w map_others q u r t
+      others-end : (r : End) (t : WorldState) → CallEnds w (call_to g (f ∷ d ∷ [])) u r t → ExpressionEnds w map_others q u r t
       others-end r t h =
           call-two-ends w (var 2) (var 6) (cdr (var 7)) q u u u u t g f d r
           (outer w u q (vars l) p (map_home p) inside-then (label 2) g refl refl)
@@ -181,7 +181,7 @@ module _ (w : PlainSetting) (known : code_at w.codes (code_no 4) ≡ Some (proce
       }
 
     -- by the end of the call
-    ends-by : (r : End) (u : WorldState) → CallEnds w f (x ∷ []) at r u → AfterValue r (AllEnd w f xs u)
+    ends-by : (r : End) (u : WorldState) → CallEnds w (call_to f (x ∷ [])) at r u → AfterValue r (AllEnd w f xs u)
         → ((v : WorldState) → LaterWorld s v → AllEnd w f xs v → MapGives xs d v ⊎ Faulted xs d v) → MapGives (x ∷ xs) l s ⊎ Faulted (x ∷ xs) l s
     ends-by (Ok y) u h a again = elim (again u (later_then s at u enter (calls-later w f (x ∷ []) at y u h)) a) [
       | inl m ↦ inl (some y u h m)
@@ -209,8 +209,8 @@ module _ (w : PlainSetting) (known : code_at w.codes (code_no 4) ≡ Some (proce
 
   -- What a call that gave a value did.
 
-  only-some : (x l d : Value) (xs : List Value) (s : WorldState) (v : Value) (t : WorldState) → Home s.cells p (map_home p) → pair_of s.cells l ≡ Some (x, d) → Calls w g (f ∷ l ∷ []) s v t
-      → ((u : WorldState) → LaterWorld s u → (y : Value) (q : WorldState) → Calls w g (f ∷ d ∷ []) u y q → Mapped w f xs u y q) → Mapped w f (x ∷ xs) s v t
+  only-some : (x l d : Value) (xs : List Value) (s : WorldState) (v : Value) (t : WorldState) → Home s.cells p (map_home p) → pair_of s.cells l ≡ Some (x, d) → Calls w (call_to g (f ∷ l ∷ [])) s v t
+      → ((u : WorldState) → LaterWorld s u → (y : Value) (q : WorldState) → Calls w (call_to g (f ∷ d ∷ [])) u y q → Mapped w f xs u y q) → Mapped w f (x ∷ xs) s v t
   only-some x l d xs s v t home pair called again = record {
     answers = made.car_value ∷ rest.answers;
     in_turn = subst (λ a. InTurn w f (x ∷ xs) s (made.car_value ∷ rest.answers) a) made.state_is
@@ -239,7 +239,7 @@ module _ (w : PlainSetting) (known : code_at w.codes (code_no 4) ≡ Some (proce
       after : WorldState
       after = with_cell (cell.Pair made.car_value made.cdr_value) made.behind
 
-      first : Calls w f (x ∷ []) start made.car_value made.between
+      first : Calls w (call_to f (x ∷ [])) start made.car_value made.between
       first =
           call-one-back w (var 6) (car (var 7)) place start start start made.between f x made.car_value
           (own w start place (vars l) p (map_home p) (inside x l d xs s home pair) (label 6) f refl)
@@ -248,7 +248,7 @@ module _ (w : PlainSetting) (known : code_at w.codes (code_no 4) ≡ Some (proce
       here_inside : Inside made.between.cells place (vars l) p (map_home p)
       here_inside = inside-then x l d xs s home pair made.car_value made.between first
 
-      others : Calls w g (f ∷ d ∷ []) made.between made.cdr_value made.behind
+      others : Calls w (call_to g (f ∷ d ∷ [])) made.between made.cdr_value made.behind
       others =
           call-two-back w (var 2) (var 6) (cdr (var 7)) place made.between made.between made.between made.between made.behind g f d made.cdr_value
           (outer w made.between place (vars l) p (map_home p) here_inside (label 2) g refl refl)
@@ -259,11 +259,11 @@ module _ (w : PlainSetting) (known : code_at w.codes (code_no 4) ≡ Some (proce
       rest : Mapped w f xs made.between made.cdr_value made.behind
       rest = again made.between (later_then s start made.between (enter x l d xs s home pair) (calls-later w f (x ∷ []) start made.car_value made.between first)) made.cdr_value made.behind others
 
-  pub only-one : (xs : List Value) (l : Value) (s : WorldState) (v : Value) (t : WorldState) → Home s.cells p (map_home p) → IsList s.cells xs l → Calls w g (f ∷ l ∷ []) s v t → Mapped w f xs s v t
+  pub only-one : (xs : List Value) (l : Value) (s : WorldState) (v : Value) (t : WorldState) → Home s.cells p (map_home p) → IsList s.cells xs l → Calls w (call_to g (f ∷ l ∷ [])) s v t → Mapped w f xs s v t
   only-one [] l s v t home r called =
       let m : MapGives [] l s = subst (λ x. MapGives [] x s) (sym (list-none r)) (nothing s home) in
-      let value_is = gives-one-value (call_of w g (f ∷ l ∷ []) s) m.value v m.state t m.called called in
-      let state_is = gives-one-state (call_of w g (f ∷ l ∷ []) s) m.value v m.state t m.called called in
+      let value_is = gives-one-value (call_of w (call_to g (f ∷ l ∷ [])) s) m.value v m.state t m.called called in
+      let state_is = gives-one-state (call_of w (call_to g (f ∷ l ∷ [])) s) m.value v m.state t m.called called in
       record {
         answers = m.answers;
         in_turn = subst (λ a. InTurn w f [] s m.answers a) state_is m.in_turn;

@@ -20,7 +20,7 @@ use Rattle.eval_code.specs.Variables.{Entries, cell_with, assigned}
 use Rattle.law_eval.specs.Kept.{LaterWorld}
 use Rattle.law_eval.proofs.Keeping.{later_then, later_with}
 use Rattle.law_lists.specs.Runs.{IsList}
-use Rattle.law_given.specs.Calls.{End, CallEnds, Calls}
+use Rattle.law_given.specs.Calls.{End, call_to, CallEnds, Calls}
 use Rattle.law_given.specs.Codes.{label, code_no, var, formals, one_case, lambda, text_code, map_one, map_many, map_body, map_text}
 use Rattle.law_given.specs.Given.{Maps, Mapped, Faults}
 use Rattle.law_given.specs.InTurn.{AllGive, AllEnd}
@@ -93,7 +93,7 @@ module _ (w : PlainSetting) (s : WorldState) where
     abbrev inner : WorldState
     inner = with_cell (cell.Scope vars (Some home_place)) ready
 
-    body-ends : (r : End) (t : WorldState) → ExpressionEnds w map_body (next_place ready) inner r t → CallEnds w (value.Prim (record { 0 = names.MAP })) (f ∷ l ∷ []) s r t
+    body-ends : (r : End) (t : WorldState) → ExpressionEnds w map_body (next_place ready) inner r t → CallEnds w (call_to (value.Prim (record { 0 = names.MAP })) (f ∷ l ∷ [])) s r t
     unfolding has_text
     body-ends r t h =
         text-ends w (record { 0 = names.MAP }) (f ∷ l ∷ []) s ready t (text_code names.MAP map_text) map_text (code_no 15) home_place r refl refl knows.map_text refl text-is
@@ -117,7 +117,7 @@ module _ (w : PlainSetting) (s : WorldState) where
     home-inner = record { around = inside.around; is = inside.home }
 
     -- the loop along the list is called
-    loop-ends : (r : End) (t : WorldState) → CallEnds w (value.Closure (code_no 4) home_place) (f ∷ l ∷ []) inner r t → CallEnds w (value.Prim (record { 0 = names.MAP })) (f ∷ l ∷ []) s r t
+    loop-ends : (r : End) (t : WorldState) → CallEnds w (call_to (value.Closure (code_no 4) home_place) (f ∷ l ∷ [])) inner r t → CallEnds w (call_to (value.Prim (record { 0 = names.MAP })) (f ∷ l ∷ [])) s r t
     loop-ends r t h =
         body-ends r t
         (true-ends w _ _ _ q inner inner t (truth true) r
@@ -127,7 +127,7 @@ module _ (w : PlainSetting) (s : WorldState) where
         (own w inner q vars home_place (map_home home_place) inside (label 17) f refl)
         (own w inner q vars home_place (map_home home_place) inside (label 18) l refl) h))
 
-    pub map-given : (xs : List Value) → IsList s.cells xs l → AllGive w f xs s → Maps w (value.Prim (record { 0 = names.MAP })) (f ∷ l ∷ []) f xs s
+    pub map-given : (xs : List Value) → IsList s.cells xs l → AllGive w f xs s → Maps w (call_to (value.Prim (record { 0 = names.MAP })) (f ∷ l ∷ [])) f xs s
     map-given xs r give = record {
       value = m.value;
       state = m.state;
@@ -137,11 +137,11 @@ module _ (w : PlainSetting) (s : WorldState) where
       list = m.list;
     }
       where
-        m : Maps w (value.Closure (code_no 4) home_place) (f ∷ l ∷ []) f xs inner
+        m : Maps w (call_to (value.Closure (code_no 4) home_place) (f ∷ l ∷ [])) f xs inner
         m = map-one w knows.map_one f home_place xs l inner home-inner (list-later s inner behind xs l r) (all-give-later w f xs s inner behind give)
 
     pub map-ended : (xs : List Value) → IsList s.cells xs l → AllEnd w f xs s
-        → Maps w (value.Prim (record { 0 = names.MAP })) (f ∷ l ∷ []) f xs s ⊎ Faults w (value.Prim (record { 0 = names.MAP })) (f ∷ l ∷ []) f xs s
+        → Maps w (call_to (value.Prim (record { 0 = names.MAP })) (f ∷ l ∷ [])) f xs s ⊎ Faults w (call_to (value.Prim (record { 0 = names.MAP })) (f ∷ l ∷ [])) f xs s
     map-ended xs r give = elim (map-ends w knows.map_one f home_place xs l inner home-inner (list-later s inner behind xs l r) (all-end-later w f xs s inner behind give)) [
       | inl m ↦ inl (record {
         value = m.value;
@@ -155,7 +155,7 @@ module _ (w : PlainSetting) (s : WorldState) where
     ]
 
     -- what a call that gave a value did
-    pub map-only : (xs : List Value) (v : Value) (t : WorldState) → IsList s.cells xs l → Calls w (value.Prim (record { 0 = names.MAP })) (f ∷ l ∷ []) s v t → Mapped w f xs s v t
+    pub map-only : (xs : List Value) (v : Value) (t : WorldState) → IsList s.cells xs l → Calls w (call_to (value.Prim (record { 0 = names.MAP })) (f ∷ l ∷ [])) s v t → Mapped w f xs s v t
     unfolding has_text
     map-only xs v t r called = record { answers = m.answers; in_turn = in-turn-from w f xs m.answers s inner t behind m.in_turn; list = m.list }
       where
@@ -164,7 +164,7 @@ module _ (w : PlainSetting) (s : WorldState) where
             case-back w (code_no 15) home_place (f ∷ l ∷ []) ready (procedure_code (code_no 15) (one_case (17 ∷ 18 ∷ []) (Some 19) map_body) true) (formals (17 ∷ 18 ∷ []) (Some 19)) map_body v t knows.map_body refl
             (text-back w (record { 0 = names.MAP }) (f ∷ l ∷ []) s ready t (text_code names.MAP map_text) map_text (code_no 15) home_place v refl refl knows.map_text refl text-is called)
 
-        looped : Calls w (value.Closure (code_no 4) home_place) (f ∷ l ∷ []) inner v t
+        looped : Calls w (call_to (value.Closure (code_no 4) home_place) (f ∷ l ∷ [])) inner v t
         looped =
             call-two-back w (var 2) (var 17) (var 18) q inner inner inner inner t (value.Closure (code_no 4) home_place) f l v
             (outer w inner q vars home_place (map_home home_place) inside (label 2) (value.Closure (code_no 4) home_place) refl refl)

@@ -15,7 +15,7 @@ use Rattle.eval_code.specs.Variables.{Entries}
 use Rattle.law_eval.specs.Kept.{LaterWorld}
 use Rattle.law_eval.proofs.Keeping.{later_then}
 use Rattle.law_lists.specs.Runs.{IsList}
-use Rattle.law_given.specs.Calls.{call_of, Calls}
+use Rattle.law_given.specs.Calls.{call_to, call_of, Calls}
 use Rattle.law_given.specs.Codes.{label, code_no, var, one_case, app, car, cdr, memp_some, memp_loop}
 use Rattle.law_given.specs.Given.{FindsTail, TailFound, IsTail}
 use Rattle.law_given.specs.InTurn.{SearchCalls, passed, there}
@@ -46,8 +46,8 @@ module _ (w : PlainSetting) (known : code_at w.codes (code_no 86) ≡ Some (proc
   names : Names 85 88 89 home g
   names = record { procedure = λ f l. refl; list = λ f l. refl; no_loop = λ f l. refl; loop = refl }
 
-  module _ (x l d : Value) (xs : List Value) (s : WorldState) (round : Home s.cells p home) (pair : pair_of s.cells l ≡ Some (x, d)) (v : Value) (t : WorldState) (called : Calls w g (f ∷ l ∷ []) s v t)
-      (again : (u : WorldState) → LaterWorld s u → (y : Value) (r : WorldState) → Calls w g (f ∷ d ∷ []) u y r → TailFound w f d xs u y r) where
+  module _ (x l d : Value) (xs : List Value) (s : WorldState) (round : Home s.cells p home) (pair : pair_of s.cells l ≡ Some (x, d)) (v : Value) (t : WorldState) (called : Calls w (call_to g (f ∷ l ∷ [])) s v t)
+      (again : (u : WorldState) → LaterWorld s u → (y : Value) (r : WorldState) → Calls w (call_to g (f ∷ d ∷ [])) u y r → TailFound w f d xs u y r) where
     abbrev at : WorldState
     at = loop.entered w 86 85 88 89 memp_loop known p home names f l s round
 
@@ -65,7 +65,7 @@ module _ (w : PlainSetting) (known : code_at w.codes (code_no 86) ≡ Some (proc
     parts : Parted (eval_of w (app (var 88) (car (var 89) ∷ [])) q at) (two_arms w (eval_of w) (var 89) (app (var 85) (var 88 ∷ cdr (var 89) ∷ [])) q) v t
     parts = if-back w (app (var 88) (car (var 89) ∷ [])) (var 89) (app (var 85) (var 88 ∷ cdr (var 89) ∷ [])) q at v t choice
 
-    first : Calls w f (x ∷ []) at parts.value parts.state
+    first : Calls w (call_to f (x ∷ [])) at parts.value parts.state
     first = first-back w 86 85 88 89 memp_loop known p home names f l s round at (later-refl at) x d pair parts.value parts.state parts.first
 
     behind : LaterWorld at parts.state
@@ -100,7 +100,7 @@ module _ (w : PlainSetting) (known : code_at w.codes (code_no 86) ≡ Some (proc
       tail = longer w known f p t.cells x l d (pair_still s.cells t.cells (later-stay s t (later_then s parts.state t far (calls-later w g (f ∷ d ∷ []) parts.state v t others))) l x d pair) rest.rest v rest.tail;
     }
       where
-        others : Calls w g (f ∷ d ∷ []) parts.state v t
+        others : Calls w (call_to g (f ∷ d ∷ [])) parts.state v t
         others =
             again-back w 86 85 88 89 memp_loop known p home names f l s round parts.state behind x d pair v t
             (arms-false w (truth_of parts.value) (eval_of w (var 89) q parts.state) (eval_of w (app (var 85) (var 88 ∷ cdr (var 89) ∷ [])) q parts.state) v t e parts.onward)
@@ -111,11 +111,11 @@ module _ (w : PlainSetting) (known : code_at w.codes (code_no 86) ≡ Some (proc
     some-did : IsList s.cells (x ∷ xs) l → TailFound w f l (x ∷ xs) s v t
     some-did r = by-truth (truth_of parts.value) (TailFound w f l (x ∷ xs) s v t) (taken r) missed
 
-  loop-did : (xs : List Value) (l : Value) (s : WorldState) (v : Value) (t : WorldState) → Home s.cells p home → IsList s.cells xs l → Calls w g (f ∷ l ∷ []) s v t → TailFound w f l xs s v t
+  loop-did : (xs : List Value) (l : Value) (s : WorldState) (v : Value) (t : WorldState) → Home s.cells p home → IsList s.cells xs l → Calls w (call_to g (f ∷ l ∷ [])) s v t → TailFound w f l xs s v t
   loop-did [] l s v t round r called =
-      let m : FindsTail w g (f ∷ l ∷ []) f l [] s = memp-loop w known f p [] l s round r tt in
-      let value_is = gives-one-value (call_of w g (f ∷ l ∷ []) s) m.value v m.state t m.called called in
-      let state_is = gives-one-state (call_of w g (f ∷ l ∷ []) s) m.value v m.state t m.called called in
+      let m : FindsTail w (call_to g (f ∷ l ∷ [])) f l [] s = memp-loop w known f p [] l s round r tt in
+      let value_is = gives-one-value (call_of w (call_to g (f ∷ l ∷ [])) s) m.value v m.state t m.called called in
+      let state_is = gives-one-state (call_of w (call_to g (f ∷ l ∷ [])) s) m.value v m.state t m.called called in
       record {
         rest = m.rest;
         search = subst (λ a. SearchCalls w f [] s m.rest a) state_is m.search;
@@ -125,7 +125,7 @@ module _ (w : PlainSetting) (known : code_at w.codes (code_no 86) ≡ Some (proc
       let c = list-some r in
       some-did x l c.0 xs s round c.1 v t called (λ u k y z h. loop-did xs c.0 u y z (home-later s u k p home round) (list-later s u k xs c.0 c.2) h) r
 
-pub memp-only : (w : PlainSetting) (knows : Knows w.codes) (f l : Value) (xs : List Value) (s : WorldState) (v : Value) (t : WorldState) → IsList s.cells xs l → Calls w (value.Prim (record { 0 = ops.MEMP })) (f ∷ l ∷ []) s v t
+pub memp-only : (w : PlainSetting) (knows : Knows w.codes) (f l : Value) (xs : List Value) (s : WorldState) (v : Value) (t : WorldState) → IsList s.cells xs l → Calls w (call_to (value.Prim (record { 0 = ops.MEMP })) (f ∷ l ∷ [])) s v t
     → TailFound w f l xs s v t
 unfolding has_text
 memp-only w knows f l xs s v t r called = record { rest = m.rest; search = search-from w f xs m.rest s (ready w s 85 86) t (ready-later w s 85 86) m.search; tail = m.tail }

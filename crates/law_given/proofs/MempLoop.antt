@@ -15,7 +15,7 @@ use Rattle.eval_code.specs.Variables.{Entries}
 use Rattle.law_eval.specs.Kept.{LaterWorld}
 use Rattle.law_eval.proofs.Keeping.{later_then}
 use Rattle.law_lists.specs.Runs.{here, IsList}
-use Rattle.law_given.specs.Calls.{Calls}
+use Rattle.law_given.specs.Calls.{call_to, Calls}
 use Rattle.law_given.specs.Codes.{label, code_no, var, one_case, app, car, memp_some, memp_loop}
 use Rattle.law_given.specs.Given.{FindsTail}
 use Rattle.law_given.specs.InTurn.{not_there, passed, there, SearchGives}
@@ -40,7 +40,7 @@ module _ (w : PlainSetting) (known : code_at w.codes (code_no 86) ≡ Some (proc
   g = value.Closure (code_no 86) p
 
   abbrev FoundGiven : List Value → Value → WorldState → Type 0
-  FoundGiven xs l s = FindsTail w g (f ∷ l ∷ []) f l xs s
+  FoundGiven xs l s = FindsTail w (call_to g (f ∷ l ∷ [])) f l xs s
 
   abbrev names : Names 85 88 89 home g
   names = record { procedure = λ f l. refl; list = λ f l. refl; no_loop = λ f l. refl; loop = refl }
@@ -71,14 +71,14 @@ module _ (w : PlainSetting) (known : code_at w.codes (code_no 86) ≡ Some (proc
     enter : LaterWorld s s1
     enter = loop.entered-later w 86 85 88 89 memp_loop known p home names f l s round
 
-    with-test : (y : Value) (u : WorldState) (v : Value) (t : WorldState) → Calls w f (x ∷ []) s1 y u
-        → (Evaluates w (app (var 88) (car (var 89) ∷ [])) (next_place s) s1 y u → Evaluates w memp_some (next_place s) s1 v t) → Calls w g (f ∷ l ∷ []) s v t
+    with-test : (y : Value) (u : WorldState) (v : Value) (t : WorldState) → Calls w (call_to f (x ∷ [])) s1 y u
+        → (Evaluates w (app (var 88) (car (var 89) ∷ [])) (next_place s) s1 y u → Evaluates w memp_some (next_place s) s1 v t) → Calls w (call_to g (f ∷ l ∷ [])) s v t
     with-test y u v t called h =
         loop.loop-called w 86 85 88 89 memp_loop known p home names f l s round v t
         (if-false w _ _ _ (next_place s) s1 s1 t (truth false) v (loop.not-null w 86 85 88 89 memp_loop known p home names f l s round s1 (later-refl s1) x d pair) refl
         (h (loop.first-called w 86 85 88 89 memp_loop known p home names f l s round s1 (later-refl s1) x d pair y u called)))
 
-    pub found : IsList s.cells (x ∷ xs) l → (y : Value) (u : WorldState) → Calls w f (x ∷ []) s1 y u → truth_of y ≡ true → FoundGiven (x ∷ xs) l s
+    pub found : IsList s.cells (x ∷ xs) l → (y : Value) (u : WorldState) → Calls w (call_to f (x ∷ [])) s1 y u → truth_of y ≡ true → FoundGiven (x ∷ xs) l s
     found r y u called e = record {
       value = l;
       state = u;
@@ -91,7 +91,7 @@ module _ (w : PlainSetting) (known : code_at w.codes (code_no 86) ≡ Some (proc
         behind : LaterWorld s1 u
         behind = calls-later w f (x ∷ []) s1 y u called
 
-    pub missed : (y : Value) (u : WorldState) → Calls w f (x ∷ []) s1 y u → truth_of y ≡ false → FoundGiven xs d u → FoundGiven (x ∷ xs) l s
+    pub missed : (y : Value) (u : WorldState) → Calls w (call_to f (x ∷ [])) s1 y u → truth_of y ≡ false → FoundGiven xs d u → FoundGiven (x ∷ xs) l s
     missed y u called e rest = record {
       value = rest.value;
       state = rest.state;

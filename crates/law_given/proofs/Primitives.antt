@@ -25,7 +25,7 @@ use Rattle.eval_code.specs.Meaning.{quoted_value}
 use Rattle.eval_code.specs.Procedures.{has_text, truth_of}
 use Rattle.eval_code.specs.Setting.{PlainSetting}
 use Rattle.eval_code.specs.State.{WorldState, done, store, with_cell}
-use Rattle.law_given.specs.Calls.{Gives, Calls}
+use Rattle.law_given.specs.Calls.{Gives, call_to, Calls}
 use Rattle.law_given.specs.Codes.{prim, app, car, cdr, is_null, cons}
 use Rattle.law_given.proofs.Giving.{gives-done, gives-charged, Evaluates, evaluates-step, ExpressionEnds, primitive-is, operand-ends, operand-stops, call-ends, call-one, call-two}
 use Rattle.law_given.proofs.Calling.{plain-called}
@@ -93,19 +93,19 @@ module _ (cells : List Cell) (frames : Scope) where
 
 module _ (w : PlainSetting) where
   -- a call of a primitive of one argument that makes no cell
-  pub null-called : (x : Value) (s : WorldState) → Calls w (value.Prim (record { 0 = names.IS_NULL })) (x ∷ []) s (truth (is_nil x)) s
+  pub null-called : (x : Value) (s : WorldState) → Calls w (call_to (value.Prim (record { 0 = names.IS_NULL })) (x ∷ [])) s (truth (is_nil x)) s
   unfolding has_text
   null-called x s = plain-called w (record { 0 = names.IS_NULL }) (x ∷ []) s (made.Value (truth (is_nil x))) refl refl refl (null-answer s.cells w.frames x)
 
-  pub not-called : (x : Value) (s : WorldState) → Calls w (value.Prim (record { 0 = names.NOT })) (x ∷ []) s (truth (is_false x)) s
+  pub not-called : (x : Value) (s : WorldState) → Calls w (call_to (value.Prim (record { 0 = names.NOT })) (x ∷ [])) s (truth (is_false x)) s
   unfolding has_text
   not-called x s = plain-called w (record { 0 = names.NOT }) (x ∷ []) s (made.Value (truth (is_false x))) refl refl refl (not-answer s.cells w.frames x)
 
-  pub car-called : (x y d : Value) (s : WorldState) → pair_of s.cells x ≡ Some (y, d) → Calls w (value.Prim (record { 0 = names.CAR })) (x ∷ []) s y s
+  pub car-called : (x y d : Value) (s : WorldState) → pair_of s.cells x ≡ Some (y, d) → Calls w (call_to (value.Prim (record { 0 = names.CAR })) (x ∷ [])) s y s
   unfolding has_text
   car-called x y d s e = plain-called w (record { 0 = names.CAR }) (x ∷ []) s (made.Value y) refl refl refl (car-answer s.cells w.frames x y d e)
 
-  pub cdr-called : (x y d : Value) (s : WorldState) → pair_of s.cells x ≡ Some (y, d) → Calls w (value.Prim (record { 0 = names.CDR })) (x ∷ []) s d s
+  pub cdr-called : (x y d : Value) (s : WorldState) → pair_of s.cells x ≡ Some (y, d) → Calls w (call_to (value.Prim (record { 0 = names.CDR })) (x ∷ [])) s d s
   unfolding has_text
   cdr-called x y d s e = plain-called w (record { 0 = names.CDR }) (x ∷ []) s (made.Value d) refl refl refl (cdr-answer s.cells w.frames x y d e)
 
@@ -113,24 +113,24 @@ module _ (w : PlainSetting) where
   abbrev pub next_pair : WorldState → Value
   next_pair s = value.Pair (record { 0 = length s.cells })
 
-  pub cons-called : (x y : Value) (s : WorldState) → Calls w (value.Prim (record { 0 = names.CONS })) (x ∷ y ∷ []) s (next_pair s) (with_cell (cell.Pair x y) s)
+  pub cons-called : (x y : Value) (s : WorldState) → Calls w (call_to (value.Prim (record { 0 = names.CONS })) (x ∷ y ∷ [])) s (next_pair s) (with_cell (cell.Pair x y) s)
   unfolding has_text
   cons-called x y s = plain-called w (record { 0 = names.CONS }) (x ∷ y ∷ []) s (made.List (x ∷ []) y) refl refl refl (cons-answer s.cells w.frames x y)
 
-  pub list-called : (x : Value) (s : WorldState) → Calls w (value.Prim (record { 0 = names.LIST })) (x ∷ []) s (next_pair s) (with_cell (cell.Pair x nil) s)
+  pub list-called : (x : Value) (s : WorldState) → Calls w (call_to (value.Prim (record { 0 = names.LIST })) (x ∷ [])) s (next_pair s) (with_cell (cell.Pair x nil) s)
   unfolding has_text
   list-called x s = plain-called w (record { 0 = names.LIST }) (x ∷ []) s (made.List (x ∷ []) nil) refl refl refl (list-answer s.cells w.frames x)
 
   -- `append` of a list and a value
   pub appended : (x y : Value) (xs : List Value) (s : WorldState) → list_elements s.cells x ≡ Some xs
-      → Calls w (value.Prim (record { 0 = names.APPEND })) (x ∷ y ∷ []) s (pairs_stored xs (y, s.cells)).0 (store (pairs_stored xs (y, s.cells)).1 s.names)
+      → Calls w (call_to (value.Prim (record { 0 = names.APPEND })) (x ∷ y ∷ [])) s (pairs_stored xs (y, s.cells)).0 (store (pairs_stored xs (y, s.cells)).1 s.names)
   unfolding has_text
   appended x y xs s e = plain-called w (record { 0 = names.APPEND }) (x ∷ y ∷ []) s (made.List xs y) refl refl refl (append-answer s.cells w.frames x y xs e)
 
   -- Expressions that call them.
 
   module _ (c : PlainCore) (scope : Place) (s t : WorldState) (x : Value) (h : Evaluates w c scope s x t) where
-    one : (op : ℕ) (v : Value) (u : WorldState) → Calls w (value.Prim (record { 0 = op })) (x ∷ []) t v u → Evaluates w (app (prim op) (c ∷ [])) scope s v u
+    one : (op : ℕ) (v : Value) (u : WorldState) → Calls w (call_to (value.Prim (record { 0 = op })) (x ∷ [])) t v u → Evaluates w (app (prim op) (c ∷ [])) scope s v u
     one op v u k = call-one w (prim op) c scope s s t u (value.Prim (record { 0 = op })) x v (primitive-is w (record { 0 = op }) scope s) h k
 
     pub null-is : (b : Bool) → is_nil x ≡ b → Evaluates w (is_null c) scope s (truth b) t

@@ -16,7 +16,7 @@ use Rattle.eval_code.specs.Variables.{Entries}
 use Rattle.law_eval.specs.Kept.{LaterWorld}
 use Rattle.law_eval.proofs.Keeping.{later_then, later_with}
 use Rattle.law_lists.specs.Runs.{IsList}
-use Rattle.law_given.specs.Calls.{call_of, Calls}
+use Rattle.law_given.specs.Calls.{call_to, call_of, Calls}
 use Rattle.law_given.specs.Codes.{label, code_no, var, prim, formals, one_case, lambda, app, text_code, remp_test, remp_body, remp_text}
 use Rattle.law_given.specs.Given.{Filters, Filtered}
 use Rattle.law_given.specs.InTurn.{InTurn, no_call, one_call, AllGive, when_true, chosen, others}
@@ -48,7 +48,7 @@ module _ (w : PlainSetting) (knows : Knows w.codes) (f l : Value) where
     abbrev tested : Value → WorldState → WorldState
     tested x s = with_cell (cell.Scope ((label 74, Some x) ∷ []) (Some p)) s
 
-    pub turned-called : (x : Value) (s : WorldState) → Home s.cells p vars → (y : Value) (t : WorldState) → Calls w f (x ∷ []) (tested x s) y t → Calls w turned (x ∷ []) s (truth (is_false y)) t
+    pub turned-called : (x : Value) (s : WorldState) → Home s.cells p vars → (y : Value) (t : WorldState) → Calls w (call_to f (x ∷ [])) (tested x s) y t → Calls w (call_to turned (x ∷ [])) s (truth (is_false y)) t
     turned-called x s round y t h =
         closure-called w (code_no 72) p (x ∷ []) s (truth (is_false y)) t
         (case-called w (code_no 72) p (x ∷ []) s (procedure_code (code_no 72) (one_case (74 ∷ []) None remp_test) true) (formals (74 ∷ []) None) remp_test (truth (is_false y)) t knows.remp_test refl
@@ -60,7 +60,7 @@ module _ (w : PlainSetting) (knows : Knows w.codes) (f l : Value) where
         inside : Inside (tested x s).cells (next_place s) ((label 74, Some x) ∷ []) p vars
         inside = entered-inside s ((label 74, Some x) ∷ []) p vars round
 
-    pub far : (x : Value) (s : WorldState) (y : Value) (t : WorldState) → Calls w f (x ∷ []) (tested x s) y t → LaterWorld s t
+    pub far : (x : Value) (s : WorldState) (y : Value) (t : WorldState) → Calls w (call_to f (x ∷ [])) (tested x s) y t → LaterWorld s t
     far x s y t h = later_then s (tested x s) t (later_with s (cell.Scope ((label 74, Some x) ∷ []) (Some p))) (calls-later w f (x ∷ []) (tested x s) y t h)
 
     turned-gives : (xs : List Value) (s : WorldState) → Home s.cells p vars → AllGive w f xs s → AllGive w turned xs s
@@ -82,8 +82,8 @@ module _ (w : PlainSetting) (knows : Knows w.codes) (f l : Value) where
         let enter = later_then s r (tested x r) from (later_with r (cell.Scope ((label 74, Some x) ∷ []) (Some p))) in
         let made = give (tested x r) enter in
         let called = turned-called x r around made.0 made.1 made.2 in
-        let value_is : truth (is_false made.0) ≡ z = gives-one-value (call_of w turned (x ∷ []) r) (truth (is_false made.0)) z made.1 u called c in
-        let state_is : made.1 ≡ u = gives-one-state (call_of w turned (x ∷ []) r) (truth (is_false made.0)) z made.1 u called c in
+        let value_is : truth (is_false made.0) ≡ z = gives-one-value (call_of w (call_to turned (x ∷ [])) r) (truth (is_false made.0)) z made.1 u called c in
+        let state_is : made.1 ≡ u = gives-one-state (call_of w (call_to turned (x ∷ [])) r) (truth (is_false made.0)) z made.1 u called c in
         let rest = turned-back xs' zs' u made.1 t (sym state_is) (home-later r made.1 (far x r made.0 made.1 made.2) p vars around) made.3 i in (
           made.0 ∷ rest.0,
           one_call enter made.2 rest.1,
@@ -102,12 +102,12 @@ module _ (w : PlainSetting) (knows : Knows w.codes) (f l : Value) where
         let called = call-one-back w (var 69) (var 74) (next_place r) (tested x r) (tested x r) (tested x r) asked.state f x asked.value
         (outer w (tested x r) (next_place r) ((label 74, Some x) ∷ []) p vars inside (label 69) f refl refl)
         (own w (tested x r) (next_place r) ((label 74, Some x) ∷ []) p vars inside (label 74) x refl) asked.first in
-        let value_is : truth (is_false asked.value) ≡ z = gives-one-value (call_of w (value.Prim (record { 0 = names.NOT })) (asked.value ∷ []) asked.state) (truth (is_false asked.value)) z asked.state u (not-called w asked.value asked.state) asked.onward in
-        let state_is : asked.state ≡ u = gives-one-state (call_of w (value.Prim (record { 0 = names.NOT })) (asked.value ∷ []) asked.state) (truth (is_false asked.value)) z asked.state u (not-called w asked.value asked.state) asked.onward in
+        let value_is : truth (is_false asked.value) ≡ z = gives-one-value (call_of w (call_to (value.Prim (record { 0 = names.NOT })) (asked.value ∷ [])) asked.state) (truth (is_false asked.value)) z asked.state u (not-called w asked.value asked.state) asked.onward in
+        let state_is : asked.state ≡ u = gives-one-state (call_of w (call_to (value.Prim (record { 0 = names.NOT })) (asked.value ∷ [])) asked.state) (truth (is_false asked.value)) z asked.state u (not-called w asked.value asked.state) asked.onward in
         let enter = later_then s r (tested x r) k (later_with r (cell.Scope ((label 74, Some x) ∷ []) (Some p))) in
         let rest = turned-did xs' zs' u t (home-later r u (calls-later w turned (x ∷ []) r z u c) p vars around) i in (
           asked.value ∷ rest.0,
-          one_call enter (subst (λ a. Calls w f (x ∷ []) (tested x r) asked.value a) state_is called) rest.1,
+          one_call enter (subst (λ a. Calls w (call_to f (x ∷ [])) (tested x r) asked.value a) state_is called) rest.1,
           ap (λ v. when_true (truth_of v) x (chosen xs' zs')) (sym value_is) ∙ ap (λ b. when_true b x (chosen xs' zs')) (not-turns asked.value)
               ∙ turned-choice (truth_of asked.value) x (chosen xs' zs') (others xs' rest.0) rest.2,
         )
@@ -122,14 +122,14 @@ module _ (w : PlainSetting) (knows : Knows w.codes) (f l : Value) where
     abbrev q : Place
     q = next_place outside
 
-    called-by-body : (v : Value) (t : WorldState) → Evaluates w remp_body q inner v t → Calls w (value.Prim (record { 0 = names.REMP })) (f ∷ l ∷ []) s v t
+    called-by-body : (v : Value) (t : WorldState) → Evaluates w remp_body q inner v t → Calls w (call_to (value.Prim (record { 0 = names.REMP })) (f ∷ l ∷ [])) s v t
     unfolding has_text
     called-by-body v t h =
         text-called w (record { 0 = names.REMP }) (f ∷ l ∷ []) s outside t (text_code names.REMP remp_text) remp_text (code_no 67) (next_place s) v refl refl knows.remp_text refl
         (procedure-is w (code_no 67) (one_case (69 ∷ 70 ∷ []) None remp_body) true (next_place s) outside)
         (case-called w (code_no 67) (next_place s) (f ∷ l ∷ []) outside (procedure_code (code_no 67) (one_case (69 ∷ 70 ∷ []) None remp_body) true) (formals (69 ∷ 70 ∷ []) None) remp_body v t knows.remp_body refl h)
 
-    pub remp-given : (xs : List Value) → IsList s.cells xs l → AllGive w f xs s → Filters w (value.Prim (record { 0 = names.REMP })) (f ∷ l ∷ []) f others xs s
+    pub remp-given : (xs : List Value) → IsList s.cells xs l → AllGive w f xs s → Filters w (call_to (value.Prim (record { 0 = names.REMP })) (f ∷ l ∷ [])) f others xs s
     remp-given xs r give = record {
       value = m.value;
       state = m.state;
@@ -154,14 +154,14 @@ module _ (w : PlainSetting) (knows : Knows w.codes) (f l : Value) where
         gives : AllGive w f xs inner
         gives = all-give-later w f xs s inner behind give
 
-        m : Filters w (value.Prim (record { 0 = names.FILTER })) (turned q ∷ l ∷ []) (turned q) chosen xs inner
+        m : Filters w (call_to (value.Prim (record { 0 = names.FILTER })) (turned q ∷ l ∷ [])) (turned q) chosen xs inner
         m = filter-given w knows (turned q) l xs inner (list-later s inner behind xs l r) (turned-gives q xs inner round gives)
 
         back : Behind q xs m.answers inner m.state
         back = turned-back q xs m.answers inner inner m.state refl round gives m.in_turn
 
     -- what a call that gave a value did
-    pub remp-only : (xs : List Value) (v : Value) (t : WorldState) → IsList s.cells xs l → Calls w (value.Prim (record { 0 = names.REMP })) (f ∷ l ∷ []) s v t → Filtered w f others xs s v t
+    pub remp-only : (xs : List Value) (v : Value) (t : WorldState) → IsList s.cells xs l → Calls w (call_to (value.Prim (record { 0 = names.REMP })) (f ∷ l ∷ [])) s v t → Filtered w f others xs s v t
     unfolding has_text
     remp-only xs v t r called = record { answers = back.0; in_turn = in-turn-from w f xs back.0 s inner t behind back.1; list = subst (λ ys. IsList t.cells ys v) back.2 m.list }
       where

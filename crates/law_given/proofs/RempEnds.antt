@@ -19,7 +19,7 @@ use Rattle.eval_code.specs.Variables.{Entries}
 use Rattle.law_eval.specs.Kept.{LaterWorld}
 use Rattle.law_eval.proofs.Keeping.{later_then, later_with}
 use Rattle.law_lists.specs.Runs.{IsList}
-use Rattle.law_given.specs.Calls.{End, call_of, CallEnds, Calls}
+use Rattle.law_given.specs.Calls.{End, call_to, call_of, CallEnds, Calls}
 use Rattle.law_given.specs.Codes.{label, code_no, var, prim, formals, one_case, lambda, app, text_code, remp_test, remp_body, remp_text}
 use Rattle.law_given.specs.Given.{Filters, Faults}
 use Rattle.law_given.specs.InTurn.{InTurn, Stops, stops_here, stops_behind, AfterValue, AllEnd, chosen, others}
@@ -44,7 +44,7 @@ module _ (w : PlainSetting) (knows : Knows w.codes) (f l : Value) where
     abbrev tested : Value → WorldState → WorldState
     tested x s = with_cell (cell.Scope ((label 74, Some x) ∷ []) (Some p)) s
 
-    turned-stops : (x : Value) (s : WorldState) → Home s.cells p vars → (e : Bare) (t : WorldState) → CallEnds w f (x ∷ []) (tested x s) (Err e) t → CallEnds w turned (x ∷ []) s (Err e) t
+    turned-stops : (x : Value) (s : WorldState) → Home s.cells p vars → (e : Bare) (t : WorldState) → CallEnds w (call_to f (x ∷ [])) (tested x s) (Err e) t → CallEnds w (call_to turned (x ∷ [])) s (Err e) t
     turned-stops x s round e t h =
         closure-ends w (code_no 72) p (x ∷ []) s (Err e) t
         (case-ends w (code_no 72) p (x ∷ []) s (procedure_code (code_no 72) (one_case (74 ∷ []) None remp_test) true) (formals (74 ∷ []) None) remp_test (Err e) t knows.remp_test refl
@@ -58,9 +58,9 @@ module _ (w : PlainSetting) (knows : Knows w.codes) (f l : Value) where
         inside : Inside (tested x s).cells (next_place s) ((label 74, Some x) ∷ []) p vars
         inside = entered-inside s ((label 74, Some x) ∷ []) p vars round
 
-    turned-end : (x : Value) (xs : List Value) (t : WorldState) → Home t.cells p vars → (r : End) (u : WorldState) → CallEnds w f (x ∷ []) (tested x t) r u → AfterValue r (AllEnd w f xs u)
+    turned-end : (x : Value) (xs : List Value) (t : WorldState) → Home t.cells p vars → (r : End) (u : WorldState) → CallEnds w (call_to f (x ∷ [])) (tested x t) r u → AfterValue r (AllEnd w f xs u)
         → ((v : WorldState) → Home v.cells p vars → AllEnd w f xs v → AllEnd w turned xs v)
-        → (q : End) × (v : WorldState) × CallEnds w turned (x ∷ []) t q v × AfterValue q (AllEnd w turned xs v)
+        → (q : End) × (v : WorldState) × CallEnds w (call_to turned (x ∷ [])) t q v × AfterValue q (AllEnd w turned xs v)
     turned-end x xs t round (Ok y) u h a again = (Ok (truth (is_false y)), u, turned-called w knows f l p x t round y u h, again u (home-later t u (far w knows f l p x t y u h) p vars round) a)
     turned-end x xs t round (Err e) u h a again = (Err e, u, turned-stops x t round e u h, tt)
 
@@ -71,26 +71,26 @@ module _ (w : PlainSetting) (knows : Knows w.codes) (f l : Value) where
         turned-end x xs t (home-later s t k p vars round) made.0 made.1 made.2 made.3 (λ v around a. turned-ends xs v around a)
 
     -- the call of f that stopped that procedure
-    stop-here : (x : Value) (xs : List Value) (e : Bare) (s r t : WorldState) → LaterWorld s r → Home r.cells p vars → CallEnds w turned (x ∷ []) r (Err e) t
-        → (q : End) (u : WorldState) → CallEnds w f (x ∷ []) (tested x r) q u → Stops w f (x ∷ xs) s e t
+    stop-here : (x : Value) (xs : List Value) (e : Bare) (s r t : WorldState) → LaterWorld s r → Home r.cells p vars → CallEnds w (call_to turned (x ∷ [])) r (Err e) t
+        → (q : End) (u : WorldState) → CallEnds w (call_to f (x ∷ [])) (tested x r) q u → Stops w f (x ∷ xs) s e t
     stop-here x xs e s r t k round c (Ok y) u h =
-        let wrong : Ok (truth (is_false y)) ≡ Err e = ends-one-end (call_of w turned (x ∷ []) r) (Ok (truth (is_false y))) (Err e) u t (turned-called w knows f l p x r round y u h) c in
+        let wrong : Ok (truth (is_false y)) ≡ Err e = ends-one-end (call_of w (call_to turned (x ∷ [])) r) (Ok (truth (is_false y))) (Err e) u t (turned-called w knows f l p x r round y u h) c in
         absurd (cc)
     stop-here x xs e s r t k round c (Err d) u h =
-        let mine : CallEnds w turned (x ∷ []) r (Err d) u = turned-stops x r round d u h in
+        let mine : CallEnds w (call_to turned (x ∷ [])) r (Err d) u = turned-stops x r round d u h in
         stops_here (later_then s r (tested x r) k (later_with r (cell.Scope ((label 74, Some x) ∷ []) (Some p))))
-        (subst (λ a. CallEnds w f (x ∷ []) (tested x r) (Err e) a) (ends-one-state (call_of w turned (x ∷ []) r) (Err d) (Err e) u t mine c)
-        (subst (λ a. CallEnds w f (x ∷ []) (tested x r) a u) (ends-one-end (call_of w turned (x ∷ []) r) (Err d) (Err e) u t mine c) h))
+        (subst (λ a. CallEnds w (call_to f (x ∷ [])) (tested x r) (Err e) a) (ends-one-state (call_of w (call_to turned (x ∷ [])) r) (Err d) (Err e) u t mine c)
+        (subst (λ a. CallEnds w (call_to f (x ∷ [])) (tested x r) a u) (ends-one-end (call_of w (call_to turned (x ∷ [])) r) (Err d) (Err e) u t mine c) h))
 
-    stop-behind : (x z : Value) (xs : List Value) (e : Bare) (s r b t : WorldState) → LaterWorld s r → Home r.cells p vars → Calls w turned (x ∷ []) r z b → Stops w turned xs b e t
-        → (q : End) (u : WorldState) → CallEnds w f (x ∷ []) (tested x r) q u → AfterValue q (AllEnd w f xs u)
+    stop-behind : (x z : Value) (xs : List Value) (e : Bare) (s r b t : WorldState) → LaterWorld s r → Home r.cells p vars → Calls w (call_to turned (x ∷ [])) r z b → Stops w turned xs b e t
+        → (q : End) (u : WorldState) → CallEnds w (call_to f (x ∷ [])) (tested x r) q u → AfterValue q (AllEnd w f xs u)
         → ((v : WorldState) → Home v.cells p vars → AllEnd w f xs v → Stops w turned xs v e t → Stops w f xs v e t) → Stops w f (x ∷ xs) s e t
     stop-behind x z xs e s r b t k round c i (Ok y) u h a again =
-        let same : u ≡ b = ends-one-state (call_of w turned (x ∷ []) r) (Ok (truth (is_false y))) (Ok z) u b (turned-called w knows f l p x r round y u h) c in
+        let same : u ≡ b = ends-one-state (call_of w (call_to turned (x ∷ [])) r) (Ok (truth (is_false y))) (Ok z) u b (turned-called w knows f l p x r round y u h) c in
         stops_behind (later_then s r (tested x r) k (later_with r (cell.Scope ((label 74, Some x) ∷ []) (Some p)))) h
         (again u (home-later r u (far w knows f l p x r y u h) p vars round) a (subst (λ v. Stops w turned xs v e t) (sym same) i))
     stop-behind x z xs e s r b t k round c i (Err d) u h a again =
-        let wrong : Err d ≡ Ok z = ends-one-end (call_of w turned (x ∷ []) r) (Err d) (Ok z) u b (turned-stops x r round d u h) c in
+        let wrong : Err d ≡ Ok z = ends-one-end (call_of w (call_to turned (x ∷ [])) r) (Err d) (Ok z) u b (turned-stops x r round d u h) c in
         absurd (cc)
 
     stops-back : (xs : List Value) (e : Bare) (s t : WorldState) → Home s.cells p vars → AllEnd w f xs s → Stops w turned xs s e t → Stops w f xs s e t
@@ -115,7 +115,7 @@ module _ (w : PlainSetting) (knows : Knows w.codes) (f l : Value) where
     inside : Inside inner.cells q vars (next_place s) []
     inside = entered-inside outside vars (next_place s) [] (record { around = None; is = slice_get-added s.cells (cell.Scope [] None) })
 
-    by-filter : (r : End) (t : WorldState) → CallEnds w (value.Prim (record { 0 = names.FILTER })) (turned q ∷ l ∷ []) inner r t → CallEnds w (value.Prim (record { 0 = names.REMP })) (f ∷ l ∷ []) s r t
+    by-filter : (r : End) (t : WorldState) → CallEnds w (call_to (value.Prim (record { 0 = names.FILTER })) (turned q ∷ l ∷ [])) inner r t → CallEnds w (call_to (value.Prim (record { 0 = names.REMP })) (f ∷ l ∷ [])) s r t
     unfolding has_text
     by-filter r t h =
         text-ends w (record { 0 = names.REMP }) (f ∷ l ∷ []) s outside t (text_code names.REMP remp_text) remp_text (code_no 67) (next_place s) r refl refl knows.remp_text refl
@@ -126,7 +126,7 @@ module _ (w : PlainSetting) (knows : Knows w.codes) (f l : Value) where
         (own w inner q vars (next_place s) [] inside (label 70) l refl) h))
 
     pub remp-ended : (xs : List Value) → IsList s.cells xs l → AllEnd w f xs s
-        → Filters w (value.Prim (record { 0 = names.REMP })) (f ∷ l ∷ []) f others xs s ⊎ Faults w (value.Prim (record { 0 = names.REMP })) (f ∷ l ∷ []) f xs s
+        → Filters w (call_to (value.Prim (record { 0 = names.REMP })) (f ∷ l ∷ [])) f others xs s ⊎ Faults w (call_to (value.Prim (record { 0 = names.REMP })) (f ∷ l ∷ [])) f xs s
     remp-ended xs r give = elim (filter-ended w knows (turned q) l xs inner (list-later s inner behind xs l r) (turned-ends q xs inner round gives)) [
       | inl m ↦ inl (kept m)
       | inr m ↦ inr (record {
@@ -146,7 +146,7 @@ module _ (w : PlainSetting) (knows : Knows w.codes) (f l : Value) where
         gives : AllEnd w f xs inner
         gives = all-end-later w f xs s inner behind give
 
-        kept : Filters w (value.Prim (record { 0 = names.FILTER })) (turned q ∷ l ∷ []) (turned q) chosen xs inner → Filters w (value.Prim (record { 0 = names.REMP })) (f ∷ l ∷ []) f others xs s
+        kept : Filters w (call_to (value.Prim (record { 0 = names.FILTER })) (turned q ∷ l ∷ [])) (turned q) chosen xs inner → Filters w (call_to (value.Prim (record { 0 = names.REMP })) (f ∷ l ∷ [])) f others xs s
         kept m =
             let back : (ys : List Value) × InTurn w f xs inner ys m.state × (chosen xs m.answers ≡ others xs ys) = turned-did w knows f l q xs m.answers inner m.state round m.in_turn in
             record {

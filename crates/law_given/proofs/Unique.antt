@@ -6,7 +6,7 @@ use Rattle.eval_code.specs.State.{WorldState, Outcome, done, faulted, unfit}
 use Rattle.law_eval.specs.Kept.{LaterWorld}
 use Rattle.law_eval.specs.Runs.{ByFuel}
 use Rattle.law_eval.proofs.Keeping.{later_then}
-use Rattle.law_given.specs.Calls.{End, ended, Ends, Gives, call_of}
+use Rattle.law_given.specs.Calls.{End, ended, Ends, Gives, call_to, call_of}
 use Rattle.law_given.specs.InTurn.{InTurn, no_call, one_call, AllGive, AllGiveBy}
 use Rattle.law_given.proofs.Later.{calls-later}
 
@@ -74,6 +74,6 @@ module _ (w : PlainSetting) (f : Value) (g : Value → Value) where
   by-answers xs ys s t h (no_call k) = refl
   by-answers xs ys s t h (one_call {x = x} {y = y} {xs = xs'} {ys = ys'} {t = r} {u = u} k c i) =
       let one = h.0 r k in
-      let same : y ≡ g x = gives-one-value (call_of w f (x ∷ []) r) y (g x) u one.0 c one.1 in
+      let same : y ≡ g x = gives-one-value (call_of w (call_to f (x ∷ [])) r) y (g x) u one.0 c one.1 in
       let behind = later_then s r u k (calls-later w f (x ∷ []) r y u c) in
       ap₂ (λ z zs. z ∷ zs) same (by-answers xs' ys' u t (by-later xs' s u behind h.1) i)

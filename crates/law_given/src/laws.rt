@@ -10,7 +10,7 @@ ghost use Rattle.eval_code.specs.State.{WorldState, done};
 ghost use Rattle.law_lists.specs.Runs.{IsList};
 ghost use Rattle.eval_value.specs.declared.value.Value.{Value};
 ghost use Rattle.eval_value.specs.declared.value.Value.TheVariants as value;
-ghost use Rattle.law_given.specs.Calls.{call_of, Calls};
+ghost use Rattle.law_given.specs.Calls.{call_to, call_of, Calls};
 ghost use Rattle.law_given.specs.Given.{built_in, Maps, MapsBy, Mapped, Visits, Visited, Faults, Filters, Filtered, Finds, FoundGiven, FindsTail, TailFound, SearchFaults};
 ghost use Rattle.law_given.specs.InTurn.{AllGive, AllEnd, AllGiveBy, SearchGives, SearchEnds, chosen, others};
 ghost use Rattle.law_given.specs.Texts.{HasTexts, Includes, written_table};
@@ -27,9 +27,9 @@ pub fn numbers_are_by_name()
 /// A call that gives a value with some fuel gives that value and that state with any more.
 pub fn some_fuel_is_enough()
     ensures enough { (w : PlainSetting) (f : Value) (args : List Value) (s : WorldState) (n m : ℕ) (v : Value) (t : WorldState)
-        → call_of w f args s n ≡ done v t m → Calls w f args s v t }
+        → call_of w (call_to f args) s n ≡ done v t m → Calls w (call_to f args) s v t }
     ensures one { (w : PlainSetting) (f : Value) (args : List Value) (s : WorldState) (v x : Value) (t u : WorldState)
-        → Calls w f args s v t → Calls w f args s x u → (v ≡ x) × (t ≡ u) }
+        → Calls w (call_to f args) s v t → Calls w (call_to f args) s x u → (v ≡ x) × (t ≡ u) }
 {}
 
 /// The codes of the texts in Scheme contain these texts, and codes of other numbers that come after
@@ -44,14 +44,14 @@ pub fn texts_stay()
 /// last and its fault that of `map` (R6RS 11.9).
 pub fn map_gives_the_answers()
     ensures answers { (w : PlainSetting) (f l : Value) (xs : List Value) (s : WorldState) → HasTexts w → IsList s.cells xs l
-        → AllGive w f xs s → Maps w (built_in names.MAP) (f ∷ l ∷ []) f xs s }
+        → AllGive w f xs s → Maps w (call_to (built_in names.MAP) (f ∷ l ∷ [])) f xs s }
     ensures only { (w : PlainSetting) (f l : Value) (xs : List Value) (s t : WorldState) (v : Value) → HasTexts w → IsList s.cells xs l
-        → Calls w (built_in names.MAP) (f ∷ l ∷ []) s v t → Mapped w f xs s v t }
+        → Calls w (call_to (built_in names.MAP) (f ∷ l ∷ [])) s v t → Mapped w f xs s v t }
     ensures said { (w : PlainSetting) (f l : Value) (g : Value → Value) (xs : List Value) (s : WorldState) → HasTexts w
         → IsList s.cells xs l → AllGiveBy w f g xs s →
-        MapsBy w (built_in names.MAP) (f ∷ l ∷ []) g xs s }
+        MapsBy w (call_to (built_in names.MAP) (f ∷ l ∷ [])) g xs s }
     ensures faults { (w : PlainSetting) (f l : Value) (xs : List Value) (s : WorldState) → HasTexts w → IsList s.cells xs l → AllEnd w f xs s →
-        Maps w (built_in names.MAP) (f ∷ l ∷ []) f xs s ⊎ Faults w (built_in names.MAP) (f ∷ l ∷ []) f xs s }
+        Maps w (call_to (built_in names.MAP) (f ∷ l ∷ [])) f xs s ⊎ Faults w (call_to (built_in names.MAP) (f ∷ l ∷ [])) f xs s }
 {}
 
 /// `for-each` calls its procedure on each element of a list, from the first to the last; whenever it
@@ -59,11 +59,11 @@ pub fn map_gives_the_answers()
 /// `for-each` (R6RS 11.9).
 pub fn for_each_calls_in_order()
     ensures calls { (w : PlainSetting) (f l : Value) (xs : List Value) (s : WorldState) → HasTexts w → IsList s.cells xs l → AllGive w f xs s →
-        Visits w (built_in names.FOR_EACH) (f ∷ l ∷ []) f xs s value.Unspecified }
+        Visits w (call_to (built_in names.FOR_EACH) (f ∷ l ∷ [])) f xs s value.Unspecified }
     ensures only { (w : PlainSetting) (f l : Value) (xs : List Value) (s t : WorldState) (v : Value) → HasTexts w → IsList s.cells xs l
-        → Calls w (built_in names.FOR_EACH) (f ∷ l ∷ []) s v t → Visited w f xs s v t }
+        → Calls w (call_to (built_in names.FOR_EACH) (f ∷ l ∷ [])) s v t → Visited w f xs s v t }
     ensures faults { (w : PlainSetting) (f l : Value) (xs : List Value) (s : WorldState) → HasTexts w → IsList s.cells xs l → AllEnd w f xs s →
-        Visits w (built_in names.FOR_EACH) (f ∷ l ∷ []) f xs s value.Unspecified ⊎ Faults w (built_in names.FOR_EACH) (f ∷ l ∷ []) f xs s }
+        Visits w (call_to (built_in names.FOR_EACH) (f ∷ l ∷ [])) f xs s value.Unspecified ⊎ Faults w (call_to (built_in names.FOR_EACH) (f ∷ l ∷ [])) f xs s }
 {}
 
 /// `filter` gives the list of the elements whose answer is not `#f`, `remp` of those whose answer is,
@@ -71,17 +71,17 @@ pub fn for_each_calls_in_order()
 /// its fault is given (R6RS libraries 3).
 pub fn filter_keeps_and_remp_leaves_out()
     ensures filter { (w : PlainSetting) (f l : Value) (xs : List Value) (s : WorldState) → HasTexts w → IsList s.cells xs l
-        → AllGive w f xs s → Filters w (built_in names.FILTER) (f ∷ l ∷ []) f chosen xs s }
+        → AllGive w f xs s → Filters w (call_to (built_in names.FILTER) (f ∷ l ∷ [])) f chosen xs s }
     ensures filter_only { (w : PlainSetting) (f l : Value) (xs : List Value) (s t : WorldState) (v : Value) → HasTexts w
-        → IsList s.cells xs l → Calls w (built_in names.FILTER) (f ∷ l ∷ []) s v t → Filtered w f chosen xs s v t }
+        → IsList s.cells xs l → Calls w (call_to (built_in names.FILTER) (f ∷ l ∷ [])) s v t → Filtered w f chosen xs s v t }
     ensures filter_faults { (w : PlainSetting) (f l : Value) (xs : List Value) (s : WorldState) → HasTexts w → IsList s.cells xs l → AllEnd w f xs s →
-        Filters w (built_in names.FILTER) (f ∷ l ∷ []) f chosen xs s ⊎ Faults w (built_in names.FILTER) (f ∷ l ∷ []) f xs s }
+        Filters w (call_to (built_in names.FILTER) (f ∷ l ∷ [])) f chosen xs s ⊎ Faults w (call_to (built_in names.FILTER) (f ∷ l ∷ [])) f xs s }
     ensures remp { (w : PlainSetting) (f l : Value) (xs : List Value) (s : WorldState) → HasTexts w → IsList s.cells xs l
-        → AllGive w f xs s → Filters w (built_in names.REMP) (f ∷ l ∷ []) f others xs s }
+        → AllGive w f xs s → Filters w (call_to (built_in names.REMP) (f ∷ l ∷ [])) f others xs s }
     ensures remp_only { (w : PlainSetting) (f l : Value) (xs : List Value) (s t : WorldState) (v : Value) → HasTexts w
-        → IsList s.cells xs l → Calls w (built_in names.REMP) (f ∷ l ∷ []) s v t → Filtered w f others xs s v t }
+        → IsList s.cells xs l → Calls w (call_to (built_in names.REMP) (f ∷ l ∷ [])) s v t → Filtered w f others xs s v t }
     ensures remp_faults { (w : PlainSetting) (f l : Value) (xs : List Value) (s : WorldState) → HasTexts w → IsList s.cells xs l → AllEnd w f xs s →
-        Filters w (built_in names.REMP) (f ∷ l ∷ []) f others xs s ⊎ Faults w (built_in names.REMP) (f ∷ l ∷ []) f xs s }
+        Filters w (call_to (built_in names.REMP) (f ∷ l ∷ [])) f others xs s ⊎ Faults w (call_to (built_in names.REMP) (f ∷ l ∷ [])) f xs s }
 {}
 
 /// `find` gives the first element whose answer is not `#f`, and `memp` what is left of the list from
@@ -89,15 +89,15 @@ pub fn filter_keeps_and_remp_leaves_out()
 /// faults before (R6RS libraries 3).
 pub fn find_and_memp_stop_at_the_first()
     ensures find { (w : PlainSetting) (f l : Value) (xs : List Value) (s : WorldState) → HasTexts w → IsList s.cells xs l
-        → SearchGives w f xs s → Finds w (built_in names.FIND) (f ∷ l ∷ []) f xs s }
+        → SearchGives w f xs s → Finds w (call_to (built_in names.FIND) (f ∷ l ∷ [])) f xs s }
     ensures memp { (w : PlainSetting) (f l : Value) (xs : List Value) (s : WorldState) → HasTexts w → IsList s.cells xs l
-        → SearchGives w f xs s → FindsTail w (built_in names.MEMP) (f ∷ l ∷ []) f l xs s }
+        → SearchGives w f xs s → FindsTail w (call_to (built_in names.MEMP) (f ∷ l ∷ [])) f l xs s }
     ensures find_only { (w : PlainSetting) (f l : Value) (xs : List Value) (s t : WorldState) (v : Value) → HasTexts w
-        → IsList s.cells xs l → Calls w (built_in names.FIND) (f ∷ l ∷ []) s v t → FoundGiven w f xs s v t }
+        → IsList s.cells xs l → Calls w (call_to (built_in names.FIND) (f ∷ l ∷ [])) s v t → FoundGiven w f xs s v t }
     ensures memp_only { (w : PlainSetting) (f l : Value) (xs : List Value) (s t : WorldState) (v : Value) → HasTexts w
-        → IsList s.cells xs l → Calls w (built_in names.MEMP) (f ∷ l ∷ []) s v t → TailFound w f l xs s v t }
+        → IsList s.cells xs l → Calls w (call_to (built_in names.MEMP) (f ∷ l ∷ [])) s v t → TailFound w f l xs s v t }
     ensures find_faults { (w : PlainSetting) (f l : Value) (xs : List Value) (s : WorldState) → HasTexts w → IsList s.cells xs l → SearchEnds w f xs s →
-        Finds w (built_in names.FIND) (f ∷ l ∷ []) f xs s ⊎ SearchFaults w (built_in names.FIND) (f ∷ l ∷ []) f xs s }
+        Finds w (call_to (built_in names.FIND) (f ∷ l ∷ [])) f xs s ⊎ SearchFaults w (call_to (built_in names.FIND) (f ∷ l ∷ [])) f xs s }
     ensures memp_faults { (w : PlainSetting) (f l : Value) (xs : List Value) (s : WorldState) → HasTexts w → IsList s.cells xs l → SearchEnds w f xs s →
-        FindsTail w (built_in names.MEMP) (f ∷ l ∷ []) f l xs s ⊎ SearchFaults w (built_in names.MEMP) (f ∷ l ∷ []) f xs s }
+        FindsTail w (call_to (built_in names.MEMP) (f ∷ l ∷ [])) f l xs s ⊎ SearchFaults w (call_to (built_in names.MEMP) (f ∷ l ∷ [])) f xs s }
 {}

@@ -19,7 +19,7 @@ use Rattle.law_eval.specs.Kept.{LaterWorld}
 use Rattle.law_eval.proofs.Keeping.{later_then, later_with}
 use Rattle.law_lists.specs.Runs.{IsList}
 use Rattle.law_lists.proofs.RunLemmas.{pair_still}
-use Rattle.law_given.specs.Calls.{End, Ends, call_of, CallEnds, Calls}
+use Rattle.law_given.specs.Calls.{End, Ends, call_to, call_of, CallEnds, Calls}
 use Rattle.law_given.specs.Codes.{label, code_no, var, formals, one_case, lambda, cdrs, on_cars, exists_next, exists_loop}
 use Rattle.law_given.proofs.FindLoop.{by-truth}
 use Rattle.law_given.proofs.Giving.{Evaluates, ExpressionEnds, procedure-is}
@@ -53,7 +53,7 @@ module _ (w : PlainSetting) (knows : Knows w.codes) (f : Value) (p : Place) wher
 
   -- the loop on a list of lists that stand in rows
   abbrev Holds : List (List Value) → Value → WorldState → Type 0
-  Holds rows lv s = (r : End) × (t : WorldState) × CallEnds w g (f ∷ lv ∷ []) s r t × ExistsByRows w f rows s r t
+  Holds rows lv s = (r : End) × (t : WorldState) × CallEnds w (call_to g (f ∷ lv ∷ [])) s r t × ExistsByRows w f rows s r t
 
   module _ (lv l : Value) (more : List Value) (s : WorldState) (round : Home s.cells p home) (lists : IsList s.cells (l ∷ more) lv) where
     abbrev at : WorldState
@@ -65,10 +65,10 @@ module _ (w : PlainSetting) (knows : Knows w.codes) (f : Value) (p : Place) wher
     enter : LaterWorld s at
     enter = entered-later w 43 42 45 46 exists_loop knows.exists_loop p home names f lv s round
 
-    body-iff : (r : End) (t : WorldState) → Iff (CallEnds w g (f ∷ lv ∷ []) s r t) (ExpressionEnds w exists_loop q at r t)
+    body-iff : (r : End) (t : WorldState) → Iff (CallEnds w (call_to g (f ∷ lv ∷ [])) s r t) (ExpressionEnds w exists_loop q at r t)
     body-iff = loop.body-iff w knows 43 42 45 46 exists_loop knows.exists_loop p home names f lv s round
 
-    nothing : l ≡ nil → Calls w g (f ∷ lv ∷ []) s (truth false) at
+    nothing : l ≡ nil → Calls w (call_to g (f ∷ lv ∷ [])) s (truth false) at
     nothing e =
         (body-iff (Ok (truth false)) at).1
         ((true-iff w _ _ _ q at at (truth true) (Ok (truth false)) at (loop.first-null w knows 43 42 45 46 exists_loop knows.exists_loop p home names f lv s round l more lists at (later-refl at) true (ap is_nil e)) refl).1
@@ -88,11 +88,11 @@ module _ (w : PlainSetting) (knows : Knows w.codes) (f : Value) (p : Place) wher
       till-asked : LaterWorld s asked.state
       till-asked = later_then s at asked.state enter asked-at
 
-      ask-iff : (r : End) (t : WorldState) → Iff (ExpressionEnds w (on_cars (var 45) (var 46)) q at r t) (CallEnds w f row asked.state r t)
+      ask-iff : (r : End) (t : WorldState) → Iff (ExpressionEnds w (on_cars (var 45) (var 46)) q at r t) (CallEnds w (call_to f row) asked.state r t)
       ask-iff = loop.ask-iff w knows 43 42 45 46 exists_loop knows.exists_loop p home names f lv s round l more lists at (later-refl at) row (d ∷ ds) pairs
 
       -- the last row
-      last-iff : d ≡ nil → (r : End) (t : WorldState) → Iff (CallEnds w g (f ∷ lv ∷ []) s r t) (CallEnds w f row asked.state r t)
+      last-iff : d ≡ nil → (r : End) (t : WorldState) → Iff (CallEnds w (call_to g (f ∷ lv ∷ [])) s r t) (CallEnds w (call_to f row) asked.state r t)
       last-iff e r t =
           iff-then (body-iff r t)
           (iff-then (false-iff w _ _ _ q at at (truth false) r t (loop.first-null w knows 43 42 45 46 exists_loop knows.exists_loop p home names f lv s round l more lists at (later-refl at) false (pair-not-nil s.cells l x d pair)) refl)
@@ -107,7 +107,7 @@ module _ (w : PlainSetting) (knows : Knows w.codes) (f : Value) (p : Place) wher
       go_on = λ v. operands w (eval_of w) none q ((looks ∷ []) ++ v ∷ [])
 
       -- a row before it
-      next-iff : is_nil d ≡ false → (r : End) (t : WorldState) → Iff (CallEnds w g (f ∷ lv ∷ []) s r t) (Split (eval_of w (on_cars (var 45) (var 46)) q at) go_on r t)
+      next-iff : is_nil d ≡ false → (r : End) (t : WorldState) → Iff (CallEnds w (call_to g (f ∷ lv ∷ [])) s r t) (Split (eval_of w (on_cars (var 45) (var 46)) q at) go_on r t)
       next-iff e r t =
           iff-then (body-iff r t)
           (iff-then (false-iff w _ _ _ q at at (truth false) r t (loop.first-null w knows 43 42 45 46 exists_loop knows.exists_loop p home names f lv s round l more lists at (later-refl at) false (pair-not-nil s.cells l x d pair)) refl)
@@ -115,7 +115,7 @@ module _ (w : PlainSetting) (knows : Knows w.codes) (f : Value) (p : Place) wher
           (first-iff w (lambda 48 (50 ∷ []) None exists_next) (on_cars (var 45) (var 46)) none q at at looks r t (procedure-is w (code_no 48) (one_case (50 ∷ []) None exists_next) true q at))))
 
       -- what comes of an answer
-      module _ (y : Value) (u : WorldState) (called : Calls w f row asked.state y u) where
+      module _ (y : Value) (u : WorldState) (called : Calls w (call_to f row) asked.state y u) where
         behind : LaterWorld at u
         behind = later_then at asked.state u asked-at (calls-later w f row asked.state y u called)
 
@@ -174,7 +174,7 @@ module _ (w : PlainSetting) (knows : Knows w.codes) (f : Value) (p : Place) wher
             (in_cell (later-stay u looked look-later p.0 (cell.Scope home around.around) around.home) refl)))
             (omega (arith, third, second))
 
-        again-iff : truth_of y ≡ false → (r : End) (t : WorldState) → Iff (Ends (go_on y u) r t) (CallEnds w g (f ∷ left.value ∷ []) left.state r t)
+        again-iff : truth_of y ≡ false → (r : End) (t : WorldState) → Iff (Ends (go_on y u) r t) (CallEnds w (call_to g (f ∷ left.value ∷ [])) left.state r t)
         again-iff e r t =
             iff-then (looked-iff r t)
             (iff-then (false-iff w _ _ _ (next_place u) looked looked y r t answer-read e)
@@ -186,7 +186,7 @@ module _ (w : PlainSetting) (knows : Knows w.codes) (f : Value) (p : Place) wher
         ends-here : truth_of y ≡ true → Ends (go_on y u) (Ok y) looked
         ends-here e = (looked-iff (Ok y) looked).1 ((true-iff w _ _ _ (next_place u) looked looked y (Ok y) looked answer-read e).1 answer-read)
 
-      next-ends : (next : List Value) (rows : List (List Value)) → is_nil d ≡ false → (r : End) (u : WorldState) (called : CallEnds w f row asked.state r u)
+      next-ends : (next : List Value) (rows : List (List Value)) → is_nil d ≡ false → (r : End) (u : WorldState) (called : CallEnds w (call_to f row) asked.state r u)
           → AfterValue r (λ y. truth_of y ≡ false → ExistsEnds w f (next ∷ rows) u)
           → ((v : WorldState) (lw : Value) → LaterWorld s v → IsList v.cells (d ∷ ds) lw → ExistsEnds w f (next ∷ rows) v → Holds (next ∷ rows) lw v) → Holds (row ∷ next ∷ rows) lv s
       next-ends next rows e (Err b) u called a again = (Err b, u, (next-iff e (Err b) u).1 (stopped ((ask-iff (Err b) u).1 called)), some_stops till-asked called)
@@ -200,12 +200,12 @@ module _ (w : PlainSetting) (knows : Knows w.codes) (f : Value) (p : Place) wher
             some_behind till-asked called is (exists-from w f (next ∷ rows) m.0 u (left y u called).state m.1 (till-left y u called) m.3),
           ))
 
-      next-did : (next : List Value) (rows : List (List Value)) → is_nil d ≡ false → (r : End) (t : WorldState) → CallEnds w g (f ∷ lv ∷ []) s r t
-          → ((v : WorldState) (lw : Value) → LaterWorld s v → IsList v.cells (d ∷ ds) lw → (e : End) (o : WorldState) → CallEnds w g (f ∷ lw ∷ []) v e o → ExistsByRows w f (next ∷ rows) v e o)
+      next-did : (next : List Value) (rows : List (List Value)) → is_nil d ≡ false → (r : End) (t : WorldState) → CallEnds w (call_to g (f ∷ lv ∷ [])) s r t
+          → ((v : WorldState) (lw : Value) → LaterWorld s v → IsList v.cells (d ∷ ds) lw → (e : End) (o : WorldState) → CallEnds w (call_to g (f ∷ lw ∷ [])) v e o → ExistsByRows w f (next ∷ rows) v e o)
           → ExistsByRows w f (row ∷ next ∷ rows) s r t
       next-did next rows e r t called again = by r t ((next-iff e r t).0 called)
         where
-          first : (y : Value) (u : WorldState) → Evaluates w (on_cars (var 45) (var 46)) q at y u → Calls w f row asked.state y u
+          first : (y : Value) (u : WorldState) → Evaluates w (on_cars (var 45) (var 46)) q at y u → Calls w (call_to f row) asked.state y u
           first y u h = (ask-iff (Ok y) u).0 h
 
           by : (r : End) (t : WorldState) → Split (eval_of w (on_cars (var 45) (var 46)) q at) go_on r t → ExistsByRows w f (row ∷ next ∷ rows) s r t
@@ -237,11 +237,11 @@ module _ (w : PlainSetting) (knows : Knows w.codes) (f : Value) (p : Place) wher
 
   -- whatever a call came to, it did so
   exists-did : (rows : List (List Value)) (lv l : Value) (more : List Value) (s : WorldState) → Home s.cells p home → IsList s.cells (l ∷ more) lv → InRows s.cells rows (l ∷ more)
-      → (r : End) (t : WorldState) → CallEnds w g (f ∷ lv ∷ []) s r t → ExistsByRows w f rows s r t
+      → (r : End) (t : WorldState) → CallEnds w (call_to g (f ∷ lv ∷ [])) s r t → ExistsByRows w f rows s r t
   exists-did [] lv l more s round lists rs r t called =
       let done = nothing lv l more s round lists (rows-none rs) in
-      subst (λ a. ExistsByRows w f [] s r a) (ends-one-state (call_of w g (f ∷ lv ∷ []) s) (Ok (truth false)) r (at lv l more s round lists) t done called)
-      (subst (λ a. ExistsByRows w f [] s a (at lv l more s round lists)) (ends-one-end (call_of w g (f ∷ lv ∷ []) s) (Ok (truth false)) r (at lv l more s round lists) t done called) (some_none (enter lv l more s round lists)))
+      subst (λ a. ExistsByRows w f [] s r a) (ends-one-state (call_of w (call_to g (f ∷ lv ∷ [])) s) (Ok (truth false)) r (at lv l more s round lists) t done called)
+      (subst (λ a. ExistsByRows w f [] s a (at lv l more s round lists)) (ends-one-end (call_of w (call_to g (f ∷ lv ∷ [])) s) (Ok (truth false)) r (at lv l more s round lists) t done called) (some_none (enter lv l more s round lists)))
   exists-did (row ∷ []) lv l more s round lists rs r t called =
       let c = rows-some rs in
       some_last (till-asked lv l more s round lists row c.x c.d c.ds c.pairs c.is) ((last-iff lv l more s round lists row c.x c.d c.ds c.pairs c.is (rows-none c.behind) r t).0 called)
@@ -271,23 +271,23 @@ module _ (w : PlainSetting) (knows : Knows w.codes) (f l : Value) (more : List V
     begun-lists : IsList begun.cells (l ∷ more) lv
     begun-lists = loop.lists-are w s 42 43 ops.EXISTS 53 55 56 57 45 46 exists_loop refl refl is_text enter_names knows.exists_text knows.exists_body f l more
 
-    begun-iff : (e : End) (t : WorldState) → Iff (CallEnds w (value.Prim (record { 0 = ops.EXISTS })) (f ∷ l ∷ more) s e t) (CallEnds w (value.Closure (code_no 43) (home_place w s 42 43)) (f ∷ lv ∷ []) begun e t)
+    begun-iff : (e : End) (t : WorldState) → Iff (CallEnds w (call_to (value.Prim (record { 0 = ops.EXISTS })) (f ∷ l ∷ more)) s e t) (CallEnds w (call_to (value.Closure (code_no 43) (home_place w s 42 43)) (f ∷ lv ∷ [])) begun e t)
     begun-iff = loop.entered-iff w s 42 43 ops.EXISTS 53 55 56 57 45 46 exists_loop refl refl is_text enter_names knows.exists_text knows.exists_body f l more
 
-    ended-by : ExistsEnds w f rows s → (e : End) × (t : WorldState) × CallEnds w (value.Prim (record { 0 = ops.EXISTS })) (f ∷ l ∷ more) s e t × ExistsByRows w f rows s e t
+    ended-by : ExistsEnds w f rows s → (e : End) × (t : WorldState) × CallEnds w (call_to (value.Prim (record { 0 = ops.EXISTS })) (f ∷ l ∷ more)) s e t × ExistsByRows w f rows s e t
     ended-by give =
         let m = exists-ends w knows f (home_place w s 42 43) rows lv l more begun begun-home begun-lists (rows-later s begun far-begun r) (exists-ends-later w f rows s begun far-begun give) in
         (m.0, m.1, (begun-iff m.0 m.1).1 m.2, exists-from w f rows m.0 s begun m.1 far-begun m.3)
 
-    did-by : (e : End) (t : WorldState) → CallEnds w (value.Prim (record { 0 = ops.EXISTS })) (f ∷ l ∷ more) s e t → ExistsByRows w f rows s e t
+    did-by : (e : End) (t : WorldState) → CallEnds w (call_to (value.Prim (record { 0 = ops.EXISTS })) (f ∷ l ∷ more)) s e t → ExistsByRows w f rows s e t
     did-by e t called =
         exists-from w f rows e s begun t far-begun
         (exists-did w knows f (home_place w s 42 43) rows lv l more begun begun-home begun-lists (rows-later s begun far-begun r) e t ((begun-iff e t).0 called))
 
-  pub exists-ended : ExistsEnds w f rows s → (e : End) × (t : WorldState) × CallEnds w (value.Prim (record { 0 = ops.EXISTS })) (f ∷ l ∷ more) s e t × ExistsByRows w f rows s e t
+  pub exists-ended : ExistsEnds w f rows s → (e : End) × (t : WorldState) × CallEnds w (call_to (value.Prim (record { 0 = ops.EXISTS })) (f ∷ l ∷ more)) s e t × ExistsByRows w f rows s e t
   unfolding has_text
   exists-ended give = ended-by refl give
 
-  pub exists-only : (e : End) (t : WorldState) → CallEnds w (value.Prim (record { 0 = ops.EXISTS })) (f ∷ l ∷ more) s e t → ExistsByRows w f rows s e t
+  pub exists-only : (e : End) (t : WorldState) → CallEnds w (call_to (value.Prim (record { 0 = ops.EXISTS })) (f ∷ l ∷ more)) s e t → ExistsByRows w f rows s e t
   unfolding has_text
   exists-only e t called = did-by refl e t called

@@ -24,7 +24,7 @@ use Rattle.law_eval.specs.Kept.{LaterWorld}
 use Rattle.law_eval.proofs.Keeping.{later_then, later_with}
 use Rattle.law_lists.specs.Runs.{Runs, here, next, IsList}
 use Rattle.law_lists.proofs.RunLemmas.{stored_runs, runs_stored}
-use Rattle.law_given.specs.Calls.{End, call_of, CallEnds, Calls}
+use Rattle.law_given.specs.Calls.{End, call_to, call_of, CallEnds, Calls}
 use Rattle.law_given.specs.Codes.{label, code_no, var, prim, formals, one_case, app, car, cars, cdrs, first_is_null, fold_right_args, fold_right_loop}
 use Rattle.law_given.proofs.Giving.{Evaluates, ExpressionEnds, primitive-is, call-two}
 use Rattle.law_given.proofs.Inside.{Inside, Home, one_home, home-later, inside-later, entered-inside, own, outer}
@@ -59,7 +59,7 @@ module _ (w : PlainSetting) (knows : Knows w.codes) (f z : Value) (p : Place) wh
 
   -- the loop on a list of lists that stand in rows
   abbrev Folds : List (List Value) → Value → WorldState → Type 0
-  Folds rows lv s = (r : End) × (t : WorldState) × CallEnds w g (f ∷ z ∷ lv ∷ []) s r t × FoldRightByRows w f z rows s r t
+  Folds rows lv s = (r : End) × (t : WorldState) × CallEnds w (call_to g (f ∷ z ∷ lv ∷ [])) s r t × FoldRightByRows w f z rows s r t
 
   module _ (lv l : Value) (ls : List Value) (s : WorldState) (round : Home s.cells p home) (lists : IsList s.cells (l ∷ ls) lv) where
     abbrev vars : Entries
@@ -74,7 +74,7 @@ module _ (w : PlainSetting) (knows : Knows w.codes) (f z : Value) (p : Place) wh
     enter : LaterWorld s at
     enter = later_with s (cell.Scope vars (Some p))
 
-    body-iff : (r : End) (t : WorldState) → Iff (CallEnds w g (f ∷ z ∷ lv ∷ []) s r t) (ExpressionEnds w fold_right_loop q at r t)
+    body-iff : (r : End) (t : WorldState) → Iff (CallEnds w (call_to g (f ∷ z ∷ lv ∷ [])) s r t) (ExpressionEnds w fold_right_loop q at r t)
     body-iff r t =
         iff-then (closure-iff w (code_no 110) p (f ∷ z ∷ lv ∷ []) s r t)
         (case-iff w (code_no 110) p (f ∷ z ∷ lv ∷ []) s (procedure_code (code_no 110) (one_case (112 ∷ 113 ∷ 114 ∷ []) None fold_right_loop) true) (formals (112 ∷ 113 ∷ 114 ∷ []) None) fold_right_loop r t knows.fold_right_loop refl)
@@ -91,7 +91,7 @@ module _ (w : PlainSetting) (knows : Knows w.codes) (f z : Value) (p : Place) wh
     first-null : (b : Bool) → is_nil l ≡ b → Evaluates w (first_is_null (var 114)) q at (truth b) at
     first-null b e = let c = list-some lists-at in null-is w (car (var 114)) q at at l (car-is w (var 114) q at at lv list-read l c.0 c.1) b e
 
-    nothing : l ≡ nil → Calls w g (f ∷ z ∷ lv ∷ []) s z at
+    nothing : l ≡ nil → Calls w (call_to g (f ∷ z ∷ lv ∷ [])) s z at
     nothing e =
         (body-iff (Ok z) at).1
         ((true-iff w _ _ _ q at at (truth true) (Ok z) at (first-null true (ap is_nil e)) refl).1 (own w at q vars p home inside (label 113) z refl))
@@ -132,7 +132,7 @@ module _ (w : PlainSetting) (knows : Knows w.codes) (f z : Value) (p : Place) wh
       abbrev in_list : PlainCore
       in_list = app (prim ops.LIST) (again ∷ [])
 
-      again-iff : (r : End) (t : WorldState) → Iff (ExpressionEnds w again q asked.state r t) (CallEnds w g (f ∷ z ∷ left.value ∷ []) left.state r t)
+      again-iff : (r : End) (t : WorldState) → Iff (ExpressionEnds w again q asked.state r t) (CallEnds w (call_to g (f ∷ z ∷ left.value ∷ [])) left.state r t)
       again-iff r t =
           three-iff w (var 109) (var 112) (var 113) (cdrs (var 114)) q asked.state asked.state asked.state asked.state left.state t g f z left.value r
           (outer w asked.state q vars p home inside-asked (label 109) g refl refl)
@@ -154,16 +154,16 @@ module _ (w : PlainSetting) (knows : Knows w.codes) (f z : Value) (p : Place) wh
       abbrev go_on : Go
       go_on = λ v. operands w (eval_of w) none q ((value.Prim (record { 0 = ops.APPLY }) ∷ f ∷ []) ++ v ∷ [])
 
-      not-empty : (r : End) (t : WorldState) → Iff (CallEnds w g (f ∷ z ∷ lv ∷ []) s r t) (ExpressionEnds w (app (prim ops.APPLY) (var 112 ∷ fold_right_args ∷ [])) q at r t)
+      not-empty : (r : End) (t : WorldState) → Iff (CallEnds w (call_to g (f ∷ z ∷ lv ∷ [])) s r t) (ExpressionEnds w (app (prim ops.APPLY) (var 112 ∷ fold_right_args ∷ [])) q at r t)
       not-empty r t = iff-then (body-iff r t) (false-iff w _ _ _ q at at (truth false) r t (first-null false (pair-not-nil s.cells l x d pair)) refl)
 
-      next-iff : (r : End) (t : WorldState) → Iff (CallEnds w g (f ∷ z ∷ lv ∷ []) s r t) (Split (eval_of w fold_right_args q at) go_on r t)
+      next-iff : (r : End) (t : WorldState) → Iff (CallEnds w (call_to g (f ∷ z ∷ lv ∷ [])) s r t) (Split (eval_of w fold_right_args q at) go_on r t)
       next-iff r t =
           iff-then (not-empty r t)
           (second-iff w (prim ops.APPLY) (var 112) fold_right_args none q at at at (value.Prim (record { 0 = ops.APPLY })) f r t (primitive-is w (record { 0 = ops.APPLY }) q at) (own w at q vars p home inside (label 112) f refl))
 
       -- where the loop gives a value
-      module _ (y : Value) (u : WorldState) (called : Calls w g (f ∷ z ∷ left.value ∷ []) left.state y u) where
+      module _ (y : Value) (u : WorldState) (called : Calls w (call_to g (f ∷ z ∷ left.value ∷ [])) left.state y u) where
         -- the list of it, and the row before it
         abbrev listed : WorldState
         listed = with_cell (cell.Pair y nil) u
@@ -201,7 +201,7 @@ module _ (w : PlainSetting) (knows : Knows w.codes) (f z : Value) (p : Place) wh
             (list-is w again q asked.state u y ((again-iff (Ok y) u).1 called))
             (appended w asked.value (next_pair w u) row listed row-elements)
 
-        value-iff : (r : End) (t : WorldState) → Iff (CallEnds w g (f ∷ z ∷ lv ∷ []) s r t) (CallEnds w f (row ++ y ∷ []) joined r t)
+        value-iff : (r : End) (t : WorldState) → Iff (CallEnds w (call_to g (f ∷ z ∷ lv ∷ [])) s r t) (CallEnds w (call_to f (row ++ y ∷ [])) joined r t)
         value-iff r t =
             iff-then (not-empty r t)
             (iff-then (two-iff w (prim ops.APPLY) (var 112) fold_right_args q at at at joined t (value.Prim (record { 0 = ops.APPLY })) f arguments r
@@ -209,14 +209,14 @@ module _ (w : PlainSetting) (knows : Knows w.codes) (f z : Value) (p : Place) wh
             (apply-iff w f [] (row ++ y ∷ []) arguments joined r t (elements-of joined.cells (row ++ y ∷ []) arguments arguments-are)))
 
       -- where it faults
-      fault-ends : (e : Bare) (u : WorldState) → CallEnds w g (f ∷ z ∷ left.value ∷ []) left.state (Err e) u → CallEnds w g (f ∷ z ∷ lv ∷ []) s (Err e) u
+      fault-ends : (e : Bare) (u : WorldState) → CallEnds w (call_to g (f ∷ z ∷ left.value ∷ [])) left.state (Err e) u → CallEnds w (call_to g (f ∷ z ∷ lv ∷ [])) s (Err e) u
       fault-ends e u h = (next-iff (Err e) u).1 (stopped ((args-iff (Err e) u).1 (stopped ((list-iff (Err e) u).1 (stopped ((again-iff (Err e) u).1 h))))))
 
       next-ends : (rows : List (List Value)) → Folds rows left.value left.state
-          → ((y : Value) (t u : WorldState) → FoldRightByRows w f z rows s (Ok y) t → LaterWorld t u → (r : End) × (v : WorldState) × CallEnds w f (row ++ y ∷ []) u r v) → Folds (row ∷ rows) lv s
+          → ((y : Value) (t u : WorldState) → FoldRightByRows w f z rows s (Ok y) t → LaterWorld t u → (r : End) × (v : WorldState) × CallEnds w (call_to f (row ++ y ∷ [])) u r v) → Folds (row ∷ rows) lv s
       next-ends rows m give = by m.0 m.1 m.2 (right-from w f z rows m.0 s left.state m.1 far m.3)
         where
-          by : (r : End) (t : WorldState) → CallEnds w g (f ∷ z ∷ left.value ∷ []) left.state r t → FoldRightByRows w f z rows s r t → Folds (row ∷ rows) lv s
+          by : (r : End) (t : WorldState) → CallEnds w (call_to g (f ∷ z ∷ left.value ∷ [])) left.state r t → FoldRightByRows w f z rows s r t → Folds (row ∷ rows) lv s
           by (Err e) t h fold = (Err e, t, fault-ends e t h, right_stops fold)
           by (Ok y) t h fold =
               let made = give y t (joined y t h) fold (joined-later y t h) in
@@ -225,13 +225,13 @@ module _ (w : PlainSetting) (knows : Knows w.codes) (f z : Value) (p : Place) wh
       -- what the loop came to, where the arguments came to something
 
       abbrev LoopCame : End → WorldState → Type 0
-      LoopCame r t = ((y : Value) × (u : WorldState) × Calls w g (f ∷ z ∷ left.value ∷ []) left.state y u) ⊎ ((e : Bare) × (Err e ≡ r) × CallEnds w g (f ∷ z ∷ left.value ∷ []) left.state (Err e) t)
+      LoopCame r t = ((y : Value) × (u : WorldState) × Calls w (call_to g (f ∷ z ∷ left.value ∷ [])) left.state y u) ⊎ ((e : Bare) × (Err e ≡ r) × CallEnds w (call_to g (f ∷ z ∷ left.value ∷ [])) left.state (Err e) t)
 
       of-list : (r : End) (t : WorldState) → Split (eval_of w again q asked.state) (λ v. operands w (eval_of w) none q ((value.Prim (record { 0 = ops.LIST }) ∷ []) ++ v ∷ [])) r t → LoopCame r t
       of-list r t (went y u h onward) = inl (y, u, (again-iff (Ok y) u).0 h)
       of-list r t (stopped {e = e} h) = inr (e, refl, (again-iff (Err e) t).0 h)
 
-      gave : (r : End) (t : WorldState) (v : Value) → LoopCame (Ok v) t → (y : Value) × (u : WorldState) × Calls w g (f ∷ z ∷ left.value ∷ []) left.state y u
+      gave : (r : End) (t : WorldState) (v : Value) → LoopCame (Ok v) t → (y : Value) × (u : WorldState) × Calls w (call_to g (f ∷ z ∷ left.value ∷ [])) left.state y u
       gave r t v (inl h) = h
       gave r t v (inr h) = let wrong : Err h.0 ≡ Ok v = h.1 in absurd (cc)
 
@@ -239,19 +239,19 @@ module _ (w : PlainSetting) (knows : Knows w.codes) (f z : Value) (p : Place) wh
       of-args r t (went v u h onward) = inl (gave (Ok v) u v (of-list (Ok v) u ((list-iff (Ok v) u).0 h)))
       of-args r t (stopped {e = e} h) = of-list (Err e) t ((list-iff (Err e) t).0 h)
 
-      next-did : (rows : List (List Value)) (r : End) (t : WorldState) → CallEnds w g (f ∷ z ∷ lv ∷ []) s r t
-          → ((e : End) (o : WorldState) → CallEnds w g (f ∷ z ∷ left.value ∷ []) left.state e o → FoldRightByRows w f z rows left.state e o) → FoldRightByRows w f z (row ∷ rows) s r t
+      next-did : (rows : List (List Value)) (r : End) (t : WorldState) → CallEnds w (call_to g (f ∷ z ∷ lv ∷ [])) s r t
+          → ((e : End) (o : WorldState) → CallEnds w (call_to g (f ∷ z ∷ left.value ∷ [])) left.state e o → FoldRightByRows w f z rows left.state e o) → FoldRightByRows w f z (row ∷ rows) s r t
       next-did rows r t called more = of-split r t called ((next-iff r t).0 called)
         where
-          by-value : (r : End) (t : WorldState) → CallEnds w g (f ∷ z ∷ lv ∷ []) s r t → (y : Value) (u : WorldState) → Calls w g (f ∷ z ∷ left.value ∷ []) left.state y u → FoldRightByRows w f z (row ∷ rows) s r t
+          by-value : (r : End) (t : WorldState) → CallEnds w (call_to g (f ∷ z ∷ lv ∷ [])) s r t → (y : Value) (u : WorldState) → Calls w (call_to g (f ∷ z ∷ left.value ∷ [])) left.state y u → FoldRightByRows w f z (row ∷ rows) s r t
           by-value r t called y u h = right_step (right-from w f z rows (Ok y) s left.state u far (more (Ok y) u h)) (joined-later y u h) ((value-iff y u h r t).0 called)
 
-          by : (r : End) (t : WorldState) → CallEnds w g (f ∷ z ∷ lv ∷ []) s r t → LoopCame r t → FoldRightByRows w f z (row ∷ rows) s r t
+          by : (r : End) (t : WorldState) → CallEnds w (call_to g (f ∷ z ∷ lv ∷ [])) s r t → LoopCame r t → FoldRightByRows w f z (row ∷ rows) s r t
           by r t called (inl h) = by-value r t called h.0 h.1 h.2
           by r t called (inr h) =
               subst (λ a. FoldRightByRows w f z (row ∷ rows) s a t) h.1 (right_stops (right-from w f z rows (Err h.0) s left.state t far (more (Err h.0) t h.2)))
 
-          of-split : (r : End) (t : WorldState) → CallEnds w g (f ∷ z ∷ lv ∷ []) s r t → Split (eval_of w fold_right_args q at) go_on r t → FoldRightByRows w f z (row ∷ rows) s r t
+          of-split : (r : End) (t : WorldState) → CallEnds w (call_to g (f ∷ z ∷ lv ∷ [])) s r t → Split (eval_of w fold_right_args q at) go_on r t → FoldRightByRows w f z (row ∷ rows) s r t
           of-split r t called (stopped {e = e} h) = by (Err e) t called (of-args (Err e) t ((args-iff (Err e) t).0 h))
           of-split r t called (went v u h onward) = let k = gave (Ok v) u v (of-args (Ok v) u ((args-iff (Ok v) u).0 h)) in by-value r t called k.0 k.1 k.2
 
@@ -267,11 +267,11 @@ module _ (w : PlainSetting) (knows : Knows w.codes) (f z : Value) (p : Place) wh
 
   -- whatever a call came to, it did so
   fold-right-did : (rows : List (List Value)) (lv l : Value) (ls : List Value) (s : WorldState) → Home s.cells p home → IsList s.cells (l ∷ ls) lv → InRows s.cells rows (l ∷ ls)
-      → (r : End) (t : WorldState) → CallEnds w g (f ∷ z ∷ lv ∷ []) s r t → FoldRightByRows w f z rows s r t
+      → (r : End) (t : WorldState) → CallEnds w (call_to g (f ∷ z ∷ lv ∷ [])) s r t → FoldRightByRows w f z rows s r t
   fold-right-did [] lv l ls s round lists rs r t called =
       let done = nothing lv l ls s round lists (rows-none rs) in
-      subst (λ a. FoldRightByRows w f z [] s r a) (ends-one-state (call_of w g (f ∷ z ∷ lv ∷ []) s) (Ok z) r (at lv l ls s round lists) t done called)
-      (subst (λ a. FoldRightByRows w f z [] s a (at lv l ls s round lists)) (ends-one-end (call_of w g (f ∷ z ∷ lv ∷ []) s) (Ok z) r (at lv l ls s round lists) t done called) (right_end (enter lv l ls s round lists)))
+      subst (λ a. FoldRightByRows w f z [] s r a) (ends-one-state (call_of w (call_to g (f ∷ z ∷ lv ∷ [])) s) (Ok z) r (at lv l ls s round lists) t done called)
+      (subst (λ a. FoldRightByRows w f z [] s a (at lv l ls s round lists)) (ends-one-end (call_of w (call_to g (f ∷ z ∷ lv ∷ [])) s) (Ok z) r (at lv l ls s round lists) t done called) (right_end (enter lv l ls s round lists)))
   fold-right-did (row ∷ rows) lv l ls s round lists rs r t called =
       let c = rows-some rs in
       let k = far lv l ls s round lists row c.x c.d c.ds c.pairs c.is in
@@ -299,23 +299,23 @@ module _ (w : PlainSetting) (knows : Knows w.codes) (f z l : Value) (ls : List V
     begun-lists : IsList begun.cells (l ∷ ls) lv
     begun-lists = text.lists-are w s 109 110 ops.FOLD_RIGHT 117 119 120 121 122 112 113 114 fold_right_loop refl refl is_text enter_names knows.fold_right_text knows.fold_right_body f z l ls
 
-    begun-iff : (e : End) (t : WorldState) → Iff (CallEnds w (value.Prim (record { 0 = ops.FOLD_RIGHT })) (f ∷ z ∷ l ∷ ls) s e t) (CallEnds w (value.Closure (code_no 110) (home_place w s 109 110)) (f ∷ z ∷ lv ∷ []) begun e t)
+    begun-iff : (e : End) (t : WorldState) → Iff (CallEnds w (call_to (value.Prim (record { 0 = ops.FOLD_RIGHT })) (f ∷ z ∷ l ∷ ls)) s e t) (CallEnds w (call_to (value.Closure (code_no 110) (home_place w s 109 110)) (f ∷ z ∷ lv ∷ [])) begun e t)
     begun-iff = text.entered-iff w s 109 110 ops.FOLD_RIGHT 117 119 120 121 122 112 113 114 fold_right_loop refl refl is_text enter_names knows.fold_right_text knows.fold_right_body f z l ls
 
-    ended-by : FoldRightEnds w f z rows s → (e : End) × (t : WorldState) × CallEnds w (value.Prim (record { 0 = ops.FOLD_RIGHT })) (f ∷ z ∷ l ∷ ls) s e t × FoldRightByRows w f z rows s e t
+    ended-by : FoldRightEnds w f z rows s → (e : End) × (t : WorldState) × CallEnds w (call_to (value.Prim (record { 0 = ops.FOLD_RIGHT })) (f ∷ z ∷ l ∷ ls)) s e t × FoldRightByRows w f z rows s e t
     ended-by give =
         let m = fold-right-ends w knows f z (home_place w s 109 110) rows lv l ls begun begun-home begun-lists (rows-later s begun far-begun r) (right-ends-later w f z rows s begun far-begun give) in
         (m.0, m.1, (begun-iff m.0 m.1).1 m.2, right-from w f z rows m.0 s begun m.1 far-begun m.3)
 
-    did-by : (e : End) (t : WorldState) → CallEnds w (value.Prim (record { 0 = ops.FOLD_RIGHT })) (f ∷ z ∷ l ∷ ls) s e t → FoldRightByRows w f z rows s e t
+    did-by : (e : End) (t : WorldState) → CallEnds w (call_to (value.Prim (record { 0 = ops.FOLD_RIGHT })) (f ∷ z ∷ l ∷ ls)) s e t → FoldRightByRows w f z rows s e t
     did-by e t called =
         right-from w f z rows e s begun t far-begun
         (fold-right-did w knows f z (home_place w s 109 110) rows lv l ls begun begun-home begun-lists (rows-later s begun far-begun r) e t ((begun-iff e t).0 called))
 
-  pub fold-right-ended : FoldRightEnds w f z rows s → (e : End) × (t : WorldState) × CallEnds w (value.Prim (record { 0 = ops.FOLD_RIGHT })) (f ∷ z ∷ l ∷ ls) s e t × FoldRightByRows w f z rows s e t
+  pub fold-right-ended : FoldRightEnds w f z rows s → (e : End) × (t : WorldState) × CallEnds w (call_to (value.Prim (record { 0 = ops.FOLD_RIGHT })) (f ∷ z ∷ l ∷ ls)) s e t × FoldRightByRows w f z rows s e t
   unfolding has_text
   fold-right-ended give = ended-by refl give
 
-  pub fold-right-only : (e : End) (t : WorldState) → CallEnds w (value.Prim (record { 0 = ops.FOLD_RIGHT })) (f ∷ z ∷ l ∷ ls) s e t → FoldRightByRows w f z rows s e t
+  pub fold-right-only : (e : End) (t : WorldState) → CallEnds w (call_to (value.Prim (record { 0 = ops.FOLD_RIGHT })) (f ∷ z ∷ l ∷ ls)) s e t → FoldRightByRows w f z rows s e t
   unfolding has_text
   fold-right-only e t called = did-by refl e t called

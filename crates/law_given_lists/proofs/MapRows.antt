@@ -21,7 +21,7 @@ use Rattle.eval_code.specs.Variables.{Entries}
 use Rattle.law_eval.specs.Kept.{LaterWorld}
 use Rattle.law_eval.proofs.Keeping.{later_then, later_with}
 use Rattle.law_lists.specs.Runs.{here, IsList}
-use Rattle.law_given.specs.Calls.{End, call_of, CallEnds, Calls}
+use Rattle.law_given.specs.Calls.{End, call_to, call_of, CallEnds, Calls}
 use Rattle.law_given.specs.Codes.{label, code_no, var, prim, formals, one_case, app, car, cons, first_is_null, text_code, map_many, map_body, map_text}
 use Rattle.law_given.proofs.Giving.{Evaluates, ExpressionEnds, primitive-is, operand-stops, call-two}
 use Rattle.law_given.proofs.Inside.{Inside, Home, home-later, inside-later, entered-inside, own, outer}
@@ -56,7 +56,7 @@ module _ (w : PlainSetting) (knows : Knows w.codes) (f : Value) (p : Place) wher
   one = value.Closure (code_no 4) p
 
   abbrev Gives : List (List Value) → Value → WorldState → Type 0
-  Gives rows lv s = (r : End) × (t : WorldState) × CallEnds w g (f ∷ lv ∷ []) s r t × MapDid w f rows s r t
+  Gives rows lv s = (r : End) × (t : WorldState) × CallEnds w (call_to g (f ∷ lv ∷ [])) s r t × MapDid w f rows s r t
 
   module _ (lv l : Value) (ls : List Value) (s : WorldState) (round : Home s.cells p (map_home p)) (lists : IsList s.cells (l ∷ ls) lv) where
     abbrev vars : Entries
@@ -71,7 +71,7 @@ module _ (w : PlainSetting) (knows : Knows w.codes) (f : Value) (p : Place) wher
     enter : LaterWorld s at
     enter = later_with s (cell.Scope vars (Some p))
 
-    body-iff : (r : End) (t : WorldState) → Iff (CallEnds w g (f ∷ lv ∷ []) s r t) (ExpressionEnds w map_many q at r t)
+    body-iff : (r : End) (t : WorldState) → Iff (CallEnds w (call_to g (f ∷ lv ∷ [])) s r t) (ExpressionEnds w map_many q at r t)
     body-iff r t =
         iff-then (closure-iff w (code_no 9) p (f ∷ lv ∷ []) s r t)
         (case-iff w (code_no 9) p (f ∷ lv ∷ []) s (procedure_code (code_no 9) (one_case (11 ∷ 12 ∷ []) None map_many) true) (formals (11 ∷ 12 ∷ []) None) map_many r t knows.map_many refl)
@@ -85,7 +85,7 @@ module _ (w : PlainSetting) (knows : Knows w.codes) (f : Value) (p : Place) wher
     first-null : (b : Bool) → is_nil l ≡ b → Evaluates w (first_is_null (var 12)) q at (truth b) at
     first-null b e = let c = list-some lists-at in null-is w (car (var 12)) q at at l (car-is w (var 12) q at at lv (own w at q vars p (map_home p) inside (label 12) lv refl) l c.0 c.1) b e
 
-    nothing : l ≡ nil → Calls w g (f ∷ lv ∷ []) s nil at
+    nothing : l ≡ nil → Calls w (call_to g (f ∷ lv ∷ [])) s nil at
     nothing e = (body-iff (Ok nil) at).1 ((true-iff w _ _ _ q at at (truth true) (Ok nil) at (first-null true (ap is_nil e)) refl).1 (nil-is w _ q at))
 
     module _ (row : List Value) (x d : Value) (ds : List Value) (pairs : Pairs s.cells row (d ∷ ds) (l ∷ ls)) (pair : pair_of s.cells l ≡ Some (x, d)) where
@@ -110,7 +110,7 @@ module _ (w : PlainSetting) (knows : Knows w.codes) (f : Value) (p : Place) wher
         abbrev cdrs_then : Listed w one (value.Prim (record { 0 = names.CDR }) ∷ lv ∷ []) u (d ∷ ds)
         cdrs_then = cdrs-listed w one lv (l ∷ ls) row (d ∷ ds) u pairs-then (λ give. map-one w knows.map_one (value.Prim (record { 0 = names.CDR })) p (l ∷ ls) lv u home-then lists-then give)
 
-        part-is : (op : Op) (v : Value) (t : WorldState) → Calls w one (value.Prim op ∷ lv ∷ []) u v t → Evaluates w (app (var 2) (prim op.0 ∷ var 12 ∷ [])) q u v t
+        part-is : (op : Op) (v : Value) (t : WorldState) → Calls w (call_to one (value.Prim op ∷ lv ∷ [])) u v t → Evaluates w (app (var 2) (prim op.0 ∷ var 12 ∷ [])) q u v t
         part-is op v t h =
             call-two w (var 2) (prim op.0) (var 12) q u u u u t one (value.Prim op) lv v
             (outer w u q vars p (map_home p) inside-then (label 2) one refl refl) (primitive-is w op q u) (own w u q vars p (map_home p) inside-then (label 12) lv refl) h
@@ -130,7 +130,7 @@ module _ (w : PlainSetting) (knows : Knows w.codes) (f : Value) (p : Place) wher
       abbrev on_rest : PlainCore
       on_rest = app (var 3) (var 11 ∷ app (var 2) (prim names.CDR ∷ var 12 ∷ []) ∷ [])
 
-      ask-iff : (r : End) (t : WorldState) → Iff (ExpressionEnds w on_row q at r t) (CallEnds w f row asked.state r t)
+      ask-iff : (r : End) (t : WorldState) → Iff (ExpressionEnds w on_row q at r t) (CallEnds w (call_to f row) asked.state r t)
       ask-iff r t =
           iff-then
           (two-iff w (prim names.APPLY) (var 11) (app (var 2) (prim names.CAR ∷ var 12 ∷ [])) q at at at asked.state t (value.Prim (record { 0 = names.APPLY })) f asked.value r
@@ -141,13 +141,13 @@ module _ (w : PlainSetting) (knows : Knows w.codes) (f : Value) (p : Place) wher
       abbrev go_on : Go
       go_on = λ v. operands w (eval_of w) (more on_rest none) q ((value.Prim (record { 0 = names.CONS }) ∷ []) ++ v ∷ [])
 
-      next-iff : (r : End) (t : WorldState) → Iff (CallEnds w g (f ∷ lv ∷ []) s r t) (Split (eval_of w on_row q at) go_on r t)
+      next-iff : (r : End) (t : WorldState) → Iff (CallEnds w (call_to g (f ∷ lv ∷ [])) s r t) (Split (eval_of w on_row q at) go_on r t)
       next-iff r t =
           iff-then (body-iff r t)
           (iff-then (false-iff w _ _ _ q at at (truth false) r t (first-null false (pair-not-nil s.cells l x d pair)) refl)
           (first-iff w (prim names.CONS) on_row (more on_rest none) q at at (value.Prim (record { 0 = names.CONS })) r t (primitive-is w (record { 0 = names.CONS }) q at)))
 
-      module _ (y : Value) (u : WorldState) (called : Calls w f row asked.state y u) where
+      module _ (y : Value) (u : WorldState) (called : Calls w (call_to f row) asked.state y u) where
         behind : LaterWorld at u
         behind = later_then at asked.state u asked-at (calls-later w f row asked.state y u called)
 
@@ -160,20 +160,20 @@ module _ (w : PlainSetting) (knows : Knows w.codes) (f : Value) (p : Place) wher
         far : LaterWorld s left.state
         far = later_then s at left.state enter (later_then at u left.state behind till-left)
 
-        again-iff : (r : End) (t : WorldState) → Iff (ExpressionEnds w on_rest q u r t) (CallEnds w g (f ∷ left.value ∷ []) left.state r t)
+        again-iff : (r : End) (t : WorldState) → Iff (ExpressionEnds w on_rest q u r t) (CallEnds w (call_to g (f ∷ left.value ∷ [])) left.state r t)
         again-iff r t =
             two-iff w (var 3) (var 11) (app (var 2) (prim names.CDR ∷ var 12 ∷ [])) q u u u left.state t g f left.value r
             (outer w u q vars p (map_home p) (inside-then u behind) (label 3) g refl refl) (own w u q vars p (map_home p) (inside-then u behind) (label 11) f refl)
             (part-is u behind (record { 0 = names.CDR }) left.value left.state left.called)
 
         -- the pair of the answer and the list of the others
-        paired : (v : Value) (t : WorldState) → Calls w g (f ∷ left.value ∷ []) left.state v t → CallEnds w g (f ∷ lv ∷ []) s (Ok (next_pair w t)) (with_cell (cell.Pair y v) t)
+        paired : (v : Value) (t : WorldState) → Calls w (call_to g (f ∷ left.value ∷ [])) left.state v t → CallEnds w (call_to g (f ∷ lv ∷ [])) s (Ok (next_pair w t)) (with_cell (cell.Pair y v) t)
         paired v t h =
             (body-iff (Ok (next_pair w t)) (with_cell (cell.Pair y v) t)).1
             ((false-iff w _ _ _ q at at (truth false) (Ok (next_pair w t)) (with_cell (cell.Pair y v) t) (first-null false (pair-not-nil s.cells l x d pair)) refl).1
             (cons-is w on_row q at u y ((ask-iff (Ok y) u).1 called) on_rest v t ((again-iff (Ok v) t).1 h)))
 
-        fault-behind : (e : Bare) (t : WorldState) → CallEnds w g (f ∷ left.value ∷ []) left.state (Err e) t → CallEnds w g (f ∷ lv ∷ []) s (Err e) t
+        fault-behind : (e : Bare) (t : WorldState) → CallEnds w (call_to g (f ∷ left.value ∷ [])) left.state (Err e) t → CallEnds w (call_to g (f ∷ lv ∷ [])) s (Err e) t
         fault-behind e t h = (next-iff (Err e) t).1 (went y u ((ask-iff (Ok y) u).1 called) (operand-stops w on_rest none q (value.Prim (record { 0 = names.CONS }) ∷ y ∷ []) u t e ((again-iff (Err e) t).1 h)))
 
         -- what was done with the rests and with the row
@@ -184,38 +184,38 @@ module _ (w : PlainSetting) (knows : Knows w.codes) (f : Value) (p : Place) wher
           list-more t.cells y v did.0 did.2,
         )
 
-      next-ends : (rows : List (List Value)) (r : End) (u : WorldState) (called : CallEnds w f row asked.state r u) → AfterValue r (λ _. AllEnd w f rows u)
+      next-ends : (rows : List (List Value)) (r : End) (u : WorldState) (called : CallEnds w (call_to f row) asked.state r u) → AfterValue r (λ _. AllEnd w f rows u)
           → ((v : WorldState) (lw : Value) → LaterWorld s v → IsList v.cells (d ∷ ds) lw → AllEnd w f rows v → Gives rows lw v) → Gives (row ∷ rows) lv s
       next-ends rows (Err b) u called a again = (Err b, u, (next-iff (Err b) u).1 (stopped ((ask-iff (Err b) u).1 called)), stops_here till-asked called)
       next-ends rows (Ok y) u called a again =
           let m = again (left y u called).state (left y u called).value (far y u called) (left y u called).list (all-end-later w f rows u (left y u called).state (till-left y u called) a) in
           by m.0 m.1 m.2 (did-from w f rows m.0 u (left y u called).state m.1 (till-left y u called) m.3)
         where
-          by : (r : End) (t : WorldState) → CallEnds w g (f ∷ (left y u called).value ∷ []) (left y u called).state r t → MapDid w f rows u r t → Gives (row ∷ rows) lv s
+          by : (r : End) (t : WorldState) → CallEnds w (call_to g (f ∷ (left y u called).value ∷ [])) (left y u called).state r t → MapDid w f rows u r t → Gives (row ∷ rows) lv s
           by (Ok v) t h did = (Ok (next_pair w t), with_cell (cell.Pair y v) t, paired y u called v t h, whole y u called rows v t did)
           by (Err e) t h did = (Err e, t, fault-behind y u called e t h, stops_behind till-asked called did)
 
-      next-did : (rows : List (List Value)) (r : End) (t : WorldState) → CallEnds w g (f ∷ lv ∷ []) s r t
-          → ((v : WorldState) (lw : Value) → LaterWorld s v → IsList v.cells (d ∷ ds) lw → (e : End) (o : WorldState) → CallEnds w g (f ∷ lw ∷ []) v e o → MapDid w f rows v e o)
+      next-did : (rows : List (List Value)) (r : End) (t : WorldState) → CallEnds w (call_to g (f ∷ lv ∷ [])) s r t
+          → ((v : WorldState) (lw : Value) → LaterWorld s v → IsList v.cells (d ∷ ds) lw → (e : End) (o : WorldState) → CallEnds w (call_to g (f ∷ lw ∷ [])) v e o → MapDid w f rows v e o)
           → MapDid w f (row ∷ rows) s r t
       next-did rows r t called again = by r t called ((next-iff r t).0 called)
         where
-          of-rest : (y : Value) (u : WorldState) (h : Calls w f row asked.state y u) (e : End) (o : WorldState) → ExpressionEnds w on_rest q u e o → MapDid w f rows u e o
+          of-rest : (y : Value) (u : WorldState) (h : Calls w (call_to f row) asked.state y u) (e : End) (o : WorldState) → ExpressionEnds w on_rest q u e o → MapDid w f rows u e o
           of-rest y u h e o k =
               did-from w f rows e u (left y u h).state o (till-left y u h) (again (left y u h).state (left y u h).value (far y u h) (left y u h).list e o ((again-iff y u h e o).0 k))
 
-          same : (r : End) (t : WorldState) → CallEnds w g (f ∷ lv ∷ []) s r t → (e : End) (o : WorldState) → CallEnds w g (f ∷ lv ∷ []) s e o → MapDid w f (row ∷ rows) s e o → MapDid w f (row ∷ rows) s r t
+          same : (r : End) (t : WorldState) → CallEnds w (call_to g (f ∷ lv ∷ [])) s r t → (e : End) (o : WorldState) → CallEnds w (call_to g (f ∷ lv ∷ [])) s e o → MapDid w f (row ∷ rows) s e o → MapDid w f (row ∷ rows) s r t
           same r t called e o other did =
-              subst (λ a. MapDid w f (row ∷ rows) s r a) (ends-one-state (call_of w g (f ∷ lv ∷ []) s) e r o t other called)
-              (subst (λ a. MapDid w f (row ∷ rows) s a o) (ends-one-end (call_of w g (f ∷ lv ∷ []) s) e r o t other called) did)
+              subst (λ a. MapDid w f (row ∷ rows) s r a) (ends-one-state (call_of w (call_to g (f ∷ lv ∷ [])) s) e r o t other called)
+              (subst (λ a. MapDid w f (row ∷ rows) s a o) (ends-one-end (call_of w (call_to g (f ∷ lv ∷ [])) s) e r o t other called) did)
 
-          of-operand : (y : Value) (u : WorldState) (h : Calls w f row asked.state y u) (r : End) (t : WorldState) → CallEnds w g (f ∷ lv ∷ []) s r t
+          of-operand : (y : Value) (u : WorldState) (h : Calls w (call_to f row) asked.state y u) (r : End) (t : WorldState) → CallEnds w (call_to g (f ∷ lv ∷ [])) s r t
               → Split (eval_of w on_rest q u) (λ v. operands w (eval_of w) none q ((value.Prim (record { 0 = names.CONS }) ∷ y ∷ []) ++ v ∷ [])) r t → MapDid w f (row ∷ rows) s r t
           of-operand y u h r t called (stopped {e = e} k) = stops_behind till-asked h (of-rest y u h (Err e) t k)
           of-operand y u h r t called (went v o k onward) =
               same r t called (Ok (next_pair w o)) (with_cell (cell.Pair y v) o) (paired y u h v o ((again-iff y u h (Ok v) o).0 k)) (whole y u h rows v o (of-rest y u h (Ok v) o k))
 
-          by : (r : End) (t : WorldState) → CallEnds w g (f ∷ lv ∷ []) s r t → Split (eval_of w on_row q at) go_on r t → MapDid w f (row ∷ rows) s r t
+          by : (r : End) (t : WorldState) → CallEnds w (call_to g (f ∷ lv ∷ [])) s r t → Split (eval_of w on_row q at) go_on r t → MapDid w f (row ∷ rows) s r t
           by r t called (stopped {e = b} h) = stops_here till-asked ((ask-iff (Err b) t).0 h)
           by r t called (went y u h onward) =
               of-operand y u ((ask-iff (Ok y) u).0 h) r t called (operand-split w on_rest none q (value.Prim (record { 0 = names.CONS }) ∷ y ∷ []) u r t (call-real w g (f ∷ lv ∷ []) s r t called) onward)
@@ -231,11 +231,11 @@ module _ (w : PlainSetting) (knows : Knows w.codes) (f : Value) (p : Place) wher
 
   -- whatever a call came to, it did so
   many-did : (rows : List (List Value)) (lv l : Value) (ls : List Value) (s : WorldState) → Home s.cells p (map_home p) → IsList s.cells (l ∷ ls) lv → InRows s.cells rows (l ∷ ls)
-      → (r : End) (t : WorldState) → CallEnds w g (f ∷ lv ∷ []) s r t → MapDid w f rows s r t
+      → (r : End) (t : WorldState) → CallEnds w (call_to g (f ∷ lv ∷ [])) s r t → MapDid w f rows s r t
   many-did [] lv l ls s round lists rs r t called =
       let done = nothing lv l ls s round lists (rows-none rs) in
-      subst (λ a. MapDid w f [] s r a) (ends-one-state (call_of w g (f ∷ lv ∷ []) s) (Ok nil) r (at lv l ls s round lists) t done called)
-      (subst (λ a. MapDid w f [] s a (at lv l ls s round lists)) (ends-one-end (call_of w g (f ∷ lv ∷ []) s) (Ok nil) r (at lv l ls s round lists) t done called) ([], no_call (enter lv l ls s round lists), here))
+      subst (λ a. MapDid w f [] s r a) (ends-one-state (call_of w (call_to g (f ∷ lv ∷ [])) s) (Ok nil) r (at lv l ls s round lists) t done called)
+      (subst (λ a. MapDid w f [] s a (at lv l ls s round lists)) (ends-one-end (call_of w (call_to g (f ∷ lv ∷ [])) s) (Ok nil) r (at lv l ls s round lists) t done called) ([], no_call (enter lv l ls s round lists), here))
   many-did (row ∷ rows) lv l ls s round lists rs r t called =
       let c = rows-some rs in
       next-did lv l ls s round lists row c.x c.d c.ds c.pairs c.is rows r t called
@@ -302,7 +302,7 @@ module _ (w : PlainSetting) (knows : Knows w.codes) (f l m : Value) (ms : List V
   lists-are = list-more inner.cells l rest (m ∷ ms) (list-later kept inner kept-inner (m ∷ ms) rest (rest-is (m ∷ ms) ready))
 
   entered-iff : has_text names.MAP ≡ true → (e : End) (t : WorldState)
-      → Iff (CallEnds w (value.Prim (record { 0 = names.MAP })) (f ∷ l ∷ m ∷ ms) s e t) (CallEnds w (value.Closure (code_no 9) home_at) (f ∷ lists ∷ []) begun e t)
+      → Iff (CallEnds w (call_to (value.Prim (record { 0 = names.MAP })) (f ∷ l ∷ m ∷ ms)) s e t) (CallEnds w (call_to (value.Closure (code_no 9) home_at) (f ∷ lists ∷ [])) begun e t)
   entered-iff is_text e t =
       iff-then
       (text-iff w (record { 0 = names.MAP }) (f ∷ l ∷ m ∷ ms) s ready t (text_code names.MAP map_text) map_text (code_no 15) home_at e refl is_text knows.map_text refl (text-is w s))
@@ -317,13 +317,13 @@ module _ (w : PlainSetting) (knows : Knows w.codes) (f l m : Value) (ms : List V
       (cons-is w (var 18) place inner inner l (own w inner place entries home_at (map_home home_at) inside-inner (label 18) l refl) (var 19) rest inner (own w inner place entries home_at (map_home home_at) inside-inner (label 19) rest refl)))))
 
   module _ (rows : List (List Value)) (r : InRows s.cells rows (l ∷ m ∷ ms)) where
-    pub map-ended : AllEnd w f rows s → (e : End) × (t : WorldState) × CallEnds w (value.Prim (record { 0 = names.MAP })) (f ∷ l ∷ m ∷ ms) s e t × MapDid w f rows s e t
+    pub map-ended : AllEnd w f rows s → (e : End) × (t : WorldState) × CallEnds w (call_to (value.Prim (record { 0 = names.MAP })) (f ∷ l ∷ m ∷ ms)) s e t × MapDid w f rows s e t
     unfolding has_text
     map-ended give =
         let d = many-ends w knows f home_at rows lists l (m ∷ ms) begun home-begun lists-are (rows-later s begun far-begun r) (all-end-later w f rows s begun far-begun give) in
         (d.0, d.1, (entered-iff refl d.0 d.1).1 d.2, did-from w f rows d.0 s begun d.1 far-begun d.3)
 
-    pub map-only : (e : End) (t : WorldState) → CallEnds w (value.Prim (record { 0 = names.MAP })) (f ∷ l ∷ m ∷ ms) s e t → MapDid w f rows s e t
+    pub map-only : (e : End) (t : WorldState) → CallEnds w (call_to (value.Prim (record { 0 = names.MAP })) (f ∷ l ∷ m ∷ ms)) s e t → MapDid w f rows s e t
     unfolding has_text
     map-only e t called =
         did-from w f rows e s begun t far-begun

@@ -5,7 +5,7 @@ use Rattle.eval_value.specs.declared.value.Value.{Value}
 use Rattle.eval_code.specs.Setting.{PlainSetting}
 use Rattle.eval_code.specs.State.{WorldState}
 use Rattle.law_lists.specs.Runs.{IsList}
-use Rattle.law_given.specs.Calls.{Calls}
+use Rattle.law_given.specs.Calls.{call_to, Calls}
 use Rattle.law_given.specs.Given.{built_in, ForAlls, Existences, FoldsLeft, FoldsRight}
 use Rattle.law_given.specs.InTurn as given
 use Rattle.law_given.proofs.Knows.{Knows}
@@ -65,39 +65,39 @@ module _ (w : PlainSetting) (f : Value) where
 -- By the laws of any number of lists.
 
 module _ (w : PlainSetting) (knows : Knows w.codes) (f l : Value) (xs : List Value) (s : WorldState) (r : IsList s.cells xs l) where
-  pub for-all-of-one : given.ForAllGives w f xs s → ForAlls w (built_in names.FOR_ALL) (f ∷ l ∷ []) f xs s
+  pub for-all-of-one : given.ForAllGives w f xs s → ForAlls w (call_to (built_in names.FOR_ALL) (f ∷ l ∷ [])) f xs s
   for-all-of-one g = by (for-all-gives w knows f l [] (singles xs) s (one-in-rows r) (all-asks w f xs s g))
     where
-      by : ((v : Value) × (t : WorldState) × Calls w (built_in names.FOR_ALL) (f ∷ l ∷ []) s v t × ForAllByRows w f (singles xs) s (Ok v) t) → ForAlls w (built_in names.FOR_ALL) (f ∷ l ∷ []) f xs s
+      by : ((v : Value) × (t : WorldState) × Calls w (call_to (built_in names.FOR_ALL) (f ∷ l ∷ [])) s v t × ForAllByRows w f (singles xs) s (Ok v) t) → ForAlls w (call_to (built_in names.FOR_ALL) (f ∷ l ∷ [])) f xs s
       by m = record { value = m.0; state = m.1; called = m.2; all = all-of-one w f xs s m.0 m.1 m.3 }
 
-  pub for-all-of-one-only : (v : Value) (t : WorldState) → Calls w (built_in names.FOR_ALL) (f ∷ l ∷ []) s v t → given.ForAll w f xs s v t
+  pub for-all-of-one-only : (v : Value) (t : WorldState) → Calls w (call_to (built_in names.FOR_ALL) (f ∷ l ∷ [])) s v t → given.ForAll w f xs s v t
   for-all-of-one-only v t called = all-of-one w f xs s v t (for-all-only w knows f l [] (singles xs) s (one-in-rows r) (Ok v) t called)
 
-  pub exists-of-list : given.SearchGives w f xs s → Existences w (built_in names.EXISTS) (f ∷ l ∷ []) f xs s
+  pub exists-of-list : given.SearchGives w f xs s → Existences w (call_to (built_in names.EXISTS) (f ∷ l ∷ [])) f xs s
   exists-of-list g = by (exists-gives w knows f l [] (singles xs) s (one-in-rows r) (exists-asks w f xs s g))
     where
-      by : ((v : Value) × (t : WorldState) × Calls w (built_in names.EXISTS) (f ∷ l ∷ []) s v t × ExistsByRows w f (singles xs) s (Ok v) t) → Existences w (built_in names.EXISTS) (f ∷ l ∷ []) f xs s
+      by : ((v : Value) × (t : WorldState) × Calls w (call_to (built_in names.EXISTS) (f ∷ l ∷ [])) s v t × ExistsByRows w f (singles xs) s (Ok v) t) → Existences w (call_to (built_in names.EXISTS) (f ∷ l ∷ [])) f xs s
       by m = record { value = m.0; state = m.1; called = m.2; exists = exists-of-one w f xs s m.0 m.1 m.3 }
 
-  pub exists-of-list-only : (v : Value) (t : WorldState) → Calls w (built_in names.EXISTS) (f ∷ l ∷ []) s v t → given.Exists w f xs s v t
+  pub exists-of-list-only : (v : Value) (t : WorldState) → Calls w (call_to (built_in names.EXISTS) (f ∷ l ∷ [])) s v t → given.Exists w f xs s v t
   exists-of-list-only v t called = exists-of-one w f xs s v t (exists-only w knows f l [] (singles xs) s (one-in-rows r) (Ok v) t called)
 
   module _ (z : Value) where
-    pub left-of-list : given.FoldLeftGives w f z xs s → FoldsLeft w (built_in names.FOLD_LEFT) (f ∷ z ∷ l ∷ []) f z xs s
+    pub left-of-list : given.FoldLeftGives w f z xs s → FoldsLeft w (call_to (built_in names.FOLD_LEFT) (f ∷ z ∷ l ∷ [])) f z xs s
     left-of-list g = by (left-gives w knows f z l [] (singles xs) s (one-in-rows r) (left-asks w f z xs s g))
       where
-        by : ((v : Value) × (t : WorldState) × Calls w (built_in names.FOLD_LEFT) (f ∷ z ∷ l ∷ []) s v t × FoldLeftByRows w f z (singles xs) s (Ok v) t) → FoldsLeft w (built_in names.FOLD_LEFT) (f ∷ z ∷ l ∷ []) f z xs s
+        by : ((v : Value) × (t : WorldState) × Calls w (call_to (built_in names.FOLD_LEFT) (f ∷ z ∷ l ∷ [])) s v t × FoldLeftByRows w f z (singles xs) s (Ok v) t) → FoldsLeft w (call_to (built_in names.FOLD_LEFT) (f ∷ z ∷ l ∷ [])) f z xs s
         by m = record { value = m.0; state = m.1; called = m.2; fold = left-of-one w f z xs s m.0 m.1 m.3 }
 
-    pub left-of-list-only : (v : Value) (t : WorldState) → Calls w (built_in names.FOLD_LEFT) (f ∷ z ∷ l ∷ []) s v t → given.FoldLeft w f z xs s v t
+    pub left-of-list-only : (v : Value) (t : WorldState) → Calls w (call_to (built_in names.FOLD_LEFT) (f ∷ z ∷ l ∷ [])) s v t → given.FoldLeft w f z xs s v t
     left-of-list-only v t called = left-of-one w f z xs s v t (fold-left-only w knows f z l [] (singles xs) s (one-in-rows r) (Ok v) t called)
 
-    pub right-of-list : given.FoldRightGives w f z xs s → FoldsRight w (built_in names.FOLD_RIGHT) (f ∷ z ∷ l ∷ []) f z xs s
+    pub right-of-list : given.FoldRightGives w f z xs s → FoldsRight w (call_to (built_in names.FOLD_RIGHT) (f ∷ z ∷ l ∷ [])) f z xs s
     right-of-list g = by (right-gives w knows f z l [] (singles xs) s (one-in-rows r) (right-asks w f z xs s g))
       where
-        by : ((v : Value) × (t : WorldState) × Calls w (built_in names.FOLD_RIGHT) (f ∷ z ∷ l ∷ []) s v t × FoldRightByRows w f z (singles xs) s (Ok v) t) → FoldsRight w (built_in names.FOLD_RIGHT) (f ∷ z ∷ l ∷ []) f z xs s
+        by : ((v : Value) × (t : WorldState) × Calls w (call_to (built_in names.FOLD_RIGHT) (f ∷ z ∷ l ∷ [])) s v t × FoldRightByRows w f z (singles xs) s (Ok v) t) → FoldsRight w (call_to (built_in names.FOLD_RIGHT) (f ∷ z ∷ l ∷ [])) f z xs s
         by m = record { value = m.0; state = m.1; called = m.2; fold = right-of-one w f z xs s m.0 m.1 m.3 }
 
-    pub right-of-list-only : (v : Value) (t : WorldState) → Calls w (built_in names.FOLD_RIGHT) (f ∷ z ∷ l ∷ []) s v t → given.FoldRight w f z xs s v t
+    pub right-of-list-only : (v : Value) (t : WorldState) → Calls w (call_to (built_in names.FOLD_RIGHT) (f ∷ z ∷ l ∷ [])) s v t → given.FoldRight w f z xs s v t
     right-of-list-only v t called = right-of-one w f z xs s v t (fold-right-only w knows f z l [] (singles xs) s (one-in-rows r) (Ok v) t called)

@@ -12,7 +12,7 @@ use Rattle.eval_code.specs.State.{WorldState}
 use Rattle.law_eval.specs.Kept.{LaterWorld}
 use Rattle.law_lists.specs.Runs.{IsList}
 use Rattle.law_lists.proofs.RunLemmas.{pair_still}
-use Rattle.law_given.specs.Calls.{End, CallEnds, Calls}
+use Rattle.law_given.specs.Calls.{End, call_to, CallEnds, Calls}
 use Rattle.law_given.specs.Codes.{prim, cars, cdrs, on_cars}
 use Rattle.law_given.specs.Given.{Maps}
 use Rattle.law_given.specs.InTurn.{AllGive, AllGiveBy}
@@ -32,7 +32,7 @@ use Rattle.law_given_lists.proofs.Steps.{two-iff, apply-iff}
 pub record Listed (w : PlainSetting) (g : Value) (args : List Value) (s : WorldState) (xs : List Value) : Type 0 where
   pub value : Value
   pub state : WorldState
-  pub called : Calls w g args s value state
+  pub called : Calls w (call_to g args) s value state
   pub list : IsList state.cells xs value
 
 abbrev car_or : Value → Option (Value × Value) → Value
@@ -61,16 +61,16 @@ module _ (w : PlainSetting) (s : WorldState) where
   cars-by : {xs ds ls : List Value} → Pairs s.cells xs ds ls → AllGiveBy w (value.Prim (record { 0 = names.CAR })) (car_in s.cells) ls s
   cars-by no_pair = tt
   cars-by (one_pair {x = x} {d = d} {l = l} e r) =
-      (λ t k. (t, subst (λ v. Calls w (value.Prim (record { 0 = names.CAR })) (l ∷ []) t v t) (sym (ap (car_or l) e)) (car-called w l x d t (pair_still s.cells t.cells (later-stay s t k) l x d e))), cars-by r)
+      (λ t k. (t, subst (λ v. Calls w (call_to (value.Prim (record { 0 = names.CAR })) (l ∷ [])) t v t) (sym (ap (car_or l) e)) (car-called w l x d t (pair_still s.cells t.cells (later-stay s t k) l x d e))), cars-by r)
 
   cdrs-by : {xs ds ls : List Value} → Pairs s.cells xs ds ls → AllGiveBy w (value.Prim (record { 0 = names.CDR })) (cdr_in s.cells) ls s
   cdrs-by no_pair = tt
   cdrs-by (one_pair {x = x} {d = d} {l = l} e r) =
-      (λ t k. (t, subst (λ v. Calls w (value.Prim (record { 0 = names.CDR })) (l ∷ []) t v t) (sym (ap (cdr_or l) e)) (cdr-called w l x d t (pair_still s.cells t.cells (later-stay s t k) l x d e))), cdrs-by r)
+      (λ t k. (t, subst (λ v. Calls w (call_to (value.Prim (record { 0 = names.CDR })) (l ∷ [])) t v t) (sym (ap (cdr_or l) e)) (cdr-called w l x d t (pair_still s.cells t.cells (later-stay s t k) l x d e))), cdrs-by r)
 
 -- by whatever calls a procedure on each element of a list
 module _ (w : PlainSetting) (g : Value) (lv : Value) (ls row rest : List Value) (s : WorldState) (pairs : Pairs s.cells row rest ls) where
-  pub cars-listed : (AllGive w (value.Prim (record { 0 = names.CAR })) ls s → Maps w g (value.Prim (record { 0 = names.CAR }) ∷ lv ∷ []) (value.Prim (record { 0 = names.CAR })) ls s)
+  pub cars-listed : (AllGive w (value.Prim (record { 0 = names.CAR })) ls s → Maps w (call_to g (value.Prim (record { 0 = names.CAR }) ∷ lv ∷ [])) (value.Prim (record { 0 = names.CAR })) ls s)
       → Listed w g (value.Prim (record { 0 = names.CAR }) ∷ lv ∷ []) s row
   cars-listed mapping = record {
     value = m.value;
@@ -80,10 +80,10 @@ module _ (w : PlainSetting) (g : Value) (lv : Value) (ls row rest : List Value) 
         (subst (λ ys. IsList m.state.cells ys m.value) (by-answers w (value.Prim (record { 0 = names.CAR })) (car_in s.cells) ls m.answers s m.state (cars-by w s pairs) m.in_turn) m.list);
   }
     where
-      m : Maps w g (value.Prim (record { 0 = names.CAR }) ∷ lv ∷ []) (value.Prim (record { 0 = names.CAR })) ls s
+      m : Maps w (call_to g (value.Prim (record { 0 = names.CAR }) ∷ lv ∷ [])) (value.Prim (record { 0 = names.CAR })) ls s
       m = mapping (by-all w (value.Prim (record { 0 = names.CAR })) (car_in s.cells) ls s (cars-by w s pairs))
 
-  pub cdrs-listed : (AllGive w (value.Prim (record { 0 = names.CDR })) ls s → Maps w g (value.Prim (record { 0 = names.CDR }) ∷ lv ∷ []) (value.Prim (record { 0 = names.CDR })) ls s)
+  pub cdrs-listed : (AllGive w (value.Prim (record { 0 = names.CDR })) ls s → Maps w (call_to g (value.Prim (record { 0 = names.CDR }) ∷ lv ∷ [])) (value.Prim (record { 0 = names.CDR })) ls s)
       → Listed w g (value.Prim (record { 0 = names.CDR }) ∷ lv ∷ []) s rest
   cdrs-listed mapping = record {
     value = m.value;
@@ -93,7 +93,7 @@ module _ (w : PlainSetting) (g : Value) (lv : Value) (ls row rest : List Value) 
         (subst (λ ys. IsList m.state.cells ys m.value) (by-answers w (value.Prim (record { 0 = names.CDR })) (cdr_in s.cells) ls m.answers s m.state (cdrs-by w s pairs) m.in_turn) m.list);
   }
     where
-      m : Maps w g (value.Prim (record { 0 = names.CDR }) ∷ lv ∷ []) (value.Prim (record { 0 = names.CDR })) ls s
+      m : Maps w (call_to g (value.Prim (record { 0 = names.CDR }) ∷ lv ∷ [])) (value.Prim (record { 0 = names.CDR })) ls s
       m = mapping (by-all w (value.Prim (record { 0 = names.CDR })) (cdr_in s.cells) ls s (cdrs-by w s pairs))
 
 module _ (w : PlainSetting) (knows : Knows w.codes) (s : WorldState) (lv : Value) (ls : List Value) (lists : IsList s.cells ls lv) (row rest : List Value) (pairs : Pairs s.cells row rest ls) where
@@ -121,7 +121,7 @@ module _ (w : PlainSetting) (knows : Knows w.codes) (s : WorldState) (lv : Value
         (primitive-is w (record { 0 = names.MAP }) scope s) (primitive-is w (record { 0 = names.CDR }) scope s) h cdrs-given.called
 
     -- f is called on the row
-    pub on-cars-iff : (e : PlainCore) (f : Value) → Evaluates w e scope s f s → (r : End) (t : WorldState) → Iff (ExpressionEnds w (on_cars e c) scope s r t) (CallEnds w f row cars-given.state r t)
+    pub on-cars-iff : (e : PlainCore) (f : Value) → Evaluates w e scope s f s → (r : End) (t : WorldState) → Iff (ExpressionEnds w (on_cars e c) scope s r t) (CallEnds w (call_to f row) cars-given.state r t)
     on-cars-iff e f k r t =
         iff-then
         (two-iff w (prim names.APPLY) e (cars c) scope s s s cars-given.state t (value.Prim (record { 0 = names.APPLY })) f cars-given.value r (primitive-is w (record { 0 = names.APPLY }) scope s) k cars-is)

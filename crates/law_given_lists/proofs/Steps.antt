@@ -19,7 +19,7 @@ use Rattle.eval_code.specs.State.{WorldState, faulted, next_place, with_cell}
 use Rattle.eval_code.proofs.Fuel.{eval_of_is}
 use Rattle.law_eval.specs.Runs.{ByFuel}
 use Rattle.law_eval.proofs.Carried.{AllCarried, all_carried}
-use Rattle.law_given.specs.Calls.{End, ended, Ends, call_of, CallEnds}
+use Rattle.law_given.specs.Calls.{End, ended, Ends, call_to, call_of, CallEnds}
 use Rattle.law_given.proofs.Applying.{applies, apply-ends}
 use Rattle.law_given.proofs.Calling.{called-at-once, not-apply, closure-ends, closure-ends-back, case-ends, text-ends}
 use Rattle.law_given.proofs.Giving.{ends-same, Evaluates, ExpressionEnds, ends-step, true-ends, false-ends, OperandsEnd, operand-ends, call-ends, call-one-ends, call-two-ends, call-three-ends, call-four-ends}
@@ -29,8 +29,8 @@ module _ (w : PlainSetting) where
   carried : (c : PlainCore) (scope : Place) (s : WorldState) → AllCarried (eval_of w c scope s)
   carried c scope s = all_carried.expressions w c scope s
 
-  pub call-real : (f : Value) (args : List Value) (s : WorldState) (r : End) (t : WorldState) → CallEnds w f args s r t → Real r
-  call-real f args s r t h = real-of (call_of w f args s) (all_carried.calls w (f ∷ args) s) r t h
+  pub call-real : (f : Value) (args : List Value) (s : WorldState) (r : End) (t : WorldState) → CallEnds w (call_to f args) s r t → Real r
+  call-real f args s r t h = real-of (call_of w (call_to f args) s) (all_carried.calls w (f ∷ args) s) r t h
 
   pub expression-real : (c : PlainCore) (scope : Place) (s : WorldState) (r : End) (t : WorldState) → ExpressionEnds w c scope s r t → Real r
   expression-real c scope s r t h = real-of (eval_of w c scope s) (carried c scope s) r t h
@@ -138,7 +138,7 @@ module _ (w : PlainSetting) where
 
   -- the last operand, which is known
   pub last-iff : (d : PlainCore) (scope : Place) (f : Value) (vs : List Value) (t u : WorldState) (x : Value) (r : End) (q : WorldState) → Real r → Evaluates w d scope t x u
-      → Iff (OperandsEnd w (more d none) scope (f ∷ vs) t r q) (CallEnds w f (vs ++ x ∷ []) u r q)
+      → Iff (OperandsEnd w (more d none) scope (f ∷ vs) t r q) (CallEnds w (call_to f (vs ++ x ∷ [])) u r q)
   last-iff d scope f vs t u x r q real k = (λ g. operand-known d none scope (f ∷ vs) t u x r q real k g, λ g. operand-ends w d none scope (f ∷ vs) t u q x r k g)
 
   -- two expressions in a row
@@ -151,7 +151,7 @@ module _ (w : PlainSetting) where
   )
 
   pub one-iff : (c d : PlainCore) (scope : Place) (s t u q : WorldState) (f x : Value) (r : End) → Evaluates w c scope s f t → Evaluates w d scope t x u
-      → Iff (ExpressionEnds w (call c (more d none)) scope s r q) (CallEnds w f (x ∷ []) u r q)
+      → Iff (ExpressionEnds w (call c (more d none)) scope s r q) (CallEnds w (call_to f (x ∷ [])) u r q)
   one-iff c d scope s t u q f x r h k = (
     λ g. let real = expression-real (call c (more d none)) scope s r q g in
         operand-known d none scope (f ∷ []) t u x r q real k (called-known c (more d none) scope s t f r q h g),
@@ -159,7 +159,7 @@ module _ (w : PlainSetting) where
   )
 
   pub two-iff : (c d e : PlainCore) (scope : Place) (s t u q p : WorldState) (f x y : Value) (r : End) → Evaluates w c scope s f t → Evaluates w d scope t x u → Evaluates w e scope u y q
-      → Iff (ExpressionEnds w (call c (more d (more e none))) scope s r p) (CallEnds w f (x ∷ y ∷ []) q r p)
+      → Iff (ExpressionEnds w (call c (more d (more e none))) scope s r p) (CallEnds w (call_to f (x ∷ y ∷ [])) q r p)
   two-iff c d e scope s t u q p f x y r h k j = (
     λ g. let real = expression-real (call c (more d (more e none))) scope s r p g in
         operand-known e none scope (f ∷ x ∷ []) u q y r p real j
@@ -169,7 +169,7 @@ module _ (w : PlainSetting) where
 
   pub three-iff : (c d e a : PlainCore) (scope : Place) (s t u q p o : WorldState) (f x y z : Value) (r : End)
       → Evaluates w c scope s f t → Evaluates w d scope t x u → Evaluates w e scope u y q → Evaluates w a scope q z p
-      → Iff (ExpressionEnds w (call c (more d (more e (more a none)))) scope s r o) (CallEnds w f (x ∷ y ∷ z ∷ []) p r o)
+      → Iff (ExpressionEnds w (call c (more d (more e (more a none)))) scope s r o) (CallEnds w (call_to f (x ∷ y ∷ z ∷ [])) p r o)
   three-iff c d e a scope s t u q p o f x y z r h k j i = (
     λ g. let real = expression-real (call c (more d (more e (more a none)))) scope s r o g in
         operand-known a none scope (f ∷ x ∷ y ∷ []) q p z r o real i
@@ -180,7 +180,7 @@ module _ (w : PlainSetting) where
 
   pub four-iff : (c d e a b : PlainCore) (scope : Place) (s t u q p o l : WorldState) (f x y z k : Value) (r : End)
       → Evaluates w c scope s f t → Evaluates w d scope t x u → Evaluates w e scope u y q → Evaluates w a scope q z p → Evaluates w b scope p k o
-      → Iff (ExpressionEnds w (call c (more d (more e (more a (more b none))))) scope s r l) (CallEnds w f (x ∷ y ∷ z ∷ k ∷ []) o r l)
+      → Iff (ExpressionEnds w (call c (more d (more e (more a (more b none))))) scope s r l) (CallEnds w (call_to f (x ∷ y ∷ z ∷ k ∷ [])) o r l)
   four-iff c d e a b scope s t u q p o l f x y z k r g h j i m = (
     λ given. let real = expression-real (call c (more d (more e (more a (more b none))))) scope s r l given in
         operand-known b none scope (f ∷ x ∷ y ∷ z ∷ []) p o k r l real m
@@ -192,19 +192,19 @@ module _ (w : PlainSetting) where
 
   -- the call that a call of `apply` stands for
   apply-back : (f : Value) (front xs : List Value) (l : Value) (s : WorldState) (r : End) (t : WorldState) → list_elements s.cells l ≡ Some xs
-      → CallEnds w (value.Prim (record { 0 = names.APPLY })) (f ∷ (front ++ l ∷ [])) s r t → CallEnds w f (front ++ xs) s r t
+      → CallEnds w (call_to (value.Prim (record { 0 = names.APPLY })) (f ∷ (front ++ l ∷ []))) s r t → CallEnds w (call_to f (front ++ xs)) s r t
   apply-back f front xs l s r t has g =
-      enough-ends (call_of w f (front ++ xs) s) (all_carried.calls w (f ∷ (front ++ xs)) s) r t g.0 (length xs) (call-real (value.Prim (record { 0 = names.APPLY })) (f ∷ (front ++ l ∷ [])) s r t g)
+      enough-ends (call_of w (call_to f (front ++ xs)) s) (all_carried.calls w (f ∷ (front ++ xs)) s) r t g.0 (length xs) (call-real (value.Prim (record { 0 = names.APPLY })) (f ∷ (front ++ l ∷ [])) s r t g)
       (sym (applies w f front xs l s (length xs + g.0) g.0 (omega arith) has) ∙ g.1 (length xs))
 
   pub apply-iff : (f : Value) (front xs : List Value) (l : Value) (s : WorldState) (r : End) (t : WorldState) → list_elements s.cells l ≡ Some xs
-      → Iff (CallEnds w (value.Prim (record { 0 = names.APPLY })) (f ∷ (front ++ l ∷ [])) s r t) (CallEnds w f (front ++ xs) s r t)
+      → Iff (CallEnds w (call_to (value.Prim (record { 0 = names.APPLY })) (f ∷ (front ++ l ∷ []))) s r t) (CallEnds w (call_to f (front ++ xs)) s r t)
   apply-iff f front xs l s r t has = (apply-back f front xs l s r t has, apply-ends w f front xs l s r t has)
 
   -- Of procedures and texts.
 
   pub closure-iff : (number : CodeNo) (parent : Place) (args : List Value) (s : WorldState) (r : End) (t : WorldState)
-      → Iff (CallEnds w (value.Closure number parent) args s r t) (Ends (procedure_called w (eval_of w) number parent args s) r t)
+      → Iff (CallEnds w (call_to (value.Closure number parent) args) s r t) (Ends (procedure_called w (eval_of w) number parent args s) r t)
   closure-iff number parent args s r t = (closure-ends-back w number parent args s r t, closure-ends w number parent args s r t)
 
   case-back : (number : CodeNo) (parent : Place) (args : List Value) (s : WorldState) (code : PlainCode) (f : Formals) (body : PlainCore) (r : End) (t : WorldState)
@@ -224,14 +224,14 @@ module _ (w : PlainSetting) where
   text-back : (op : Op) (args : List Value) (s t u : WorldState) (code : PlainCode) (body : PlainCore) (number : CodeNo) (parent : Place) (r : End)
       → nat_eq op.0 names.APPLY ≡ false → has_text op.0 ≡ true → code_at w.codes (text_number op.0) ≡ Some code → text_body (Some code) ≡ Some body
       → Evaluates w body (next_place s) (with_cell (cell.Scope [] None) s) (value.Closure number parent) t
-      → CallEnds w (value.Prim op) args s r u → Ends (procedure_called w (eval_of w) number parent args t) r u
+      → CallEnds w (call_to (value.Prim op) args) s r u → Ends (procedure_called w (eval_of w) number parent args t) r u
   unfolding op_called
   text-back op args s t u code body number parent r other some is text given g =
       known-ends (eval_of w body (next_place s) (with_cell (cell.Scope [] None) s)) (text_value_called w (eval_of w) args) (carried body (next_place s) (with_cell (cell.Scope [] None) s))
       (value.Closure number parent) t r u (call-real (value.Prim op) args s r u g) given
-      (ends-same (call_of w (value.Prim op) args s) (λ n. by_text w (eval_of w) args s n (Some body)) r u by g)
+      (ends-same (call_of w (call_to (value.Prim op) args) s) (λ n. by_text w (eval_of w) args s n (Some body)) r u by g)
     where
-      by : (n : ℕ) → by_text w (eval_of w) args s n (Some body) ≡ call_of w (value.Prim op) args s n
+      by : (n : ℕ) → by_text w (eval_of w) args s n (Some body) ≡ call_of w (call_to (value.Prim op) args) s n
       by n =
           sym (called-at-once w (value.Prim op) args s n (not-apply w op args other)
           ∙ ap (λ b. if b then by_text w (eval_of w) args s n (text_body (code_at w.codes (text_number op.0))) else primitive_called w op.0 args s n) some
@@ -240,6 +240,6 @@ module _ (w : PlainSetting) where
   pub text-iff : (op : Op) (args : List Value) (s t u : WorldState) (code : PlainCode) (body : PlainCore) (number : CodeNo) (parent : Place) (r : End)
       → nat_eq op.0 names.APPLY ≡ false → has_text op.0 ≡ true → code_at w.codes (text_number op.0) ≡ Some code → text_body (Some code) ≡ Some body
       → Evaluates w body (next_place s) (with_cell (cell.Scope [] None) s) (value.Closure number parent) t
-      → Iff (CallEnds w (value.Prim op) args s r u) (Ends (procedure_called w (eval_of w) number parent args t) r u)
+      → Iff (CallEnds w (call_to (value.Prim op) args) s r u) (Ends (procedure_called w (eval_of w) number parent args t) r u)
   text-iff op args s t u code body number parent r other some is text given =
       (text-back op args s t u code body number parent r other some is text given, text-ends w op args s t u code body number parent r other some is text given)

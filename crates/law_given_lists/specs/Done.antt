@@ -8,12 +8,13 @@ use Rattle.law_lists.specs.Runs.{IsList}
 use Rattle.law_given.specs.Calls.{End}
 use Rattle.law_given_lists.specs.RowCalls.{RowsInTurn, RowsStop}
 
--- It gave the list of the answers; or a call faulted, and that is its fault.
-abbrev pub MapDid : PlainSetting → Value → List (List Value) → WorldState → End → WorldState → Type 0
-MapDid w f rows s (Ok v) t = (answers : List Value) × RowsInTurn w f rows s answers t × IsList t.cells answers v
-MapDid w f rows s (Err e) t = RowsStop w f rows s e t
+module _ (w : PlainSetting) (f : Value) where
+  -- It gave the list of the answers; or a call faulted, and that is its fault.
+  abbrev pub MapDid : List (List Value) → WorldState → End → WorldState → Type 0
+  MapDid rows s (Ok v) t = (answers : List Value) × RowsInTurn w f rows s answers t × IsList t.cells answers v
+  MapDid rows s (Err e) t = RowsStop w f rows s e t
 
--- It gave nothing of the answers.
-abbrev pub VisitDid : PlainSetting → Value → List (List Value) → WorldState → End → WorldState → Type 0
-VisitDid w f rows s (Ok v) t = (answers : List Value) × RowsInTurn w f rows s answers t × (v ≡ value.Unspecified)
-VisitDid w f rows s (Err e) t = RowsStop w f rows s e t
+  -- It gave nothing of the answers.
+  abbrev pub VisitDid : List (List Value) → WorldState → End → WorldState → Type 0
+  VisitDid rows s (Ok v) t = (answers : List Value) × RowsInTurn w f rows s answers t × (v ≡ value.Unspecified)
+  VisitDid rows s (Err e) t = RowsStop w f rows s e t

@@ -42,7 +42,7 @@ use Rattle.law_eval.specs.Kept.{LaterWorld, EndsLater}
 use Rattle.law_eval.proofs.Keeping.{keeps-eval_of, later_then}
 use Rattle.law_lists.specs.Runs.{Runs}
 use Rattle.law_lists.proofs.RunLemmas.{runs_still, stored_runs}
-use Rattle.law_given.specs.Calls.{Gives, Calls}
+use Rattle.law_given.specs.Calls.{Gives, call_to, Calls}
 use Rattle.law_given.proofs.Calling.{plain-called}
 use Rattle.law_given.proofs.Giving.{gives-done, gives-charged, Evaluates, evaluates-step, primitive-is, Operands, operand, call-is}
 use Rattle.law_given.proofs.Later.{later-refl, calls-later}
@@ -232,30 +232,30 @@ module _ (w : PlainSetting) (scope : Place) (given : List (Tree × Value)) (f : 
   module _ (rest : List Want) (cs : List PlainCore) (s : WorldState) where
     call_gives : (op : Op) (codes : List PlainCore) (vs : List Value) (t u : WorldState) (v : Value)
         → ((us : List Value) (x : Value) (q : WorldState) → Gives (applied w (eval_of w) (us ++ vs) t) x q → Operands w (cores codes) scope us s x q)
-        → Calls w (value.Prim op) vs t v u → Evaluates w (call_of op codes) scope s v u
+        → Calls w (call_to (value.Prim op) vs) t v u → Evaluates w (call_of op codes) scope s v u
     call_gives op codes vs t u v operands h =
         call-is w (primitive op) (cores codes) scope s s u (value.Prim op) v (primitive-is w op scope s) (operands (value.Prim op ∷ []) v u h)
 
     -- new pairs of these before a rest
-    pairs_called : (op : ℕ) (vs xs : List Value) (end : Value) (t : WorldState) → Calls w (value.Prim (record { 0 = op })) vs t (pairs_stored xs (end, t.cells)).0 (store (pairs_stored xs (end, t.cells)).1 t.names)
+    pairs_called : (op : ℕ) (vs xs : List Value) (end : Value) (t : WorldState) → Calls w (call_to (value.Prim (record { 0 = op })) vs) t (pairs_stored xs (end, t.cells)).0 (store (pairs_stored xs (end, t.cells)).1 t.names)
         → LaterWorld t (store (pairs_stored xs (end, t.cells)).1 t.names)
     pairs_called op vs xs end t h = calls-later w (value.Prim (record { 0 = op })) vs t (pairs_stored xs (end, t.cells)).0 (store (pairs_stored xs (end, t.cells)).1 t.names) h
 
-    list_called : (vs : List Value) (t : WorldState) → Calls w (value.Prim (op_of maker.List)) vs t (pairs_stored vs (lists.nil, t.cells)).0 (store (pairs_stored vs (lists.nil, t.cells)).1 t.names)
+    list_called : (vs : List Value) (t : WorldState) → Calls w (call_to (value.Prim (op_of maker.List)) vs) t (pairs_stored vs (lists.nil, t.cells)).0 (store (pairs_stored vs (lists.nil, t.cells)).1 t.names)
     unfolding has_text
     list_called vs t = plain-called w (op_of maker.List) vs t (made.List vs lists.nil) refl refl refl (list_answer t.cells w.frames vs)
 
-    star_called : (xs : List Value) (end : Value) (t : WorldState) → Calls w (value.Prim (op_of maker.ConsStar)) (xs ++ end ∷ []) t (pairs_stored xs (end, t.cells)).0 (store (pairs_stored xs (end, t.cells)).1 t.names)
+    star_called : (xs : List Value) (end : Value) (t : WorldState) → Calls w (call_to (value.Prim (op_of maker.ConsStar)) (xs ++ end ∷ [])) t (pairs_stored xs (end, t.cells)).0 (store (pairs_stored xs (end, t.cells)).1 t.names)
     unfolding has_text
     star_called xs end t = plain-called w (op_of maker.ConsStar) (xs ++ end ∷ []) t (made.List xs end) refl refl refl (star_answer t.cells w.frames xs end)
 
     append_called : (xs ys : List Value) (end : Value) (t : WorldState) → elements_joined t.cells [] xs ≡ Some ys
-        → Calls w (value.Prim (op_of maker.Append)) (xs ++ end ∷ []) t (pairs_stored ys (end, t.cells)).0 (store (pairs_stored ys (end, t.cells)).1 t.names)
+        → Calls w (call_to (value.Prim (op_of maker.Append)) (xs ++ end ∷ [])) t (pairs_stored ys (end, t.cells)).0 (store (pairs_stored ys (end, t.cells)).1 t.names)
     unfolding has_text
     append_called xs ys end t e = plain-called w (op_of maker.Append) (xs ++ end ∷ []) t (made.List ys end) refl refl refl (append_answer t.cells w.frames xs ys end e)
 
     vector_called : (x : Value) (xs : List Value) (t : WorldState) → list_elements t.cells x ≡ Some xs
-        → Calls w (value.Prim (op_of maker.ListToVector)) (x ∷ []) t (value.Vector (record { 0 = length t.cells })) (store (t.cells ++ cell.Vector xs ∷ []) t.names)
+        → Calls w (call_to (value.Prim (op_of maker.ListToVector)) (x ∷ [])) t (value.Vector (record { 0 = length t.cells })) (store (t.cells ++ cell.Vector xs ∷ []) t.names)
     unfolding has_text
     vector_called x xs t e = plain-called w (op_of maker.ListToVector) (x ∷ []) t (made.Vector xs) refl refl refl (vector_answer t.cells w.frames x xs e)
 
@@ -295,8 +295,8 @@ module _ (w : PlainSetting) (scope : Place) (given : List (Tree × Value)) (f : 
     star_by codes ts r e =
         let p = pairs_stored e.fronts (e.last, r.state.cells) in
         let u = store p.1 r.state.names in
-        let h : Calls w (value.Prim (op_of maker.ConsStar)) r.values_of r.state p.0 u =
-        subst (λ (vs : List Value). Calls w (value.Prim (op_of maker.ConsStar)) vs r.state p.0 u) (sym e.are) (star_called e.fronts e.last r.state) in
+        let h : Calls w (call_to (value.Prim (op_of maker.ConsStar)) r.values_of) r.state p.0 u =
+        subst (λ (vs : List Value). Calls w (call_to (value.Prim (op_of maker.ConsStar)) vs) r.state p.0 u) (sym e.are) (star_called e.fronts e.last r.state) in
         let k = pairs_called names.CONS_STAR r.values_of e.fronts e.last r.state h in
         record {
           value = p.0;
@@ -325,9 +325,9 @@ module _ (w : PlainSetting) (scope : Place) (given : List (Tree × Value)) (f : 
       abbrev joined_state : WorldState
       joined_state = store joined_to.1 r.state.names
 
-      joined_call : Calls w (value.Prim (op_of maker.Append)) r.values_of r.state joined_to.0 joined_state
+      joined_call : Calls w (call_to (value.Prim (op_of maker.Append)) r.values_of) r.state joined_to.0 joined_state
       joined_call =
-          subst (λ (vs : List Value). Calls w (value.Prim (op_of maker.Append)) vs r.state joined_to.0 joined_state) (sym r.parts.are)
+          subst (λ (vs : List Value). Calls w (call_to (value.Prim (op_of maker.Append)) vs) r.state joined_to.0 joined_state) (sym r.parts.are)
           (append_called r.parts.fronts r.parts.joined r.parts.last r.state (r.parts.join []))
 
       joined_later : LaterWorld r.state joined_state
