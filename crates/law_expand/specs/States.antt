@@ -125,18 +125,19 @@ pub record Grows (own : LibName) (s t : State) : Type 0 where
   pub keyed : AreKeyed own s.frames → AreKeyed own t.frames
   pub shown : RowsAreBound own s → RowsAreBound own t
 
--- What comes into scope stands behind what was there, and is among these labels. So are the variables of the top of the library
--- that come, if any may, and they are of level 0. The pattern variables that come into scope are among these, with their depths.
--- What is in scope is bound, if it was before.
-pub record Adds (own : LibName) (top : Bool) (ls : List Label) (ds : Depths) (s t : State) : Type 0 where
-  pub more : List Label
-  pub scope : t.scope ≡ s.scope ++ more
-  pub new : Each (Among ls) more
-  pub tops : (l : Label) (v : VarInfo) → IsOwn own l.0 → IsTop t l v → IsTop s l v ⊎ ((top ≡ true) × ((v.level ≡ 0) × Among ls l))
-  pub bound : Each (IsBound s) s.scope → Each (IsBound t) t.scope
-  pub numbered : IsNumbered own s → IsNumbered own t
-  pub patterns : Each (IsBound s) s.scope → IsNumbered own s → (l : Label) (level depth : ℕ) → Among t.scope l → IsPattern t l level depth
-      → (Among s.scope l × IsPattern s l level depth) ⊎ Among ds (l, depth)
+module _ (own : LibName) where
+  -- What comes into scope stands behind what was there, and is among these labels. So are the variables of the top of the library
+  -- that come, if any may, and they are of level 0. The pattern variables that come into scope are among these, with their depths.
+  -- What is in scope is bound, if it was before.
+  pub record Adds (top : Bool) (ls : List Label) (ds : Depths) (s t : State) : Type 0 where
+    pub more : List Label
+    pub scope : t.scope ≡ s.scope ++ more
+    pub new : Each (Among ls) more
+    pub tops : (l : Label) (v : VarInfo) → IsOwn own l.0 → IsTop t l v → IsTop s l v ⊎ ((top ≡ true) × ((v.level ≡ 0) × Among ls l))
+    pub bound : Each (IsBound s) s.scope → Each (IsBound t) t.scope
+    pub numbered : IsNumbered own s → IsNumbered own t
+    pub patterns : Each (IsBound s) s.scope → IsNumbered own s → (l : Label) (level depth : ℕ) → Among t.scope l → IsPattern t l level depth
+        → (Among s.scope l × IsPattern s l level depth) ⊎ Among ds (l, depth)
 
 -- Of the keywords whose labels were made, those that are kept stay kept; and each keyword of the library that comes is kept.
 pub record Keeps (own : LibName) (s t : State) : Type 0 where
@@ -164,12 +165,13 @@ pub record LaterBut (own : LibName) (g : FrameNo) (s t : State) : Type 0 where
   pub same : (f : FrameNo) → IsOld own s f → (f ≡ g → ⊥) → rows_at f t.frames ≡ rows_at f s.frames
   pub grows : Grows own s t
 
--- What an expression of this level may refer to is among these labels: what is in scope, at level 0 the variables of the top of
--- the library, which are of that level, and what other libraries define. The pattern variables in scope are among these, with their
--- depths, and these are pattern variables. Nothing is asked of trees.
-pub record ReachOfCode (own : LibName) (given : List Label) (vs : Depths) (level : ℕ) (s : State) (ls : List Label) : Type 0 where
-  pub scope : Each (Among ls) s.scope
-  pub top : (l : Label) (v : VarInfo) → IsOwn own l.0 → IsTop s l v → (v.level ≡ 0) × (level ≡ 0 → Among ls l)
-  pub foreign : (l : Label) → Among given l → Among ls l
-  pub depths : (l : Label) (at depth : ℕ) → Among s.scope l → IsPattern s l at depth → Among vs (l, depth)
-  pub patterns : Each (λ (v : Label × ℕ). (at : ℕ) × IsPattern s v.0 at v.1) vs
+module _ (own : LibName) where
+  -- What an expression of this level may refer to is among these labels: what is in scope, at level 0 the variables of the top of
+  -- the library, which are of that level, and what other libraries define. The pattern variables in scope are among these, with their
+  -- depths, and these are pattern variables. Nothing is asked of trees.
+  pub record ReachOfCode (given : List Label) (vs : Depths) (level : ℕ) (s : State) (ls : List Label) : Type 0 where
+    pub scope : Each (Among ls) s.scope
+    pub top : (l : Label) (v : VarInfo) → IsOwn own l.0 → IsTop s l v → (v.level ≡ 0) × (level ≡ 0 → Among ls l)
+    pub foreign : (l : Label) → Among given l → Among ls l
+    pub depths : (l : Label) (at depth : ℕ) → Among s.scope l → IsPattern s l at depth → Among vs (l, depth)
+    pub patterns : Each (λ (v : Label × ℕ). (at : ℕ) × IsPattern s v.0 at v.1) vs

@@ -48,21 +48,22 @@ pub data IsBadReference (s : State) (place : Span) (level : ℕ) (id : Tree) (f 
       → TellsFault kind.AssignedElsewhere id place (symbol_of id ∷ []) f
       → IsBadReference s place level id f
 
--- The target of an assignment. A fault names the identifier. It stands at the assignment, but where the identifier itself can't be used here.
-pub data IsBadTarget (s : State) (place : Span) (level : ℕ) (form id : Tree) (f : Fault) : Type 0 where
-  unbound_target : standing_of s id ≡ standing.Nothing → TellsFault kind.Unbound form place (symbol_of id ∷ []) f → IsBadTarget s place level form id f
-  pattern_target : standing_of s id ≡ standing.PatternVariable → TellsFault kind.KeywordMisuse id place (symbol_of id ∷ []) f
-      → IsBadTarget s place level form id f
-  keyword_target : {k : CoreForm} → standing_of s id ≡ standing.Core k → TellsFault kind.KeywordMisuse form place (symbol_of id ∷ []) f
-      → IsBadTarget s place level form id f
-  primitive_target : {op : Op} → standing_of s id ≡ standing.Primitive op → TellsFault kind.AssignedImport form place (symbol_of id ∷ []) f
-      → IsBadTarget s place level form id f
-  target_out_of_context : {v : Variable} → standing_of s id ≡ standing.Variable v → (IsVisible s level v → ⊥)
-      → TellsFault kind.OutOfContext id place (symbol_of id ∷ []) f → IsBadTarget s place level form id f
-  exported_target : {v : Variable} → standing_of s id ≡ standing.Variable v → IsVisible s level v → IsAmongForms v.label s.exports
-      → TellsFault kind.AssignedExport form place (symbol_of id ∷ []) f → IsBadTarget s place level form id f
-  imported_target : {v : Variable} → standing_of s id ≡ standing.Variable v → v.own ≡ false → v.top ≡ true → (IsAmongForms v.label s.exports → ⊥) → TellsFault kind.AssignedImport form place (symbol_of id ∷ []) f
-      → IsBadTarget s place level form id f
+module _ (s : State) (place : Span) (level : ℕ) where
+  -- The target of an assignment. A fault names the identifier. It stands at the assignment, but where the identifier itself can't be used here.
+  pub data IsBadTarget (form id : Tree) (f : Fault) : Type 0 where
+    unbound_target : standing_of s id ≡ standing.Nothing → TellsFault kind.Unbound form place (symbol_of id ∷ []) f → IsBadTarget form id f
+    pattern_target : standing_of s id ≡ standing.PatternVariable → TellsFault kind.KeywordMisuse id place (symbol_of id ∷ []) f
+        → IsBadTarget form id f
+    keyword_target : {k : CoreForm} → standing_of s id ≡ standing.Core k → TellsFault kind.KeywordMisuse form place (symbol_of id ∷ []) f
+        → IsBadTarget form id f
+    primitive_target : {op : Op} → standing_of s id ≡ standing.Primitive op → TellsFault kind.AssignedImport form place (symbol_of id ∷ []) f
+        → IsBadTarget form id f
+    target_out_of_context : {v : Variable} → standing_of s id ≡ standing.Variable v → (IsVisible s level v → ⊥)
+        → TellsFault kind.OutOfContext id place (symbol_of id ∷ []) f → IsBadTarget form id f
+    exported_target : {v : Variable} → standing_of s id ≡ standing.Variable v → IsVisible s level v → IsAmongForms v.label s.exports
+        → TellsFault kind.AssignedExport form place (symbol_of id ∷ []) f → IsBadTarget form id f
+    imported_target : {v : Variable} → standing_of s id ≡ standing.Variable v → v.own ≡ false → v.top ≡ true → (IsAmongForms v.label s.exports → ⊥) → TellsFault kind.AssignedImport form place (symbol_of id ∷ []) f
+        → IsBadTarget form id f
 
 -- `(set! id value)`: the head stands for the keyword, and the form has its shape
 pub data IsAssignment (s : State) (place : Span) (id value : Tree) : Tree → Type 0 where
@@ -70,14 +71,15 @@ pub data IsAssignment (s : State) (place : Span) (id value : Tree) : Tree → Ty
       → shape core_forms.Set (pair span head rest) place ≡ Ok (shapes.Set id value)
       → IsAssignment s place id value (pair span head rest)
 
--- An assignment to a keyword is a use of it, where that is a variable transformer; to look at it can be at fault, too.
-pub data IsBadAssignment (rs : List CompiledLibrary) (s : State) (place : Span) (level : ℕ) (form id : Tree) (f : Fault) : Type 0 where
-  bad_target : IsBadTarget s place level form id f → IsBadAssignment rs s place level form id f
-  bad_keyword : {l : Label} → standing_of s id ≡ standing.Keyword l → asks_variable rs (place_of form place) l s ≡ Err f
-      → IsBadAssignment rs s place level form id f
-  no_variable_transformer : {l : Label} {t : State} → standing_of s id ≡ standing.Keyword l
-      → asks_variable rs (place_of form place) l s ≡ Ok (false, t) → TellsFault kind.KeywordMisuse form place (symbol_of id ∷ []) f
-      → IsBadAssignment rs s place level form id f
+module _ (rs : List CompiledLibrary) (s : State) (place : Span) (level : ℕ) where
+  -- An assignment to a keyword is a use of it, where that is a variable transformer; to look at it can be at fault, too.
+  pub data IsBadAssignment (form id : Tree) (f : Fault) : Type 0 where
+    bad_target : IsBadTarget s place level form id f → IsBadAssignment form id f
+    bad_keyword : {l : Label} → standing_of s id ≡ standing.Keyword l → asks_variable rs (place_of form place) l s ≡ Err f
+        → IsBadAssignment form id f
+    no_variable_transformer : {l : Label} {t : State} → standing_of s id ≡ standing.Keyword l
+        → asks_variable rs (place_of form place) l s ≡ Ok (false, t) → TellsFault kind.KeywordMisuse form place (symbol_of id ∷ []) f
+        → IsBadAssignment form id f
 
 -- the keywords that stand only within other forms (R6RS 11.4.5, 11.17 and 11.19, libraries 6.2, 12.4 and 12.8)
 pub data IsAuxiliary : CoreForm → Type 0 where

@@ -22,11 +22,12 @@ use Rattle.eval_code.specs.State.{WorldState, store, next_place, with_cell}
 use Rattle.law_given.specs.Calls.{End, Ends, Gives}
 use Rattle.expand_quasi.specs.Inserted.{match_of}
 
--- The codes give these values in turn, each in the state that the one before it left.
-pub data GiveInTurn (w : PlainSetting) (scope : Place) : List PlainCore → WorldState → List Value → WorldState → Type 0 where
-  no_code : {s : WorldState} → GiveInTurn w scope [] s [] s
-  one_code : {c : PlainCore} {cs : List PlainCore} {s t u : WorldState} {v : Value} {vs : List Value}
-      → Gives (eval_of w c scope s) v t → GiveInTurn w scope cs t vs u → GiveInTurn w scope (c ∷ cs) s (v ∷ vs) u
+module _ (w : PlainSetting) (scope : Place) where
+  -- The codes give these values in turn, each in the state that the one before it left.
+  pub data GiveInTurn : List PlainCore → WorldState → List Value → WorldState → Type 0 where
+    no_code : {s : WorldState} → GiveInTurn [] s [] s
+    one_code : {c : PlainCore} {cs : List PlainCore} {s t u : WorldState} {v : Value} {vs : List Value}
+        → Gives (eval_of w c scope s) v t → GiveInTurn cs t vs u → GiveInTurn (c ∷ cs) s (v ∷ vs) u
 
 -- the empty list, in the store or of syntax
 pub data IsEmpty : Value → Type 0 where

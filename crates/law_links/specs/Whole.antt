@@ -33,24 +33,25 @@ abbrev pub BindersAreLinked : Type 0
 BindersAreLinked = (f : FrameNo) (place : Span) (level : ℕ) (top : Bool) (id : Tree) (s u : State) (l : Label) (p : Span)
     → bind_variable f place level top id s ≡ Ok (l, u) → span_of id ≡ Some p → u.links ≡ s.links ++ link_to p l kinds.Bind ∷ []
 
--- The links of a library are those of identifiers, and those of the references in its lines and in the expressions of its keywords are among them. The lines
--- are those of the record.
-pub record RunIsLinked (records : List CompiledLibrary) (start : State) (at : TopAt) (exports : List (List ℕ × Tree)) (forms : List Tree)
-    (l : Linked) : Type 0 where
-  pub taken : Taken
-  pub first : State
-  pub bound : List KeywordExpression
-  pub exported : List ImportedName
-  pub between : State
-  pub told : List NotedLine
-  pub last : State
-  pub taking : Take records (top.body_at at start.library) 0 begun (map (stamp at.frame) forms) start taken first bound
-  pub looks : top.exports at exports first ≡ Ok (exported, between)
-  pub ends : Finish records 0 taken.waiting between told last
-  pub run : lines told ≡ l.library.run
-  pub are : Each IsLink l.links
-  pub lines_linked : Each (λ (x : NotedLine). AreLinked l.links x.noted.references) told
-  pub expressions_linked : ExpressionsLinked l.links (bound ++ of_lines told)
+module _ (records : List CompiledLibrary) where
+  -- The links of a library are those of identifiers, and those of the references in its lines and in the expressions of its keywords are among them. The lines
+  -- are those of the record.
+  pub record RunIsLinked (start : State) (at : TopAt) (exports : List (List ℕ × Tree)) (forms : List Tree)
+      (l : Linked) : Type 0 where
+    pub taken : Taken
+    pub first : State
+    pub bound : List KeywordExpression
+    pub exported : List ImportedName
+    pub between : State
+    pub told : List NotedLine
+    pub last : State
+    pub taking : Take records (top.body_at at start.library) 0 begun (map (stamp at.frame) forms) start taken first bound
+    pub looks : top.exports at exports first ≡ Ok (exported, between)
+    pub ends : Finish records 0 taken.waiting between told last
+    pub run : lines told ≡ l.library.run
+    pub are : Each IsLink l.links
+    pub lines_linked : Each (λ (x : NotedLine). AreLinked l.links x.noted.references) told
+    pub expressions_linked : ExpressionsLinked l.links (bound ++ of_lines told)
 
 -- So it is of each library with a new name, behind records and codes of texts whose leaves have histories.
 abbrev pub LinksAreOfIdentifiers : Type 0

@@ -45,33 +45,34 @@ abbrev pub stacked : List Column → List Bindings → List Column
 stacked cols [] = cols
 stacked cols (row ∷ rows) = stacked (grown [] cols row) rows
 
-mutual
-  pub data Matches (fs : Scope) (cells : List Cell) : PlainPattern → Value → Bindings → ℕ → Type 0 where
-    takes_any : {v : Value} → Matches fs cells any v [] 0
-    takes_variable : {l : Label} {v : Value} → Matches fs cells (variable l) v ((l, one v) ∷ []) 0
-    takes_literal : {t : Tree} {v : Value} → is_alike fs t v ≡ true → Matches fs cells (literal t) v [] 0
-    takes_atom : {a : Atom} {v : Value} → atom_of cells v ≡ Some a → Matches fs cells (pattern.atom a) v [] 0
-    takes_list : {ps : PlainPatterns} {t : PlainPattern} {v r : Value} {xs : List Value} {bs cs : Bindings} {m n : ℕ}
-        → Begins cells xs r v → IsLast cells (limit ps) r → Fills fs cells ps xs bs m → Matches fs cells t r cs n
-        → Matches fs cells (list ps t) v (bs ++ cs) (m + n)
-    takes_vector : {ps : PlainPatterns} {v : Value} {xs : List Value} {bs : Bindings} {n : ℕ} → vector_of cells v ≡ Some xs
-        → Fills fs cells ps xs bs n → Matches fs cells (pattern.vector ps) v bs n
+module _ (fs : Scope) (cells : List Cell) where
+  mutual
+    pub data Matches : PlainPattern → Value → Bindings → ℕ → Type 0 where
+      takes_any : {v : Value} → Matches any v [] 0
+      takes_variable : {l : Label} {v : Value} → Matches (variable l) v ((l, one v) ∷ []) 0
+      takes_literal : {t : Tree} {v : Value} → is_alike fs t v ≡ true → Matches (literal t) v [] 0
+      takes_atom : {a : Atom} {v : Value} → atom_of cells v ≡ Some a → Matches (pattern.atom a) v [] 0
+      takes_list : {ps : PlainPatterns} {t : PlainPattern} {v r : Value} {xs : List Value} {bs cs : Bindings} {m n : ℕ}
+          → Begins cells xs r v → IsLast cells (limit ps) r → Fills ps xs bs m → Matches t r cs n
+          → Matches (list ps t) v (bs ++ cs) (m + n)
+      takes_vector : {ps : PlainPatterns} {v : Value} {xs : List Value} {bs : Bindings} {n : ℕ} → vector_of cells v ≡ Some xs
+          → Fills ps xs bs n → Matches (pattern.vector ps) v bs n
 
-  -- elements by patterns: the first ones by those before an ellipsis, the last ones by those after it, the others by the
-  -- repeated one
-  pub data Fills (fs : Scope) (cells : List Cell) : PlainPatterns → List Value → Bindings → ℕ → Type 0 where
-    no_more : Fills fs cells none [] [] 0
-    one_more : {p : PlainPattern} {ps : PlainPatterns} {x : Value} {xs : List Value} {bs cs : Bindings} {m n : ℕ}
-        → Matches fs cells p x bs m → Fills fs cells ps xs cs n → Fills fs cells (more p ps) (x ∷ xs) (bs ++ cs) (m + n)
-    all_but : {p : PlainPattern} {ps : PlainPatterns} {xs ys : List Value} {rows : List Bindings} {cs : Bindings} {m n : ℕ}
-        → Repeats fs cells p xs rows m → length ys ≡ count ps → Fills fs cells ps ys cs n
-        → Fills fs cells (dots p ps) (xs ++ ys) (closed (stacked (empty_columns p []) rows) ++ cs) (m + n)
+    -- elements by patterns: the first ones by those before an ellipsis, the last ones by those after it, the others by the
+    -- repeated one
+    pub data Fills : PlainPatterns → List Value → Bindings → ℕ → Type 0 where
+      no_more : Fills none [] [] 0
+      one_more : {p : PlainPattern} {ps : PlainPatterns} {x : Value} {xs : List Value} {bs cs : Bindings} {m n : ℕ}
+          → Matches p x bs m → Fills ps xs cs n → Fills (more p ps) (x ∷ xs) (bs ++ cs) (m + n)
+      all_but : {p : PlainPattern} {ps : PlainPatterns} {xs ys : List Value} {rows : List Bindings} {cs : Bindings} {m n : ℕ}
+          → Repeats p xs rows m → length ys ≡ count ps → Fills ps ys cs n
+          → Fills (dots p ps) (xs ++ ys) (closed (stacked (empty_columns p []) rows) ++ cs) (m + n)
 
-  -- each element by one pattern, and 1 for each
-  pub data Repeats (fs : Scope) (cells : List Cell) : PlainPattern → List Value → List Bindings → ℕ → Type 0 where
-    no_rows : {p : PlainPattern} → Repeats fs cells p [] [] 0
-    one_row : {p : PlainPattern} {x : Value} {xs : List Value} {row : Bindings} {rows : List Bindings} {m n : ℕ}
-        → Matches fs cells p x row m → Repeats fs cells p xs rows n → Repeats fs cells p (x ∷ xs) (row ∷ rows) (suc (m + n))
+    -- each element by one pattern, and 1 for each
+    pub data Repeats : PlainPattern → List Value → List Bindings → ℕ → Type 0 where
+      no_rows : {p : PlainPattern} → Repeats p [] [] 0
+      one_row : {p : PlainPattern} {x : Value} {xs : List Value} {row : Bindings} {rows : List Bindings} {m n : ℕ}
+          → Matches p x row m → Repeats p xs rows n → Repeats p (x ∷ xs) (row ∷ rows) (suc (m + n))
 
 -- the binds are those of the relation, and without any there are none
 abbrev pub IsRight : Scope → List Cell → PlainPattern → Value → Option PatternBinds → Type 0

@@ -43,38 +43,39 @@ pub data IsChain : List Tree → Tree → Tree → Type 0 where
   chain_ends : {r : Tree} → is_pair r ≡ false → IsChain [] r r
   chain_next : {span : Option Span} {x r rest : Tree} {xs : List Tree} → IsChain xs r rest → IsChain (x ∷ xs) r (pair span x rest)
 
--- Forms under so many ellipses, with their variables from left to right.
-mutual
-  pub data IsPattern (fs : Scope) (literals : List Tree) : ℕ → Tree → List PatternVariable → PlainPattern → Type 0 where
-    -- `_`
-    an_underscore : {depth : ℕ} {t : Tree} → IsKeywordIdentifier fs form.Underscore t → IsPattern fs literals depth t [] any
-    a_literal : {depth : ℕ} {t : Tree} → IsPlain fs t → IsAmong t literals → IsPattern fs literals depth t [] (literal t)
-    -- any other identifier but the ellipsis
-    a_variable : {depth : ℕ} {t : Tree} {l : Label} → IsPlain fs t → (IsAmong t literals → ⊥)
-        → IsPattern fs literals depth t (record { id = t; label = l; depth = depth } ∷ []) (variable l)
-    a_datum : {depth : ℕ} {span : Option Span} {a : Atom} → IsPattern fs literals depth (atom span a) [] (pattern.atom a)
-    -- `(pattern ...)` and `(pattern ... . pattern)`
-    a_list : {depth : ℕ} {t r x : Tree} {xs : List Tree} {us ws : List PatternVariable} {ps : PlainPatterns} {p : PlainPattern}
-        → IsChain (x ∷ xs) r t → AreElements fs literals depth (x ∷ xs) us ps → IsPattern fs literals depth r ws p
-        → IsPattern fs literals depth t (us ++ ws) (list ps p)
-    -- `#(pattern ...)`
-    a_vector : {depth : ℕ} {span : Option Span} {t : Tree} {us : List PatternVariable} {ps : PlainPatterns}
-        → AreElements fs literals depth (elements t) us ps → IsPattern fs literals depth (vector span t) us (pattern.vector ps)
+module _ (fs : Scope) (literals : List Tree) where
+  -- Forms under so many ellipses, with their variables from left to right.
+  mutual
+    pub data IsPattern : ℕ → Tree → List PatternVariable → PlainPattern → Type 0 where
+      -- `_`
+      an_underscore : {depth : ℕ} {t : Tree} → IsKeywordIdentifier fs form.Underscore t → IsPattern depth t [] any
+      a_literal : {depth : ℕ} {t : Tree} → IsPlain fs t → IsAmong t literals → IsPattern depth t [] (literal t)
+      -- any other identifier but the ellipsis
+      a_variable : {depth : ℕ} {t : Tree} {l : Label} → IsPlain fs t → (IsAmong t literals → ⊥)
+          → IsPattern depth t (record { id = t; label = l; depth = depth } ∷ []) (variable l)
+      a_datum : {depth : ℕ} {span : Option Span} {a : Atom} → IsPattern depth (atom span a) [] (pattern.atom a)
+      -- `(pattern ...)` and `(pattern ... . pattern)`
+      a_list : {depth : ℕ} {t r x : Tree} {xs : List Tree} {us ws : List PatternVariable} {ps : PlainPatterns} {p : PlainPattern}
+          → IsChain (x ∷ xs) r t → AreElements depth (x ∷ xs) us ps → IsPattern depth r ws p
+          → IsPattern depth t (us ++ ws) (list ps p)
+      -- `#(pattern ...)`
+      a_vector : {depth : ℕ} {span : Option Span} {t : Tree} {us : List PatternVariable} {ps : PlainPatterns}
+          → AreElements depth (elements t) us ps → IsPattern depth (vector span t) us (pattern.vector ps)
 
-  -- elements, of which one may have an ellipsis behind it
-  pub data AreElements (fs : Scope) (literals : List Tree) : ℕ → List Tree → List PatternVariable → PlainPatterns → Type 0 where
-    no_element : {depth : ℕ} → AreElements fs literals depth [] [] none
-    an_element : {depth : ℕ} {x : Tree} {xs : List Tree} {us ws : List PatternVariable} {p : PlainPattern} {ps : PlainPatterns}
-        → IsPattern fs literals depth x us p → AreElements fs literals depth xs ws ps → AreElements fs literals depth (x ∷ xs) (us ++ ws) (more p ps)
-    an_ellipsis : {depth : ℕ} {x e : Tree} {xs : List Tree} {us ws : List PatternVariable} {p : PlainPattern} {ps : PlainPatterns}
-        → IsPattern fs literals (depth + 1) x us p → IsKeywordIdentifier fs form.Ellipsis e → AreOthers fs literals depth xs ws ps
-        → AreElements fs literals depth (x ∷ e ∷ xs) (us ++ ws) (dots p ps)
+    -- elements, of which one may have an ellipsis behind it
+    pub data AreElements : ℕ → List Tree → List PatternVariable → PlainPatterns → Type 0 where
+      no_element : {depth : ℕ} → AreElements depth [] [] none
+      an_element : {depth : ℕ} {x : Tree} {xs : List Tree} {us ws : List PatternVariable} {p : PlainPattern} {ps : PlainPatterns}
+          → IsPattern depth x us p → AreElements depth xs ws ps → AreElements depth (x ∷ xs) (us ++ ws) (more p ps)
+      an_ellipsis : {depth : ℕ} {x e : Tree} {xs : List Tree} {us ws : List PatternVariable} {p : PlainPattern} {ps : PlainPatterns}
+          → IsPattern (depth + 1) x us p → IsKeywordIdentifier fs form.Ellipsis e → AreOthers depth xs ws ps
+          → AreElements depth (x ∷ e ∷ xs) (us ++ ws) (dots p ps)
 
-  -- elements without an ellipsis
-  pub data AreOthers (fs : Scope) (literals : List Tree) : ℕ → List Tree → List PatternVariable → PlainPatterns → Type 0 where
-    no_other : {depth : ℕ} → AreOthers fs literals depth [] [] none
-    an_other : {depth : ℕ} {x : Tree} {xs : List Tree} {us ws : List PatternVariable} {p : PlainPattern} {ps : PlainPatterns}
-        → IsPattern fs literals depth x us p → AreOthers fs literals depth xs ws ps → AreOthers fs literals depth (x ∷ xs) (us ++ ws) (more p ps)
+    -- elements without an ellipsis
+    pub data AreOthers : ℕ → List Tree → List PatternVariable → PlainPatterns → Type 0 where
+      no_other : {depth : ℕ} → AreOthers depth [] [] none
+      an_other : {depth : ℕ} {x : Tree} {xs : List Tree} {us ws : List PatternVariable} {p : PlainPattern} {ps : PlainPatterns}
+          → IsPattern depth x us p → AreOthers depth xs ws ps → AreOthers depth (x ∷ xs) (us ++ ws) (more p ps)
 
 -- a variable is another identifier than each of these
 abbrev pub IsNew : List PatternVariable → Tree → Type 0

@@ -13,13 +13,13 @@ module _ (w : Words) (f : Given) (head t : Tree) where
   operand : (n m : ℕ) → rest_filled w f (pair None t nil) n m ≡ put w f m t (filled w f t m) nil
   operand n m = go (is_tail_word (w t))
     where
-      go : (b : Bool) → (if b && false then list_filled w f n t nil (filled w f t) (rest_filled w f nil) else put w f m t (filled w f t m) nil) ≡ put w f m t (filled w f t m) nil
+      go : (b : Bool) → (if b && false then list_filled w f n t nil (record { first = filled w f t; rest = rest_filled w f nil }) else put w f m t (filled w f t m) nil) ≡ put w f m t (filled w f t m) nil
       go true = refl
       go false = refl
 
   -- what the form is, by the word of its head
   abbrev by : ℕ → QuasiWord → Tree
-  by n x = list_by w f n head (pair None t nil) (filled w f head) (rest_filled w f (pair None t nil)) x
+  by n x = list_by w f n head (pair None t nil) (record { first = filled w f head; rest = rest_filled w f (pair None t nil) }) x
 
   pub raised : (n : ℕ) → w head ≡ word.Raise → filled w f (form_of head t) n ≡ form_of (filled w f head (suc n)) (filled w f t (suc n))
   raised zero h = ap (by zero) h ∙ ap (pair None (filled w f head (suc zero))) (operand zero (suc zero))

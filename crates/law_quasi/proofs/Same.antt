@@ -59,7 +59,7 @@ module _ (w : Words) (f : Given) where
         let e : n ≡ suc n - 1 = omega arith in
         ap (λ m. walked.put w f m a (old m) (before (suc n) m)) e
 
-    by_same : (n : ℕ) (x : QuasiWord) → list_by w f n a d made rest x ≡ old_by n x (reach x n)
+    by_same : (n : ℕ) (x : QuasiWord) → list_by w f n a d (record { first = made; rest = rest }) x ≡ old_by n x (reach x n)
     by_same zero word.Lower = refl
     by_same zero word.Splice = refl
     by_same zero word.Raise = put_on zero (suc zero)
@@ -76,7 +76,7 @@ module _ (w : Words) (f : Given) where
     old_is n reached.Refused = refl
     old_is n reached.Elements = refl
 
-    list_same : (n : ℕ) → list_filled w f n a d made rest ≡ walked.list_filled w f n a d old before
+    list_same : (n : ℕ) → list_filled w f n a d (record { first = made; rest = rest }) ≡ walked.list_filled w f n a d old before
     list_same n = by_same n (w a) ∙ old_is n (reach (w a) n)
 
   mutual

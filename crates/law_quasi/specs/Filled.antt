@@ -7,6 +7,11 @@ use Rattle.core_quasi.specs.declared.word.QuasiWord.{QuasiWord}
 use Rattle.core_quasi.specs.declared.word.QuasiWord.TheVariants as word
 use Rattle.law_quasi.specs.Makes.{Given}
 
+-- What is made of a list at each level: of its first element, and of its rest, whose elements are at a level of their own.
+pub record AtLevels (A : Type 0) : Type 0 where
+  pub first : ℕ → A
+  pub rest : ℕ → ℕ → A
+
 -- `quasiquote` adds a level for what stands behind it, and `unquote` and `unquote-splicing` take one away
 abbrev pub level_behind : QuasiWord → ℕ → ℕ
 level_behind word.Raise n = suc n
@@ -29,62 +34,64 @@ only (leaf s x c) = None
 only (pair s e d) = if is_nil d then Some e else None
 only (vector s d) = None
 
-abbrev pub value_of : Given → Option Tree → Tree
-value_of f None = nil
-value_of f (Some e) = f e
-
--- the elements of each value before a rest
-abbrev pub spliced : Given → List Tree → Tree → Tree
-spliced f [] r = r
-spliced f (e ∷ es) r = chain (elements (f e)) (spliced f es r)
-
--- an element that is a list of a head and operands, ended by Nil or not: `(unquote e ...)` and `(unquote-splicing e ...)`
-abbrev pub put_form : Given → QuasiWord → Bool → List Tree → Tree → Tree → Tree
-put_form f word.Lower true es made r = chain (map f es) r
-put_form f word.Splice true es made r = spliced f es r
-put_form f x ends es made r = pair None made r
-
--- an element, which itself comes to this, before a rest
-abbrev pub put : Words → Given → ℕ → Tree → Tree → Tree → Tree
-put w f zero (pair s h d) made r = put_form f (w h) (is_nil (tail_of d)) (elements d) made r
-put w f n t made r = pair None made r
-
 -- whether a rest is a form that stands for the tail
 abbrev pub is_tail : Words → Tree → Tree → Bool
 is_tail w a d = is_tail_word (w a) && is_some (only d)
 
--- At level 0 `(unquote e)` is the value of e; nothing else may stand there behind `unquote` or `unquote-splicing`.
-abbrev pub list_by : Words → Given → ℕ → Tree → Tree → (ℕ → Tree) → (ℕ → ℕ → Tree) → QuasiWord → Tree
-list_by w f zero a d made rest word.Lower = value_of f (only d)
-list_by w f zero a d made rest word.Splice = nil
-list_by w f n a d made rest x = put w f (level_behind x n) a (made (level_behind x n)) (rest n (level_behind x n))
+module _ (f : Given) where
+  abbrev pub value_of : Option Tree → Tree
+  value_of None = nil
+  value_of (Some e) = f e
 
--- a list of this first element and this rest, and what they come to
-abbrev pub list_filled : Words → Given → ℕ → Tree → Tree → (ℕ → Tree) → (ℕ → ℕ → Tree) → Tree
-list_filled w f n a d made rest = list_by w f n a d made rest (w a)
+  -- the elements of each value before a rest
+  abbrev pub spliced : List Tree → Tree → Tree
+  spliced [] r = r
+  spliced (e ∷ es) r = chain (elements (f e)) (spliced es r)
 
-abbrev mutual
-  -- a template at a level
-  pub filled : Words → Given → Tree → ℕ → Tree
-  filled w f (atom s a) n = atom None a
-  filled w f (leaf s x c) n = leaf None x c
-  filled w f (pair s a d) n = list_filled w f n a d (filled w f a) (rest_filled w f d)
-  filled w f (vector s d) n = vector None (items_filled w f d n)
+  -- an element that is a list of a head and operands, ended by Nil or not: `(unquote e ...)` and `(unquote-splicing e ...)`
+  abbrev pub put_form : QuasiWord → Bool → List Tree → Tree → Tree → Tree
+  put_form word.Lower true es made r = chain (map f es) r
+  put_form word.Splice true es made r = spliced es r
+  put_form x ends es made r = pair None made r
 
-  -- the rest of a list at the first of these levels, whose elements are at the second
-  pub rest_filled : Words → Given → Tree → ℕ → ℕ → Tree
-  rest_filled w f (atom s a) n m = atom None a
-  rest_filled w f (leaf s x c) n m = leaf None x c
-  rest_filled w f (pair s a d) n m =
-      if is_tail w a d then list_filled w f n a d (filled w f a) (rest_filled w f d) else put w f m a (filled w f a m) (rest_filled w f d n m)
-  rest_filled w f (vector s d) n m = vector None (items_filled w f d n)
+module _ (w : Words) (f : Given) where
+  -- an element, which itself comes to this, before a rest
+  abbrev pub put : ℕ → Tree → Tree → Tree → Tree
+  put zero (pair s h d) made r = put_form f (w h) (is_nil (tail_of d)) (elements d) made r
+  put n t made r = pair None made r
 
-  -- the elements of a vector
-  pub items_filled : Words → Given → Tree → ℕ → Tree
-  items_filled w f (atom s a) n = nil
-  items_filled w f (leaf s x c) n = nil
-  items_filled w f (pair s a d) n = put w f n a (filled w f a n) (items_filled w f d n)
-  items_filled w f (vector s d) n = nil
+  -- At level 0 `(unquote e)` is the value of e; nothing else may stand there behind `unquote` or `unquote-splicing`.
+  abbrev pub list_by : ℕ → Tree → Tree → AtLevels Tree → QuasiWord → Tree
+  list_by zero a d made word.Lower = value_of f (only d)
+  list_by zero a d made word.Splice = nil
+  list_by n a d made x = put (level_behind x n) a (made.first (level_behind x n)) (made.rest n (level_behind x n))
+
+  -- a list of this first element and this rest, and what they come to
+  abbrev pub list_filled : ℕ → Tree → Tree → AtLevels Tree → Tree
+  list_filled n a d made = list_by n a d made (w a)
+
+  abbrev mutual
+    -- a template at a level
+    pub filled : Tree → ℕ → Tree
+    filled (atom s a) n = atom None a
+    filled (leaf s x c) n = leaf None x c
+    filled (pair s a d) n = list_filled n a d (record { first = filled a; rest = rest_filled d })
+    filled (vector s d) n = vector None (items_filled d n)
+
+    -- the rest of a list at the first of these levels, whose elements are at the second
+    pub rest_filled : Tree → ℕ → ℕ → Tree
+    rest_filled (atom s a) n m = atom None a
+    rest_filled (leaf s x c) n m = leaf None x c
+    rest_filled (pair s a d) n m =
+        if is_tail w a d then list_filled n a d (record { first = filled a; rest = rest_filled d }) else put m a (filled a m) (rest_filled d n m)
+    rest_filled (vector s d) n m = vector None (items_filled d n)
+
+    -- the elements of a vector
+    pub items_filled : Tree → ℕ → Tree
+    items_filled (atom s a) n = nil
+    items_filled (leaf s x c) n = nil
+    items_filled (pair s a d) n = put n a (filled a n) (items_filled d n)
+    items_filled (vector s d) n = nil
 
 -- a form of a head and one operand
 abbrev pub form_of : Tree → Tree → Tree

@@ -33,20 +33,21 @@ abbrev pub SuitsAs : Bool → List (Tree × Value) → List Cell → Tree → Va
 SuitsAs true given cells t v = ShowsList given cells (elements t) v
 SuitsAs false given cells t v = Shows given cells t v
 
--- The code of each expression gives a value that suits, whatever cells were added before it.
-abbrev pub AllGive : PlainSetting → Place → List (Tree × Value) → Given → List Want → List PlainCore → WorldState → Type 0
-AllGive w scope given f [] cs s = Unit {0}
-AllGive w scope given f (x ∷ xs) [] s = ⊥
-AllGive w scope given f (x ∷ xs) (c ∷ cs) s =
-    (t : WorldState) → LaterWorld s t → (v : Value) × (u : WorldState) × Gives (eval_of w c scope t) v u
-    × SuitsAs x.spliced given u.cells (f x.expression) v × AllGive w scope given f xs cs u
+module _ (w : PlainSetting) (scope : Place) (given : List (Tree × Value)) where
+  -- The code of each expression gives a value that suits, whatever cells were added before it.
+  abbrev pub AllGive : Given → List Want → List PlainCore → WorldState → Type 0
+  AllGive f [] cs s = Unit {0}
+  AllGive f (x ∷ xs) [] s = ⊥
+  AllGive f (x ∷ xs) (c ∷ cs) s =
+      (t : WorldState) → LaterWorld s t → (v : Value) × (u : WorldState) × Gives (eval_of w c scope t) v u
+      × SuitsAs x.spliced given u.cells (f x.expression) v × AllGive f xs cs u
 
--- Evaluation gives a value that shows this.
-pub record GivesShown (w : PlainSetting) (scope : Place) (given : List (Tree × Value)) (c : PlainCore) (s : WorldState) (t : Tree) : Type 0 where
-  pub value : Value
-  pub state : WorldState
-  pub evaluated : Gives (eval_of w c scope s) value state
-  pub shown : Shows given state.cells t value
+  -- Evaluation gives a value that shows this.
+  pub record GivesShown (c : PlainCore) (s : WorldState) (t : Tree) : Type 0 where
+    pub value : Value
+    pub state : WorldState
+    pub evaluated : Gives (eval_of w c scope s) value state
+    pub shown : Shows given state.cells t value
 
 -- Where the code of each expression of a `quasiquote` form gives a value that suits, so does the code of the form: its value shows the template with these in
 -- their places.

@@ -62,7 +62,7 @@ module _ (stays : QuasiWord → Bool) (w : Words) where
 
   -- a list that is no tail
   abbrev pub pair_formed : ℕ → Tree → Tree → Bool
-  pair_formed n a d = list_formed w n a d (is_formed stays w a) (rest_is_formed stays w d) (w a)
+  pair_formed n a d = list_formed w n a d (record { first = is_formed stays w a; rest = rest_is_formed stays w d }) (w a)
 
   abbrev pub tail_formed : ℕ → Tree → Bool
   tail_formed n (atom s a) = true

@@ -128,7 +128,7 @@ module _ (w : Words) where
         (subst (λ m. Tells (all-are (level_behind x n) (a ∷ ts)) (walked w m no_pieces (map (element w) (a ∷ ts)))) (sym (inner-is x n)) (walk-told (a ∷ ts) all (level_behind x n) no_pieces)) last)
 
     list-by : (n : ℕ) → AllTold (a ∷ ts) → (c : Bool) → Tells c (tail.made n) → operand_of tail.ends (a ∷ ts) ≡ only d → (x : QuasiWord) → Given n c x
-        → Tells (list_formed w n a d (formed a) (rest_is_formed none_stays w d) x)
+        → Tells (list_formed w n a d (record { first = formed a; rest = rest_is_formed none_stays w d }) x)
         (begun_by (operand_of tail.ends (a ∷ ts)) (walked w (inner x n) no_pieces (map (element w) (a ∷ ts))) (reach x n) >>= finished t tail n)
     list-by zero all c last e word.Lower given = subst (λ o. Tells (is_some o) (operand_or_bad (operand_of tail.ends (a ∷ ts)) >>= finished t tail 0)) e (operand-told 0 (operand_of tail.ends (a ∷ ts)))
     list-by zero all c last e word.Splice given = (refl, refl)

@@ -154,7 +154,7 @@ module _ (w : Looked) where
         (subst (λ m. Tells (all-are (level_behind x n) (a ∷ ts)) (walked w m no_trees (map (element w) (a ∷ ts)) is)) (sym (inner-is x n)) (walk-told (a ∷ ts) all (level_behind x n) no_trees is)) last)
 
     list-by : (n : ℕ) → AllTold (a ∷ ts) → (c : Bool) → ((is : List Insert) → Tells c (tail.made n is)) → operand_of tail.ends (a ∷ ts) ≡ only d → (x : QuasiWord) → Given n c x → (is : List Insert)
-        → Tells (list_formed w.words n a d (formed a) (rest_is_formed ellipsis_stays w.words d) x)
+        → Tells (list_formed w.words n a d (record { first = formed a; rest = rest_is_formed ellipsis_stays w.words d }) x)
         (then_insert (begun_by (operand_of tail.ends (a ∷ ts)) (walked w (inner x n) no_trees (map (element w) (a ∷ ts))) (reach x n) is) (finished t tail n))
     list-by zero all c last e word.Lower given is = subst (λ o. Tells (is_some o) (then_insert (operand_or_bad (operand_of tail.ends (a ∷ ts)) is) (finished t tail 0))) e (operand-told 0 (operand_of tail.ends (a ∷ ts)) is)
     list-by zero all c last e word.Splice given is = inl (refl, refl)

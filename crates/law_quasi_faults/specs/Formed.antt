@@ -5,7 +5,7 @@ use Rattle.core_shapes.specs.Lists.{is_nil, tail_of}
 use Rattle.core_quasi.specs.Words.{Words}
 use Rattle.core_quasi.specs.declared.word.QuasiWord.{QuasiWord}
 use Rattle.core_quasi.specs.declared.word.QuasiWord.TheVariants as word
-use Rattle.law_quasi.specs.Filled.{level_behind, only, is_tail}
+use Rattle.law_quasi.specs.Filled.{AtLevels, level_behind, only, is_tail}
 
 -- Where an ellipsis escapes a template of `quasisyntax`, the list stays as it is. In a template of `quasiquote` none does.
 abbrev pub none_stays : QuasiWord → Bool
@@ -23,25 +23,27 @@ stands_for_operands word.Raise ends = false
 stands_for_operands word.Escape ends = false
 stands_for_operands word.Plain ends = false
 
--- An element of a list or vector, which is itself well formed or not: at level 0 `(unquote e ...)` and `(unquote-splicing e ...)` stand for
--- their operands, however many.
-abbrev pub element_formed : Words → ℕ → Tree → Bool → Bool
-element_formed w zero (pair s h d) formed = stands_for_operands (w h) (is_nil (tail_of d)) || formed
-element_formed w n t formed = formed
+module _ (w : Words) where
+  -- An element of a list or vector, which is itself well formed or not: at level 0 `(unquote e ...)` and `(unquote-splicing e ...)` stand for
+  -- their operands, however many.
+  abbrev pub element_formed : ℕ → Tree → Bool → Bool
+  element_formed zero (pair s h d) formed = stands_for_operands (w h) (is_nil (tail_of d)) || formed
+  element_formed n t formed = formed
 
--- A list of a head and a rest, by the word of its head: at level 0 `(unquote e)` has one operand, and nothing else stands there behind
--- `unquote` or `unquote-splicing`.
-abbrev pub list_formed : Words → ℕ → Tree → Tree → (ℕ → Bool) → (ℕ → ℕ → Bool) → QuasiWord → Bool
-list_formed w zero a d head rest word.Lower = is_some (only d)
-list_formed w zero a d head rest word.Splice = false
-list_formed w n a d head rest x = element_formed w (level_behind x n) a (head (level_behind x n)) && rest n (level_behind x n)
+  -- A list of a head and a rest, by the word of its head: at level 0 `(unquote e)` has one operand, and nothing else stands there behind
+  -- `unquote` or `unquote-splicing`.
+  abbrev pub list_formed : ℕ → Tree → Tree → AtLevels Bool → QuasiWord → Bool
+  list_formed zero a d formed word.Lower = is_some (only d)
+  list_formed zero a d formed word.Splice = false
+  list_formed n a d formed x = element_formed (level_behind x n) a (formed.first (level_behind x n)) && formed.rest n (level_behind x n)
 
 abbrev mutual
   -- a template at a level
   pub is_formed : (QuasiWord → Bool) → Words → Tree → ℕ → Bool
   is_formed stays w (atom s a) n = true
   is_formed stays w (leaf s x c) n = true
-  is_formed stays w (pair s a d) n = (stays (w a) && is_some (only d)) || list_formed w n a d (is_formed stays w a) (rest_is_formed stays w d) (w a)
+  is_formed stays w (pair s a d) n =
+      (stays (w a) && is_some (only d)) || list_formed w n a d (record { first = is_formed stays w a; rest = rest_is_formed stays w d }) (w a)
   is_formed stays w (vector s d) n = items_are_formed stays w d n
 
   -- the rest of a list at the first of these levels, whose elements are at the second: `(1 . (unquote x))` is read as `(1 unquote x)`
@@ -49,7 +51,7 @@ abbrev mutual
   rest_is_formed stays w (atom s a) n m = true
   rest_is_formed stays w (leaf s x c) n m = true
   rest_is_formed stays w (pair s a d) n m =
-      if is_tail w a d then list_formed w n a d (is_formed stays w a) (rest_is_formed stays w d) (w a)
+      if is_tail w a d then list_formed w n a d (record { first = is_formed stays w a; rest = rest_is_formed stays w d }) (w a)
       else element_formed w m a (is_formed stays w a m) && rest_is_formed stays w d n m
   rest_is_formed stays w (vector s d) n m = items_are_formed stays w d n
 

@@ -73,39 +73,40 @@ abbrev pub gathered : List Label → List Bindings → Bindings
 gathered [] rows = []
 gathered (l ∷ ls) rows = (l, many (turns (flat_map first_bind rows))) ∷ gathered ls (map (drop 1) rows)
 
--- A pattern matches a value with these binds; its ellipses take so many elements.
-mutual
-  pub data MatchesPattern (fs : Scope) (cells : List Cell) : PlainPattern → Value → Bindings → ℕ → Type 0 where
-    -- `_` matches anything
-    anything : {v : Value} → MatchesPattern fs cells any v [] 0
-    -- a pattern variable matches anything, and is bound to it
-    is_bound : {l : Label} {v : Value} → MatchesPattern fs cells (variable l) v ((l, one v) ∷ []) 0
-    -- a literal matches an identifier that refers to the same
-    same_literal : {t : Tree} {v : Value} → RefersAs fs t v → MatchesPattern fs cells (literal t) v [] 0
-    -- a datum matches the same datum
-    same_atom : {a : Atom} {v : Value} → IsAtom cells a v → MatchesPattern fs cells (pattern.atom a) v [] 0
-    -- `(pattern ... . pattern)`, with an ellipsis or without
-    fills_list : {ps : PlainPatterns} {t : PlainPattern} {v r : Value} {xs : List Value} {bs cs : Bindings} {m n : ℕ}
-        → Begins cells xs r v → IsLast cells ps r → FillsElements fs cells ps xs bs m → MatchesPattern fs cells t r cs n
-        → MatchesPattern fs cells (list ps t) v (bs ++ cs) (m + n)
-    -- `#(pattern ...)`
-    fills_vector : {ps : PlainPatterns} {v : Value} {xs : List Value} {bs : Bindings} {n : ℕ} → IsVectorValue cells xs v
-        → FillsElements fs cells ps xs bs n → MatchesPattern fs cells (pattern.vector ps) v bs n
+module _ (fs : Scope) (cells : List Cell) where
+  -- A pattern matches a value with these binds; its ellipses take so many elements.
+  mutual
+    pub data MatchesPattern : PlainPattern → Value → Bindings → ℕ → Type 0 where
+      -- `_` matches anything
+      anything : {v : Value} → MatchesPattern any v [] 0
+      -- a pattern variable matches anything, and is bound to it
+      is_bound : {l : Label} {v : Value} → MatchesPattern (variable l) v ((l, one v) ∷ []) 0
+      -- a literal matches an identifier that refers to the same
+      same_literal : {t : Tree} {v : Value} → RefersAs fs t v → MatchesPattern (literal t) v [] 0
+      -- a datum matches the same datum
+      same_atom : {a : Atom} {v : Value} → IsAtom cells a v → MatchesPattern (pattern.atom a) v [] 0
+      -- `(pattern ... . pattern)`, with an ellipsis or without
+      fills_list : {ps : PlainPatterns} {t : PlainPattern} {v r : Value} {xs : List Value} {bs cs : Bindings} {m n : ℕ}
+          → Begins cells xs r v → IsLast cells ps r → FillsElements ps xs bs m → MatchesPattern t r cs n
+          → MatchesPattern (list ps t) v (bs ++ cs) (m + n)
+      -- `#(pattern ...)`
+      fills_vector : {ps : PlainPatterns} {v : Value} {xs : List Value} {bs : Bindings} {n : ℕ} → IsVectorValue cells xs v
+          → FillsElements ps xs bs n → MatchesPattern (pattern.vector ps) v bs n
 
-  -- elements by patterns: the last ones by those behind an ellipsis, one each, and all between by the repeated one
-  pub data FillsElements (fs : Scope) (cells : List Cell) : PlainPatterns → List Value → Bindings → ℕ → Type 0 where
-    no_more : FillsElements fs cells none [] [] 0
-    one_more : {p : PlainPattern} {ps : PlainPatterns} {x : Value} {xs : List Value} {bs cs : Bindings} {m n : ℕ}
-        → MatchesPattern fs cells p x bs m → FillsElements fs cells ps xs cs n → FillsElements fs cells (more p ps) (x ∷ xs) (bs ++ cs) (m + n)
-    repeated : {p : PlainPattern} {ps : PlainPatterns} {xs ys : List Value} {rows : List Bindings} {cs : Bindings} {m n : ℕ}
-        → RepeatsPattern fs cells p xs rows m → length ys ≡ count ps → FillsElements fs cells ps ys cs n
-        → FillsElements fs cells (dots p ps) (xs ++ ys) (gathered (variables p) rows ++ cs) (m + n)
+    -- elements by patterns: the last ones by those behind an ellipsis, one each, and all between by the repeated one
+    pub data FillsElements : PlainPatterns → List Value → Bindings → ℕ → Type 0 where
+      no_more : FillsElements none [] [] 0
+      one_more : {p : PlainPattern} {ps : PlainPatterns} {x : Value} {xs : List Value} {bs cs : Bindings} {m n : ℕ}
+          → MatchesPattern p x bs m → FillsElements ps xs cs n → FillsElements (more p ps) (x ∷ xs) (bs ++ cs) (m + n)
+      repeated : {p : PlainPattern} {ps : PlainPatterns} {xs ys : List Value} {rows : List Bindings} {cs : Bindings} {m n : ℕ}
+          → RepeatsPattern p xs rows m → length ys ≡ count ps → FillsElements ps ys cs n
+          → FillsElements (dots p ps) (xs ++ ys) (gathered (variables p) rows ++ cs) (m + n)
 
-  -- each element by one pattern, with a row of binds for each
-  pub data RepeatsPattern (fs : Scope) (cells : List Cell) : PlainPattern → List Value → List Bindings → ℕ → Type 0 where
-    no_rows : {p : PlainPattern} → RepeatsPattern fs cells p [] [] 0
-    one_row : {p : PlainPattern} {x : Value} {xs : List Value} {row : Bindings} {rows : List Bindings} {m n : ℕ}
-        → MatchesPattern fs cells p x row m → RepeatsPattern fs cells p xs rows n → RepeatsPattern fs cells p (x ∷ xs) (row ∷ rows) (suc (m + n))
+    -- each element by one pattern, with a row of binds for each
+    pub data RepeatsPattern : PlainPattern → List Value → List Bindings → ℕ → Type 0 where
+      no_rows : {p : PlainPattern} → RepeatsPattern p [] [] 0
+      one_row : {p : PlainPattern} {x : Value} {xs : List Value} {row : Bindings} {rows : List Bindings} {m n : ℕ}
+          → MatchesPattern p x row m → RepeatsPattern p xs rows n → RepeatsPattern p (x ∷ xs) (row ∷ rows) (suc (m + n))
 
 -- the binds are those of the relation, and without any there are none
 abbrev pub IsRight : Scope → List Cell → PlainPattern → Value → Option PatternBinds → Type 0

@@ -78,14 +78,15 @@ counted s = record s { names = record { library = s.names.library; number = s.na
 abbrev pub next_frame : State → FrameNo
 next_frame s = record { 0 = s.names }
 
--- what stands right round these
-pub record AreFormals (place : Span) (at : ℕ) (s : State) (ids : List Tree) (fs : Formals) (v : State) : Type 0 where
-  pub leaves : all_ids ids ≡ true
-  pub bound : bind_formals (next_frame (counted s)) place at (record { required = ids; rest = None }) (counted (counted s)) ≡ Ok (fs, v)
+module _ (place : Span) (at : ℕ) (s : State) where
+  -- what stands right round these
+  pub record AreFormals (ids : List Tree) (fs : Formals) (v : State) : Type 0 where
+    pub leaves : all_ids ids ≡ true
+    pub bound : bind_formals (next_frame (counted s)) place at (record { required = ids; rest = None }) (counted (counted s)) ≡ Ok (fs, v)
 
-pub record IsBinderForm (place : Span) (at : ℕ) (s : State) (id : Tree) (l : Label) (v : State) : Type 0 where
-  pub leaf : is_leaf id ≡ true
-  pub bound : bind_variable (next_frame s) place at false id (counted s) ≡ Ok (l, v)
+  pub record IsBinderForm (id : Tree) (l : Label) (v : State) : Type 0 where
+    pub leaf : is_leaf id ≡ true
+    pub bound : bind_variable (next_frame s) place at false id (counted s) ≡ Ok (l, v)
 
 abbrev pub IsRound : Span → ℕ → State → Round → List Round → Type 0
 IsRound place level s (sequence word) rs = IsKeywordWord s core_forms.Begin word

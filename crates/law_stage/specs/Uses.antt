@@ -16,12 +16,13 @@ use Rattle.eval_stage.specs.declared.keyword.Keyword.TheVariants as keyword
 abbrev pub OnlyCounts : PlainStage → PlainStage → Type 0
 OnlyCounts s t = t ≡ record s { names = t.names; spent = t.spent }
 
--- the stage on which the transformer is called, and after that nothing but the counts changes
-pub record CalledOn (place : Span) (rs : List CompiledLibrary) (l : Label) (e : Option PlainCore) (s new : PlainStage) : Type 0 where
-  pub value : Value
-  pub before : PlainStage
-  pub asked : keyword_value place rs l e s ≡ Ok (value, before)
-  pub counts : OnlyCounts before new
+module _ (place : Span) (rs : List CompiledLibrary) where
+  -- the stage on which the transformer is called, and after that nothing but the counts changes
+  pub record CalledOn (l : Label) (e : Option PlainCore) (s new : PlainStage) : Type 0 where
+    pub value : Value
+    pub before : PlainStage
+    pub asked : keyword_value place rs l e s ≡ Ok (value, before)
+    pub counts : OnlyCounts before new
 
 -- The cells of a call are dropped: after a use they are those with which the transformer was called.
 abbrev pub UsesDropCells : Type 0

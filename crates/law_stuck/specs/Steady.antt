@@ -44,15 +44,16 @@ pub record ImportedHasCode (rs : List CompiledLibrary) (keywords : List (Label �
   pub kept : keyword_at keywords label ≡ Some (keyword.Kept None value)
   pub among : Among (code_numbers expression) n
 
--- Why the code of a procedure stands on a stage: it is that of a text, it stands in the expression of such a keyword, or in the lines of a library
--- that was evaluated.
-pub data HasCode (own : LibName) (texts : List CodeNo) (rs : List CompiledLibrary) (keywords : List (Label × Keyword))
-    (evaluated : List LibName) (n : CodeNo) : Type 0 where
-  text : Among texts n → HasCode own texts rs keywords evaluated n
-  ours : OwnHasCode own keywords n → HasCode own texts rs keywords evaluated n
-  imported : ImportedHasCode rs keywords n → HasCode own texts rs keywords evaluated n
-  line : (r : CompiledLibrary) → Among rs r → has_library evaluated r.name ≡ true → Among (flat_map code_numbers (line_cores r)) n
-      → HasCode own texts rs keywords evaluated n
+module _ (own : LibName) (texts : List CodeNo) (rs : List CompiledLibrary) where
+  -- Why the code of a procedure stands on a stage: it is that of a text, it stands in the expression of such a keyword, or in the lines of a library
+  -- that was evaluated.
+  pub data HasCode (keywords : List (Label × Keyword))
+      (evaluated : List LibName) (n : CodeNo) : Type 0 where
+    text : Among texts n → HasCode keywords evaluated n
+    ours : OwnHasCode own keywords n → HasCode keywords evaluated n
+    imported : ImportedHasCode rs keywords n → HasCode keywords evaluated n
+    line : (r : CompiledLibrary) → Among rs r → has_library evaluated r.name ≡ true → Among (flat_map code_numbers (line_cores r)) n
+        → HasCode keywords evaluated n
 
 abbrev pub world_of : PlainStage → PlainSetting
 world_of s = setting_on s.codes s
