@@ -20,6 +20,8 @@ use Rattle.expand_heads.specs.declared.taken.BodyAt.{BodyAt}
 use Rattle.expand_heads.specs.declared.taken.Taken.{Taken}
 use Rattle.expand_heads.specs.declared.taken.Waiting.{Waiting}
 use Rattle.expand_heads.specs.declared.taken.Waits.{Waits}
+use Rattle.expand_forms.specs.Forms.{procedure_parts, let_syntax_parts}
+use Rattle.law_references.specs.Changes.{between, placed, taking}
 use Rattle.law_references.specs.Expands as derivation
 use Rattle.law_references.specs.Expands.{Expands, settles, Performs, refers, is_done, is_template, calls, tests, chooses, assigns}
 use Rattle.law_references.specs.Expands.{follows, makes, makes_cases, binds_all, matches_one, has_keywords, fills, Expand, CaseBinds}
@@ -33,10 +35,10 @@ use Rattle.law_references.specs.Noted.{KeywordExpression, Noted, NotedLine}
 module _ {rs : List CompiledLibrary} where
   abbrev mutual
     -- a form: those of what it was until it was none, and those in what came of it
-    pub made : {place : Span} {level : ℕ} {t : Tree} {s u : State} {c : PlainCore} {x : Noted} → Expands rs place level t s c u x → ℕ
+    pub made : {place : Span} {level : ℕ} {t : Tree} {s u : State} {c : PlainCore} {x : Noted} → Expands rs (placed place level) t c (between s u x) → ℕ
     made (settles {s = s} {v = v} e h) = (s.uses_left - v.uses_left) + made_of h
 
-    pub made_of : {place : Span} {level : ℕ} {t : Tree} {p : Plan} {s u : State} {c : PlainCore} {x : Noted} → Performs rs place level t p s c u x → ℕ
+    pub made_of : {place : Span} {level : ℕ} {t : Tree} {p : Plan} {s u : State} {c : PlainCore} {x : Noted} → Performs rs (placed place level) t p c (between s u x) → ℕ
     made_of (refers a e r) = 0
     made_of (is_done a b) = 0
     made_of (is_template a b h) = 0
@@ -52,61 +54,61 @@ module _ {rs : List CompiledLibrary} where
     made_of (has_keywords h g) = scope_made h + all_made g
     made_of (fills e h g) = all_made h
 
-    pub all_made : {place : Span} {level : ℕ} {ts : List Tree} {s u : State} {cs : List PlainCore} {x : Noted} → Expand rs place level ts s cs u x → ℕ
+    pub all_made : {place : Span} {level : ℕ} {ts : List Tree} {s u : State} {cs : List PlainCore} {x : Noted} → Expand rs (placed place level) ts cs (between s u x) → ℕ
     all_made derivation.none = 0
     all_made (derivation.more h g) = made h + all_made g
 
     pub case_made : {place : Span} {level : ℕ} {t : Tree} {ids : FormalIds} {forms : List Tree} {s u : State} {c : Lambda} {x : Noted}
-        → CaseBinds rs place level t ids forms s c u x → ℕ
+        → CaseBinds rs (placed place level) (procedure_parts t ids forms) c (between s u x) → ℕ
     case_made (binds_formals e h) = body_made h
 
     pub cases_made : {place : Span} {level : ℕ} {t : Tree} {xs : List LambdaCase} {s u : State} {cs : List Lambda} {x : Noted}
-        → ExpandedBind rs place level t xs s cs u x → ℕ
+        → ExpandedBind rs (placed place level) t xs cs (between s u x) → ℕ
     cases_made derivation.no_case = 0
     cases_made (derivation.case h g) = case_made h + cases_made g
 
     pub init_made : {place : Span} {level : ℕ} {f : FrameNo} {b : BoundSpec} {s u : State} {i : Init} {x : Noted}
-        → Starts rs place level f b s i u x → ℕ
+        → Starts rs (placed place level) f b i (between s u x) → ℕ
     init_made (starts_with h) = made h
 
     pub inits_made : {place : Span} {level : ℕ} {f : FrameNo} {bs : List BoundSpec} {s u : State} {is : List Init} {x : Noted}
-        → ExpansionStart rs place level f bs s is u x → ℕ
+        → ExpansionStart rs (placed place level) f bs is (between s u x) → ℕ
     inits_made derivation.no_init = 0
     inits_made (derivation.init h g) = init_made h + inits_made g
 
     pub clause_made : {place : Span} {level : ℕ} {literals : List Tree} {c : PatternCase} {s u : State} {k : Clause} {x : Noted}
-        → ExpandsClause rs place level literals c s k u x → ℕ
+        → ExpandsClause rs (placed place level) literals c k (between s u x) → ℕ
     clause_made (matches_pattern e f h g) = fender_made h + made g
 
     pub clauses_made : {place : Span} {level : ℕ} {literals : List Tree} {xs : List PatternCase} {s u : State} {cs : List Clause} {x : Noted}
-        → Match rs place level literals xs s cs u x → ℕ
+        → Match rs (placed place level) literals xs cs (between s u x) → ℕ
     clauses_made derivation.no_clause = 0
     clauses_made (derivation.clause h g) = clause_made h + clauses_made g
 
     pub fender_made : {place : Span} {level : ℕ} {f : FrameNo} {o : Option Tree} {s u : State} {c : Option PlainCore} {x : Noted}
-        → Asks rs place level f o s c u x → ℕ
+        → Asks rs (placed place level) f o c (between s u x) → ℕ
     fender_made derivation.asks_nothing = 0
     fender_made (derivation.asks_first h) = made h
 
-    pub keyword_made : {place : Span} {level : ℕ} {b : BoundSpec} {s u : State} {es : List KeywordExpression} → KeywordMeans rs place level b s u es → ℕ
+    pub keyword_made : {place : Span} {level : ℕ} {b : BoundSpec} {s u : State} {es : List KeywordExpression} → KeywordMeans rs (placed place level) b (between s u es) → ℕ
     keyword_made (means h e) = made h
 
     pub keywords_made : {place : Span} {level : ℕ} {recursive : Bool} {f : FrameNo} {bs : List BoundSpec} {s u : State} {es : List KeywordExpression}
-        → Mean rs place level recursive f bs s u es → ℕ
+        → Mean rs (placed place level) recursive f bs (between s u es) → ℕ
     keywords_made derivation.no_keyword = 0
     keywords_made (derivation.keyword h g) = keyword_made h + keywords_made g
 
     pub scope_made : {place : Span} {level : ℕ} {recursive : Bool} {bs : List BindingSpec} {forms stamped : List Tree} {s u : State}
         {es : List KeywordExpression}
-        → BindsKeywords rs place level recursive bs forms s stamped u es → ℕ
+        → BindsKeywords rs (placed place level) (let_syntax_parts recursive bs forms) stamped (between s u es) → ℕ
     scope_made (binds_keywords e h) = keywords_made h
 
     pub item_made : {at : BodyAt} {depth : ℕ} {done end : Taken} {t : Tree} {s u : State} {es : List KeywordExpression}
-        → TakesForm rs at depth done t s end u es → ℕ
+        → TakesForm rs at depth t (taking done s end u es) → ℕ
     item_made (takes {s = s} {v = v} e h) = (s.uses_left - v.uses_left) + made_of_item h
 
     pub made_of_item : {at : BodyAt} {depth : ℕ} {done end : Taken} {t : Tree} {i : Item} {s u : State} {es : List KeywordExpression}
-        → Acts rs at depth done t i s end u es → ℕ
+        → Acts rs at depth t i (taking done s end u es) → ℕ
     made_of_item is_taken = 0
     made_of_item (takes_forms h) = items_made h
     made_of_item (defines_keyword e h) = keyword_made h
@@ -114,12 +116,12 @@ module _ {rs : List CompiledLibrary} where
 
     -- the first pass over a body
     pub items_made : {at : BodyAt} {depth : ℕ} {done end : Taken} {ts : List Tree} {s u : State} {es : List KeywordExpression}
-        → Take rs at depth done ts s end u es → ℕ
+        → Take rs at depth ts (taking done s end u es) → ℕ
     items_made derivation.none_taken = 0
     items_made (derivation.more_taken h g) = item_made h + items_made g
 
     pub body_made : {place : Span} {level : ℕ} {t : Tree} {forms : List Tree} {s u : State} {c : PlainCore} {x : Noted}
-        → IsBody rs place level t forms s c u x → ℕ
+        → IsBody rs (placed place level) t forms c (between s u x) → ℕ
     body_made (is_body depth h g) = items_made h + lines_made g
 
     -- the second pass
@@ -127,7 +129,7 @@ module _ {rs : List CompiledLibrary} where
     lines_made derivation.no_line = 0
     lines_made (derivation.next_line h g) = line_made h + lines_made g
 
-    pub line_made : {level : ℕ} {place : Span} {w : Waits} {s u : State} {x : NotedLine} → Ends rs level place w s x u → ℕ
+    pub line_made : {level : ℕ} {place : Span} {w : Waits} {s u : State} {x : NotedLine} → Ends rs (placed place level) w s x u → ℕ
     line_made declares = 0
     line_made (defines h) = made h
     line_made (defines_procedure h) = case_made h

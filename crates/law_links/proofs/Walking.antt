@@ -41,6 +41,8 @@ use Rattle.expand_heads.specs.declared.taken.BodyAt.{BodyAt}
 use Rattle.expand_heads.specs.declared.taken.Taken.{Taken}
 use Rattle.expand_heads.specs.declared.taken.Waiting.{Waiting}
 use Rattle.expand_heads.specs.declared.taken.Waits.{Waits}
+use Rattle.expand_forms.specs.Forms.{procedure_parts, let_syntax_parts}
+use Rattle.law_references.specs.Changes.{between, placed, taking}
 use Rattle.law_references.specs.Expands.{counted, QuasiCodes, quotes, has_no_insert, has_inserts, Expands, settles, Performs, refers, is_done, is_template, calls, tests, chooses, assigns, follows, makes, makes_cases, binds_all, matches_one, has_keywords, fills, Expand, CaseBinds, binds_formals, ExpandedBind, Starts, starts_with, ExpansionStart, ExpandsClause, matches_pattern, Match, Asks, KeywordMeans, means, Mean, BindsKeywords, binds_keywords, TakesForm, takes, Acts, is_taken, takes_forms, defines_keyword, takes_among, Take, IsBody, is_body, Finish, Ends, declares, defines, defines_procedure, is_expression}
 use Rattle.law_references.specs.Expands as derivation
 use Rattle.law_references.specs.Noted.{Reference, KeywordExpression, Noted, nothing, only, of_references, of_keywords, both, NotedLine, if_definition, if_expression, of_definitions, of_expressions, of_lines}
@@ -60,7 +62,7 @@ template-linked ls s place level refs h = each-implied (IsPatternVariable s plac
 went-none : (s : State) → Went s s nothing
 went-none s = record { grows = grows-same s s refl; linked = (tt, tt) }
 
-went-template : (s : State) (place : Span) (level : ℕ) (t : Tree) (x : PlainTemplate) (refs : List Reference) → IsTemplateOf s place level t x refs → Went s s (of_references refs)
+went-template : (s : State) (place : Span) (level : ℕ) (t : Tree) (x : PlainTemplate) (refs : List Reference) → IsTemplateOf s (placed place level) t x refs → Went s s (of_references refs)
 went-template s place level t x refs h = record { grows = grows-same s s refl; linked = (template-linked s.links s place level refs h.variables, tt) }
 
 -- Actions between forms.
@@ -136,119 +138,119 @@ module _ (ls : List Link) where
   told-linked xs h = each-append (IsLinked ls) (of_definitions xs) (of_expressions xs) (definitions-linked xs h) (last-linked xs h)
 
 module _ (rs : List CompiledLibrary) where
-  codes-went : {place : Span} {level : ℕ} {t : Tree} {q : QuasiForm} {cs : List PlainCore} {s u : State} {c : PlainCore} {x : Noted} → QuasiCodes place level t q cs s c u x → Went s u x
+  codes-went : {place : Span} {level : ℕ} {t : Tree} {q : QuasiForm} {cs : List PlainCore} {s u : State} {c : PlainCore} {x : Noted} → QuasiCodes (placed place level) t q cs c (between s u x) → Went s u x
   codes-went (quotes {s = s}) = went-none s
-  codes-went (has_no_insert {place = place} {level = level} {q = q} {s = s} {x = x} {refs = refs} none e h) = went-template s place level q.template x refs h
-  codes-went (has_inserts {place = place} {level = level} {q = q} {s = s} {v = v} {w = w} {vs = vs} {e = e} {x = x} {refs = refs} some f g k h) =
+  codes-went {place} {level} (has_no_insert {q = q} {s = s} {x = x} {refs = refs} none e h) = went-template s place level q.template x refs h
+  codes-went {place} {level} (has_inserts {q = q} {s = s} {v = v} {w = w} {vs = vs} {e = e} {x = x} {refs = refs} some f g k h) =
       let a = grew-given (counted s) f (insert-variables-grew q.inserts (counted s)) in
       let b = grew-given v g (bind-inserts-grew (record { 0 = s.names }) place level vs v) in
       let all = from-counted s w (grows-then (counted s) v w a b) in
       went-cut s w (length s.scope) (of_references refs) (went-from s w w (of_references refs) all (went-template w place level (stamp (record { 0 = s.names }) q.template) x refs h))
 
   mutual
-    pub expands-went : {place : Span} {level : ℕ} {t : Tree} {s u : State} {c : PlainCore} {x : Noted} → Expands rs place level t s c u x → Went s u x
-    expands-went (settles {place = place} {level = level} {t = t} {s = s} {v = v} {u = u} {d = d} {refs = refs} e h) =
-        let k = settled-so rs place level t s v d e in
+    pub expands-went : {place : Span} {level : ℕ} {t : Tree} {s u : State} {c : PlainCore} {x : Noted} → Expands rs (placed place level) t c (between s u x) → Went s u x
+    expands-went (settles {at = at} {t = t} {s = s} {v = v} {u = u} {d = d} {refs = refs} e h) =
+        let k = settled-so rs at.place at.level t s v d e in
         went-from s v u refs k.grows (performs-went h k.link)
 
-    performs-went : {place : Span} {level : ℕ} {t : Tree} {p : Plan} {s u : State} {c : PlainCore} {x : Noted} → Performs rs place level t p s c u x → PlanLinked t p s → Went s u x
+    performs-went : {place : Span} {level : ℕ} {t : Tree} {p : Plan} {s u : State} {c : PlainCore} {x : Noted} → Performs rs (placed place level) t p c (between s u x) → PlanLinked t p s → Went s u x
     performs-went (refers {s = s} leafy e r) k = record { grows = grows-same s s refl; linked = ((k, tt), tt) }
     performs-went (is_done {s = s} a b) k = went-none s
-    performs-went (is_template {place = place} {level = level} {operand = operand} {s = s} {x = x} {refs = refs} a b h) k = went-template s place level operand x refs h
+    performs-went (is_template {at = at} {operand = operand} {s = s} {x = x} {refs = refs} a b h) k = went-template s at.place at.level operand x refs h
     performs-went (calls {s = s} {v = v} {u = u} {refs = refs} {more = more} h g) k = went-both s v u refs more (expands-went h) (expand-went g)
     performs-went (tests {s = s} {v = v} {u = u} {refs = refs} {more = more} h g) k = went-both s v u refs more (expands-went h) (expands-went g)
     performs-went (chooses {s = s} {v = v} {w = w} {u = u} {refs = refs} {more = more} {last = last} h g j) k =
         went-both s v u refs (both more last) (expands-went h) (went-both v w u more last (expands-went g) (expands-went j))
-    performs-went (assigns {place = place} {t = t} {id = id} {value = value} {s = s} {u = u} {l = l} {refs = refs} a b h) k =
-        let first : Went s s (only (record { leaf = id; state = s; label = l; code = variable l })) = record { grows = grows-same s s refl; linked = (((λ p e. k p (target-is t place id value a ∙ e)), tt), tt) } in
+    performs-went (assigns {at = at} {t = t} {id = id} {value = value} {s = s} {u = u} {l = l} {refs = refs} a b h) k =
+        let first : Went s s (only (record { leaf = id; state = s; label = l; code = variable l })) = record { grows = grows-same s s refl; linked = (((λ p e. k p (target-is t at.place id value a ∙ e)), tt), tt) } in
         went-both s s u (only (record { leaf = id; state = s; label = l; code = variable l })) refs first (expands-went h)
     performs-went (follows h) k = expand-went h
     performs-went (makes {s = s} {u = u} {refs = refs} h) k = went-counted s u refs (binds-went h)
     performs-went (makes_cases {s = s} {u = u} {refs = refs} h) k = went-counted s u refs (bind-went h)
-    performs-went (binds_all {place = place} {level = level} {bs = bs} {s = s} {v = v} {w = w} {u = u} {ls = ls} {refs = refs} {more = more} e h g) k =
-        let a = from-counted s v (grew-given (counted s) e (bind-specs-grew (record { 0 = s.names }) place level bs (counted s))) in
+    performs-went (binds_all {at = at} {bs = bs} {s = s} {v = v} {w = w} {u = u} {ls = ls} {refs = refs} {more = more} e h g) k =
+        let a = from-counted s v (grew-given (counted s) e (bind-specs-grew (record { 0 = s.names }) at.place at.level bs (counted s))) in
         went-cut s u (length s.scope) (both refs more) (went-from s v u (both refs more) a (went-both v w u refs more (start-went h) (body-went g)))
-    performs-went (matches_one {place = place} {literals = literals} {s = s} {v = v} {w = w} {u = u} {x = x} {refs = refs} {more = more} h e g) k =
-        let a = grew-given v e (literals-grew literals place v) in
+    performs-went (matches_one {at = at} {literals = literals} {s = s} {v = v} {w = w} {u = u} {x = x} {refs = refs} {more = more} h e g) k =
+        let a = grew-given v e (literals-grew literals at.place v) in
         went-both s v u refs more (expands-went h) (went-from v w u more a (match-went g))
     performs-went (has_keywords {s = s} {v = v} {u = u} {es = es} {refs = refs} h g) k =
         let a = keywords-kept h in
         went-both s v u (of_keywords es) refs (record { grows = a.grows; linked = (tt, a.linked) }) (expand-went g)
-    performs-went (fills {place = place} {t = t} {template = x} {which = which} {s = s} {v = v} {w = w} {u = u} {q = q} {refs = refs} {others = others} e h g) k =
-        let a = grew-given s e (quasi-grew place t which x s) in
+    performs-went (fills {at = at} {t = t} {template = x} {which = which} {s = s} {v = v} {w = w} {u = u} {q = q} {refs = refs} {others = others} e h g) k =
+        let a = grew-given s e (quasi-grew at.place t which x s) in
         went-from s v u (both refs others) a (went-both v w u refs others (expand-went h) (codes-went g))
 
-    expand-went : {place : Span} {level : ℕ} {ts : List Tree} {s u : State} {cs : List PlainCore} {x : Noted} → Expand rs place level ts s cs u x → Went s u x
+    expand-went : {place : Span} {level : ℕ} {ts : List Tree} {s u : State} {cs : List PlainCore} {x : Noted} → Expand rs (placed place level) ts cs (between s u x) → Went s u x
     expand-went (derivation.none {s = s}) = went-none s
     expand-went (derivation.more {s = s} {v = v} {u = u} {refs = refs} {others = others} h g) = went-both s v u refs others (expands-went h) (expand-went g)
 
-    binds-went : {place : Span} {level : ℕ} {t : Tree} {ids : FormalIds} {forms : List Tree} {s u : State} {c : Lambda} {x : Noted} → CaseBinds rs place level t ids forms s c u x → Went s u x
-    binds-went (binds_formals {place = place} {level = level} {ids = ids} {s = s} {v = v} {u = u} {formals = formals} {refs = refs} e h) =
-        let a = from-counted s v (grew-given (counted s) e (bind-formals-grew (record { 0 = s.names }) place level ids (counted s))) in
+    binds-went : {place : Span} {level : ℕ} {t : Tree} {ids : FormalIds} {forms : List Tree} {s u : State} {c : Lambda} {x : Noted} → CaseBinds rs (placed place level) (procedure_parts t ids forms) c (between s u x) → Went s u x
+    binds-went (binds_formals {at = at} {ids = ids} {s = s} {v = v} {u = u} {formals = formals} {refs = refs} e h) =
+        let a = from-counted s v (grew-given (counted s) e (bind-formals-grew (record { 0 = s.names }) at.place at.level ids (counted s))) in
         went-cut s u (length s.scope) refs (went-from s v u refs a (body-went h))
 
-    bind-went : {place : Span} {level : ℕ} {t : Tree} {xs : List LambdaCase} {s u : State} {cs : List Lambda} {x : Noted} → ExpandedBind rs place level t xs s cs u x → Went s u x
+    bind-went : {place : Span} {level : ℕ} {t : Tree} {xs : List LambdaCase} {s u : State} {cs : List Lambda} {x : Noted} → ExpandedBind rs (placed place level) t xs cs (between s u x) → Went s u x
     bind-went (derivation.no_case {s = s}) = went-none s
     bind-went (derivation.case {s = s} {v = v} {u = u} {refs = refs} {others = others} h g) = went-both s v u refs others (binds-went h) (bind-went g)
 
-    starts-went : {place : Span} {level : ℕ} {f : FrameNo} {b : BoundSpec} {s u : State} {i : Init} {x : Noted} → Starts rs place level f b s i u x → Went s u x
+    starts-went : {place : Span} {level : ℕ} {f : FrameNo} {b : BoundSpec} {s u : State} {i : Init} {x : Noted} → Starts rs (placed place level) f b i (between s u x) → Went s u x
     starts-went (starts_with h) = expands-went h
 
-    start-went : {place : Span} {level : ℕ} {f : FrameNo} {bs : List BoundSpec} {s u : State} {is : List Init} {x : Noted} → ExpansionStart rs place level f bs s is u x → Went s u x
+    start-went : {place : Span} {level : ℕ} {f : FrameNo} {bs : List BoundSpec} {s u : State} {is : List Init} {x : Noted} → ExpansionStart rs (placed place level) f bs is (between s u x) → Went s u x
     start-went (derivation.no_init {s = s}) = went-none s
     start-went (derivation.init {s = s} {v = v} {u = u} {refs = refs} {others = others} h g) = went-both s v u refs others (starts-went h) (start-went g)
 
-    matches-went : {place : Span} {level : ℕ} {literals : List Tree} {c : PatternCase} {s u : State} {k : Clause} {x : Noted} → ExpandsClause rs place level literals c s k u x → Went s u x
-    matches-went (matches_pattern {place = place} {level = level} {literals = literals} {x = c} {s = s} {v = v} {w = w} {y = y} {u = u} {p = p} {e = e} {refs = refs} {others = others} f g h j) =
-        let a = from-counted s v (grew-given (counted s) f (pattern-grew literals place c.pattern (counted s))) in
-        let b = grew-given v g (bind-pattern-grew (record { 0 = s.names }) place level p.variables v) in
+    matches-went : {place : Span} {level : ℕ} {literals : List Tree} {c : PatternCase} {s u : State} {k : Clause} {x : Noted} → ExpandsClause rs (placed place level) literals c k (between s u x) → Went s u x
+    matches-went (matches_pattern {at = at} {literals = literals} {x = c} {s = s} {v = v} {w = w} {y = y} {u = u} {p = p} {e = e} {refs = refs} {others = others} f g h j) =
+        let a = from-counted s v (grew-given (counted s) f (pattern-grew literals at.place c.pattern (counted s))) in
+        let b = grew-given v g (bind-pattern-grew (record { 0 = s.names }) at.place at.level p.variables v) in
         went-cut s u (length s.scope) (both refs others) (went-from s w u (both refs others) (grows-then s v w a b) (went-both w y u refs others (asks-went h) (expands-went j)))
 
-    match-went : {place : Span} {level : ℕ} {literals : List Tree} {xs : List PatternCase} {s u : State} {cs : List Clause} {x : Noted} → Match rs place level literals xs s cs u x → Went s u x
+    match-went : {place : Span} {level : ℕ} {literals : List Tree} {xs : List PatternCase} {s u : State} {cs : List Clause} {x : Noted} → Match rs (placed place level) literals xs cs (between s u x) → Went s u x
     match-went (derivation.no_clause {s = s}) = went-none s
     match-went (derivation.clause {s = s} {v = v} {u = u} {refs = refs} {others = others} h g) = went-both s v u refs others (matches-went h) (match-went g)
 
-    asks-went : {place : Span} {level : ℕ} {f : FrameNo} {o : Option Tree} {s u : State} {c : Option PlainCore} {x : Noted} → Asks rs place level f o s c u x → Went s u x
+    asks-went : {place : Span} {level : ℕ} {f : FrameNo} {o : Option Tree} {s u : State} {c : Option PlainCore} {x : Noted} → Asks rs (placed place level) f o c (between s u x) → Went s u x
     asks-went (derivation.asks_nothing {s = s}) = went-none s
     asks-went (derivation.asks_first h) = expands-went h
 
-    means-kept : {place : Span} {level : ℕ} {b : BoundSpec} {s u : State} {es : List KeywordExpression} → KeywordMeans rs place level b s u es → Kept s u es
-    means-kept (means {place = place} {b = b} {s = s} {v = v} {u = u} {c = c} {x = x} {refs = refs} h e) =
+    means-kept : {place : Span} {level : ℕ} {b : BoundSpec} {s u : State} {es : List KeywordExpression} → KeywordMeans rs (placed place level) b (between s u es) → Kept s u es
+    means-kept (means {at = at} {b = b} {s = s} {v = v} {u = u} {c = c} {x = x} {refs = refs} h e) =
         let a : Went (record s { scope = [] }) v refs = expands-went h in
         let first : Grows s v = grows-from s (record s { scope = [] }) v refl a.grows in
         let back : State = record v { scope = s.scope } in
-        let k : Grows back u = grew-given back e (finish-keyword-grew rs (place_of b.init place) b.label c back) in
+        let k : Grows back u = grew-given back e (finish-keyword-grew rs (place_of b.init at.place) b.label c back) in
         let last : Grows v u = grows-from v back u refl k in
         let kept = linked-later v u last refs a.linked in
         record { grows = grows-then s v u first last; linked = each-append (λ (y : KeywordExpression). AreLinked u.links y.references) refs.expressions (record { keyword = b.label; code = c; references = refs.references; state = v } ∷ []) kept.1 (kept.0, tt) }
 
-    mean-kept : {place : Span} {level : ℕ} {recursive : Bool} {f : FrameNo} {bs : List BoundSpec} {s u : State} {es : List KeywordExpression} → Mean rs place level recursive f bs s u es → Kept s u es
+    mean-kept : {place : Span} {level : ℕ} {recursive : Bool} {f : FrameNo} {bs : List BoundSpec} {s u : State} {es : List KeywordExpression} → Mean rs (placed place level) recursive f bs (between s u es) → Kept s u es
     mean-kept (derivation.no_keyword {s = s}) = record { grows = grows-same s s refl; linked = tt }
     mean-kept (derivation.keyword {s = s} {v = v} {u = u} {es = es} {others = others} h g) = kept-both s v u es others (means-kept h) (mean-kept g)
 
     keywords-kept : {place : Span} {level : ℕ} {recursive : Bool} {bs : List BindingSpec} {forms stamped : List Tree} {s u : State} {es : List KeywordExpression}
-        → BindsKeywords rs place level recursive bs forms s stamped u es → Kept s u es
-    keywords-kept (binds_keywords {place = place} {level = level} {bs = bs} {s = s} {v = v} {u = u} {xs = xs} {es = es} e h) =
-        let a = from-counted s v (grew-given (counted s) e (bind-keywords-grew (record { 0 = s.names }) place level bs (counted s))) in
+        → BindsKeywords rs (placed place level) (let_syntax_parts recursive bs forms) stamped (between s u es) → Kept s u es
+    keywords-kept (binds_keywords {at = at} {bs = bs} {s = s} {v = v} {u = u} {xs = xs} {es = es} e h) =
+        let a = from-counted s v (grew-given (counted s) e (bind-keywords-grew (record { 0 = s.names }) at.place at.level bs (counted s))) in
         kept-from s v u es a (mean-kept h)
 
-    takes-kept : {at : BodyAt} {depth : ℕ} {done end : Taken} {t : Tree} {s u : State} {es : List KeywordExpression} → TakesForm rs at depth done t s end u es → Kept s u es
+    takes-kept : {at : BodyAt} {depth : ℕ} {done end : Taken} {t : Tree} {s u : State} {es : List KeywordExpression} → TakesForm rs at depth t (taking done s end u es) → Kept s u es
     takes-kept (takes {at = at} {depth = depth} {done = done} {t = t} {s = s} {v = v} {u = u} {es = es} e h) =
         let a = grew-given s e (expand_uses-item-grew rs at depth done t s) in
         kept-from s v u es a (acts-kept h)
 
-    acts-kept : {at : BodyAt} {depth : ℕ} {done end : Taken} {t : Tree} {i : Item} {s u : State} {es : List KeywordExpression} → Acts rs at depth done t i s end u es → Kept s u es
+    acts-kept : {at : BodyAt} {depth : ℕ} {done end : Taken} {t : Tree} {i : Item} {s u : State} {es : List KeywordExpression} → Acts rs at depth t i (taking done s end u es) → Kept s u es
     acts-kept (is_taken {s = s}) = record { grows = grows-same s s refl; linked = tt }
     acts-kept (takes_forms h) = take-kept h
     acts-kept (defines_keyword {at = at} {done = done} {t = t} {b = b} {x = x} {s = s} {v = v} {u = u} {es = es} e h) =
         kept-from s v u es (grew-given s e (define-keyword-grew at done t b s)) (means-kept h)
     acts-kept (takes_among {s = s} {v = v} {u = u} {es = es} {others = others} h g) = kept-both s v u es others (keywords-kept h) (take-kept g)
 
-    pub take-kept : {at : BodyAt} {depth : ℕ} {done end : Taken} {ts : List Tree} {s u : State} {es : List KeywordExpression} → Take rs at depth done ts s end u es → Kept s u es
+    pub take-kept : {at : BodyAt} {depth : ℕ} {done end : Taken} {ts : List Tree} {s u : State} {es : List KeywordExpression} → Take rs at depth ts (taking done s end u es) → Kept s u es
     take-kept (derivation.none_taken {s = s}) = record { grows = grows-same s s refl; linked = tt }
     take-kept (derivation.more_taken {s = s} {v = v} {u = u} {es = es} {others = others} h g) = kept-both s v u es others (takes-kept h) (take-kept g)
 
-    body-went : {place : Span} {level : ℕ} {t : Tree} {forms : List Tree} {s u : State} {c : PlainCore} {x : Noted} → IsBody rs place level t forms s c u x → Went s u x
+    body-went : {place : Span} {level : ℕ} {t : Tree} {forms : List Tree} {s u : State} {c : PlainCore} {x : Noted} → IsBody rs (placed place level) t forms c (between s u x) → Went s u x
     body-went (is_body {s = s} {v = v} {u = u} {es = es} {xs = xs} depth h g) =
         let a = take-kept h in
         let b = finish-went g in
@@ -269,7 +271,7 @@ module _ (rs : List CompiledLibrary) where
           expressions = each-append (λ (e : KeywordExpression). AreLinked u.links e.references) x.noted.expressions (of_lines xs) k.1 b.expressions;
         }
 
-    ends-went : {level : ℕ} {place : Span} {w : Waits} {s u : State} {x : NotedLine} → Ends rs level place w s x u → Went s u x.noted
+    ends-went : {level : ℕ} {place : Span} {w : Waits} {s u : State} {x : NotedLine} → Ends rs (placed place level) w s x u → Went s u x.noted
     ends-went (declares {s = s}) = went-none s
     ends-went (defines h) = expands-went h
     ends-went (defines_procedure {s = s} {u = u} {refs = refs} h) = went-counted s u refs (binds-went h)

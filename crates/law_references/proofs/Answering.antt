@@ -46,8 +46,10 @@ use Rattle.expand_heads.specs.declared.taken.Waiting.{Waiting}
 use Rattle.expand_heads.specs.declared.taken.Waits.{Waits}
 use Rattle.expand_forms.specs.Body.{sequence_of, body_core}
 use Rattle.expand_forms.specs.ExpandUses.{expand_item_uses}
+use Rattle.expand_forms.specs.Forms.{procedure_parts, let_syntax_parts}
 use Rattle.expand_forms.specs.declared.expand_uses.PlannedForm.{PlannedForm}
 use Rattle.expand_forms.specs.declared.expand_uses.PlannedItem.{PlannedItem}
+use Rattle.law_references.specs.Changes.{between, placed, taking}
 use Rattle.law_references.specs.Expands.{counted, QuasiCodes, quotes, has_no_insert, has_inserts, Expands, settles, Performs, refers, is_done, is_template, calls, tests, chooses, assigns, follows, makes, makes_cases, binds_all, matches_one, has_keywords, fills, Expand, none, more, CaseBinds, binds_formals, ExpandedBind, no_case, case}
 use Rattle.law_references.specs.Expands.{Starts, starts_with, ExpansionStart, no_init, init, ExpandsClause, matches_pattern, Match, no_clause, clause, Asks, asks_nothing, asks_first, KeywordMeans, means, Mean, no_keyword, keyword, BindsKeywords, binds_keywords, TakesForm, takes, Acts, is_taken, takes_forms, defines_keyword, takes_among, Take, none_taken, more_taken}
 use Rattle.law_references.specs.Expands.{IsBody, is_body, Finish, no_line, next_line, Ends, declares, defines, defines_procedure, is_expression}
@@ -115,7 +117,7 @@ record IsSyntax (place : Span) (level : ℕ) (t : Tree) (s : State) (c : PlainCo
   template : PlainTemplate
   references : List Reference
   shaped : shape core_forms.Syntax t place ≡ Ok (shapes.Operand operand)
-  is : IsTemplateOf s place level operand template references
+  is : IsTemplateOf s (placed place level) operand template references
   code : c ≡ instance template (place_of t place)
   noted : y ≡ of_references references
 
@@ -153,7 +155,7 @@ abbrev DoneOf : Span → ℕ → Tree → State → Plan → PlainCore → State
 DoneOf place level t s (plans.Done c) d v y = IsDone place level t s c d v y
 DoneOf place level t s p d v y = Unit {0}
 
-done-of : (rs : List CompiledLibrary) {place : Span} {level : ℕ} {t : Tree} {p : Plan} {s : State} {d : PlainCore} {v : State} {y : Noted} → Performs rs place level t p s d v y → DoneOf place level t s p d v y
+done-of : (rs : List CompiledLibrary) {place : Span} {level : ℕ} {t : Tree} {p : Plan} {s : State} {d : PlainCore} {v : State} {y : Noted} → Performs rs (placed place level) t p d (between s v y) → DoneOf place level t s p d v y
 done-of rs (refers {l = l} a b r) = record { value = refl; state = refl; noted = inl (record { label = l; leafy = a; stood = b; noted = refl }) }
 done-of rs (is_done a b) = record { value = refl; state = refl; noted = inr (inl (record { compound = a; empty = b; noted = refl })) }
 done-of rs (is_template {operand = operand} {x = x} {refs = refs} a b i) = record { value = refl; state = refl; noted = inr (inr (record { operand = operand; template = x; references = refs; shaped = a; is = i; code = refl; noted = refl })) }
@@ -174,7 +176,7 @@ done-of rs (fills a b c) = tt
 module _ (place : Span) (level : ℕ) (t : Tree) where
   inserted-same : (f : FrameNo) (operand : Tree) (cs : List PlainCore) (n : ℕ) (vs vs' : List PatternVariable) (v v' w w' : State) (e e' : Unit {0}) (x x' : PlainTemplate) (refs refs' : List Reference)
       → ◌≡◌ {A = List PatternVariable × State} (vs, v) (vs', v') → bind_inserts f place level vs v ≡ Ok (e, w) → bind_inserts f place level vs' v' ≡ Ok (e', w')
-      → template_of place level operand w ≡ Ok (x, w) → template_of place level operand w' ≡ Ok (x', w') → IsTemplateOf w place level operand x refs → IsTemplateOf w' place level operand x' refs'
+      → template_of place level operand w ≡ Ok (x, w) → template_of place level operand w' ≡ Ok (x', w') → IsTemplateOf w (placed place level) operand x refs → IsTemplateOf w' (placed place level) operand x' refs'
       → Same (match_of vs x (place_of t place) cs) (match_of vs' x' (place_of t place) cs) (cut n w) (cut n w') (of_references refs) (of_references refs')
   inserted-same f operand cs n vs vs' v v' w w' e e' x x' refs refs' p b b' m m' i i' =
       let q : ◌≡◌ {A = Unit {0} × State} (e, w) (e', w') = ok-same (e, w) (e', w') (sym b ∙ ap (λ (z : List PatternVariable × State). bind_inserts f place level z.0 z.1) p ∙ b') in
@@ -184,67 +186,67 @@ module _ (place : Span) (level : ℕ) (t : Tree) where
         (ap (cut n) left, ap of_references (i.are ∙ ap (λ (z : State). variables_in z place level false operand) left ∙ sym i'.are)),
       )
 
-  plain-same : (operand : Tree) (s : State) (x x' : PlainTemplate) (refs refs' : List Reference) → template_of place level operand s ≡ Ok (x, s) → template_of place level operand s ≡ Ok (x', s) → IsTemplateOf s place level operand x refs → IsTemplateOf s place level operand x' refs'
+  plain-same : (operand : Tree) (s : State) (x x' : PlainTemplate) (refs refs' : List Reference) → template_of place level operand s ≡ Ok (x, s) → template_of place level operand s ≡ Ok (x', s) → IsTemplateOf s (placed place level) operand x refs → IsTemplateOf s (placed place level) operand x' refs'
       → Same (instance x (place_of t place)) (instance x' (place_of t place)) s s (of_references refs) (of_references refs')
   plain-same operand s x x' refs refs' m m' i i' =
       let made : ◌≡◌ {A = PlainTemplate × State} (x, s) (x', s) = ok-same (x, s) (x', s) (sym m ∙ m') in
       (λ j. instance (made j).0 (place_of t place), (refl, ap of_references (i.are ∙ sym i'.are)))
 
-codes-same : {place : Span} {level : ℕ} {t : Tree} {q : QuasiForm} {cs : List PlainCore} {s u v : State} {c d : PlainCore} {x y : Noted} → QuasiCodes place level t q cs s c u x → QuasiCodes place level t q cs s d v y → Same c d u v x y
+codes-same : {place : Span} {level : ℕ} {t : Tree} {q : QuasiForm} {cs : List PlainCore} {s u v : State} {c d : PlainCore} {x y : Noted} → QuasiCodes (placed place level) t q cs c (between s u x) → QuasiCodes (placed place level) t q cs d (between s v y) → Same c d u v x y
 codes-same quotes quotes = (refl, (refl, refl))
-codes-same (has_no_insert {place = place} {level = level} {t = t} {q = q} {s = s} {x = x} {refs = refs} e m i) (has_no_insert {x = x'} {refs = refs'} e' m' i') = plain-same place level t q.template s x x' refs refs' m m' i i'
+codes-same {place} {level} {t} (has_no_insert {q = q} {s = s} {x = x} {refs = refs} e m i) (has_no_insert {x = x'} {refs = refs'} e' m' i') = plain-same place level t q.template s x x' refs refs' m m' i i'
 codes-same (has_no_insert e m i) (has_inserts e' a b m' i') = absurd (e' e)
 codes-same (has_inserts e a b m i) (has_no_insert e' m' i') = absurd (e e')
-codes-same (has_inserts {place = place} {level = level} {t = t} {q = q} {cs = cs} {s = s} {v = v} {w = w} {vs = vs} {e = z} {x = x} {refs = refs} e a b m i) (has_inserts {v = v'} {w = w'} {vs = vs'} {e = z'} {x = x'} {refs = refs'} e' a' b' m' i') =
+codes-same {place} {level} {t} (has_inserts {q = q} {cs = cs} {s = s} {v = v} {w = w} {vs = vs} {e = z} {x = x} {refs = refs} e a b m i) (has_inserts {v = v'} {w = w'} {vs = vs'} {e = z'} {x = x'} {refs = refs'} e' a' b' m' i') =
     inserted-same place level t (record { 0 = s.names }) (stamp (record { 0 = s.names }) q.template) cs (length s.scope) vs vs' v v' w w' z z' x x' refs refs' (ok-same (vs, v) (vs', v') (sym a ∙ a')) b b' m m' i i'
 
 -- What is related to what was given in another way is related to what was given in this.
 module _ (rs : List CompiledLibrary) where
-  plan-from : {level : ℕ} {c : PlainCore} {u : State} {x : Noted} (p q : PlannedForm × State) → p ≡ q → Performs rs q.0.place level q.0.form q.0.plan q.1 c u x → Performs rs p.0.place level p.0.form p.0.plan p.1 c u x
-  plan-from {level} {c} {u} {x} p q e h = subst (λ (z : PlannedForm × State). Performs rs z.0.place level z.0.form z.0.plan z.1 c u x) (sym e) h
+  plan-from : {level : ℕ} {c : PlainCore} {u : State} {x : Noted} (p q : PlannedForm × State) → p ≡ q → Performs rs (placed q.0.place level) q.0.form q.0.plan c (between q.1 u x) → Performs rs (placed p.0.place level) p.0.form p.0.plan c (between p.1 u x)
+  plan-from {level} {c} {u} {x} p q e h = subst (λ (z : PlannedForm × State). Performs rs (placed z.0.place level) z.0.form z.0.plan c (between z.1 u x)) (sym e) h
 
-  form-from : {place : Span} {level : ℕ} {t : Tree} {s v u : State} {c : PlainCore} {x : Noted} → s ≡ v → Expands rs place level t v c u x → Expands rs place level t s c u x
-  form-from {place} {level} {t} {s} {v} {u} {c} {x} e h = subst (λ (z : State). Expands rs place level t z c u x) (sym e) h
+  form-from : {place : Span} {level : ℕ} {t : Tree} {s v u : State} {c : PlainCore} {x : Noted} → s ≡ v → Expands rs (placed place level) t c (between v u x) → Expands rs (placed place level) t c (between s u x)
+  form-from {place} {level} {t} {s} {v} {u} {c} {x} e h = subst (λ (z : State). Expands rs (placed place level) t c (between z u x)) (sym e) h
 
-  forms-from : {place : Span} {level : ℕ} {ts ys : List Tree} {s v u : State} {cs : List PlainCore} {x : Noted} → ts ≡ ys → s ≡ v → Expand rs place level ys v cs u x → Expand rs place level ts s cs u x
-  forms-from {place} {level} {ts} {ys} {s} {v} {u} {cs} {x} e f h = subst (λ (z : List Tree). Expand rs place level z s cs u x) (sym e) (subst (λ (z : State). Expand rs place level ys z cs u x) (sym f) h)
+  forms-from : {place : Span} {level : ℕ} {ts ys : List Tree} {s v u : State} {cs : List PlainCore} {x : Noted} → ts ≡ ys → s ≡ v → Expand rs (placed place level) ys cs (between v u x) → Expand rs (placed place level) ts cs (between s u x)
+  forms-from {place} {level} {ts} {ys} {s} {v} {u} {cs} {x} e f h = subst (λ (z : List Tree). Expand rs (placed place level) z cs (between s u x)) (sym e) (subst (λ (z : State). Expand rs (placed place level) ys cs (between z u x)) (sym f) h)
 
-  codes-from : {place : Span} {level : ℕ} {t : Tree} {q r : QuasiForm} {cs ds : List PlainCore} {s v u : State} {c : PlainCore} {x : Noted} → q ≡ r → cs ≡ ds → s ≡ v → QuasiCodes place level t r ds v c u x → QuasiCodes place level t q cs s c u x
+  codes-from : {place : Span} {level : ℕ} {t : Tree} {q r : QuasiForm} {cs ds : List PlainCore} {s v u : State} {c : PlainCore} {x : Noted} → q ≡ r → cs ≡ ds → s ≡ v → QuasiCodes (placed place level) t r ds c (between v u x) → QuasiCodes (placed place level) t q cs c (between s u x)
   codes-from {place} {level} {t} {q} {r} {cs} {ds} {s} {v} {u} {c} {x} e f g h =
-      subst (λ (z : QuasiForm). QuasiCodes place level t z cs s c u x) (sym e) (subst (λ (z : List PlainCore). QuasiCodes place level t r z s c u x) (sym f) (subst (λ (z : State). QuasiCodes place level t r ds z c u x) (sym g) h))
+      subst (λ (z : QuasiForm). QuasiCodes (placed place level) t z cs c (between s u x)) (sym e) (subst (λ (z : List PlainCore). QuasiCodes (placed place level) t r z c (between s u x)) (sym f) (subst (λ (z : State). QuasiCodes (placed place level) t r ds c (between z u x)) (sym g) h))
 
-  case-from : {place : Span} {level : ℕ} {t : Tree} {xs : List LambdaCase} {s v u : State} {cs : List Lambda} {x : Noted} → s ≡ v → ExpandedBind rs place level t xs v cs u x → ExpandedBind rs place level t xs s cs u x
-  case-from {place} {level} {t} {xs} {s} {v} {u} {cs} {x} e h = subst (λ (z : State). ExpandedBind rs place level t xs z cs u x) (sym e) h
+  case-from : {place : Span} {level : ℕ} {t : Tree} {xs : List LambdaCase} {s v u : State} {cs : List Lambda} {x : Noted} → s ≡ v → ExpandedBind rs (placed place level) t xs cs (between v u x) → ExpandedBind rs (placed place level) t xs cs (between s u x)
+  case-from {place} {level} {t} {xs} {s} {v} {u} {cs} {x} e h = subst (λ (z : State). ExpandedBind rs (placed place level) t xs cs (between z u x)) (sym e) h
 
-  body-from : {place : Span} {level : ℕ} {t : Tree} {forms : List Tree} {s v u : State} {c : PlainCore} {x : Noted} → s ≡ v → IsBody rs place level t forms v c u x → IsBody rs place level t forms s c u x
-  body-from {place} {level} {t} {forms} {s} {v} {u} {c} {x} e h = subst (λ (z : State). IsBody rs place level t forms z c u x) (sym e) h
+  body-from : {place : Span} {level : ℕ} {t : Tree} {forms : List Tree} {s v u : State} {c : PlainCore} {x : Noted} → s ≡ v → IsBody rs (placed place level) t forms c (between v u x) → IsBody rs (placed place level) t forms c (between s u x)
+  body-from {place} {level} {t} {forms} {s} {v} {u} {c} {x} e h = subst (λ (z : State). IsBody rs (placed place level) t forms c (between z u x)) (sym e) h
 
-  inits-from : {place : Span} {level : ℕ} {f : FrameNo} {bs cs : List BoundSpec} {s v u : State} {is : List Init} {x : Noted} → bs ≡ cs → s ≡ v → ExpansionStart rs place level f cs v is u x → ExpansionStart rs place level f bs s is u x
-  inits-from {place} {level} {f} {bs} {cs} {s} {v} {u} {is} {x} e g h = subst (λ (z : List BoundSpec). ExpansionStart rs place level f z s is u x) (sym e) (subst (λ (z : State). ExpansionStart rs place level f cs z is u x) (sym g) h)
+  inits-from : {place : Span} {level : ℕ} {f : FrameNo} {bs cs : List BoundSpec} {s v u : State} {is : List Init} {x : Noted} → bs ≡ cs → s ≡ v → ExpansionStart rs (placed place level) f cs is (between v u x) → ExpansionStart rs (placed place level) f bs is (between s u x)
+  inits-from {place} {level} {f} {bs} {cs} {s} {v} {u} {is} {x} e g h = subst (λ (z : List BoundSpec). ExpansionStart rs (placed place level) f z is (between s u x)) (sym e) (subst (λ (z : State). ExpansionStart rs (placed place level) f cs is (between z u x)) (sym g) h)
 
-  clauses-from : {place : Span} {level : ℕ} {literals : List Tree} {xs : List PatternCase} {s v u : State} {cs : List Clause} {x : Noted} → s ≡ v → Match rs place level literals xs v cs u x → Match rs place level literals xs s cs u x
-  clauses-from {place} {level} {literals} {xs} {s} {v} {u} {cs} {x} e h = subst (λ (z : State). Match rs place level literals xs z cs u x) (sym e) h
+  clauses-from : {place : Span} {level : ℕ} {literals : List Tree} {xs : List PatternCase} {s v u : State} {cs : List Clause} {x : Noted} → s ≡ v → Match rs (placed place level) literals xs cs (between v u x) → Match rs (placed place level) literals xs cs (between s u x)
+  clauses-from {place} {level} {literals} {xs} {s} {v} {u} {cs} {x} e h = subst (λ (z : State). Match rs (placed place level) literals xs cs (between z u x)) (sym e) h
 
-  fender-from : {place : Span} {level : ℕ} {f : FrameNo} {o : Option Tree} {s v u : State} {p : Option PlainCore} {x : Noted} → s ≡ v → Asks rs place level f o v p u x → Asks rs place level f o s p u x
-  fender-from {place} {level} {f} {o} {s} {v} {u} {p} {x} e h = subst (λ (z : State). Asks rs place level f o z p u x) (sym e) h
+  fender-from : {place : Span} {level : ℕ} {f : FrameNo} {o : Option Tree} {s v u : State} {p : Option PlainCore} {x : Noted} → s ≡ v → Asks rs (placed place level) f o p (between v u x) → Asks rs (placed place level) f o p (between s u x)
+  fender-from {place} {level} {f} {o} {s} {v} {u} {p} {x} e h = subst (λ (z : State). Asks rs (placed place level) f o p (between z u x)) (sym e) h
 
-  keyword-from : {place : Span} {level : ℕ} {b c : BoundSpec} {s v u : State} {es : List KeywordExpression} → b ≡ c → s ≡ v → KeywordMeans rs place level c v u es → KeywordMeans rs place level b s u es
-  keyword-from {place} {level} {b} {c} {s} {v} {u} {es} e g h = subst (λ (z : BoundSpec). KeywordMeans rs place level z s u es) (sym e) (subst (λ (z : State). KeywordMeans rs place level c z u es) (sym g) h)
+  keyword-from : {place : Span} {level : ℕ} {b c : BoundSpec} {s v u : State} {es : List KeywordExpression} → b ≡ c → s ≡ v → KeywordMeans rs (placed place level) c (between v u es) → KeywordMeans rs (placed place level) b (between s u es)
+  keyword-from {place} {level} {b} {c} {s} {v} {u} {es} e g h = subst (λ (z : BoundSpec). KeywordMeans rs (placed place level) z (between s u es)) (sym e) (subst (λ (z : State). KeywordMeans rs (placed place level) c (between z u es)) (sym g) h)
 
-  keywords-from : {place : Span} {level : ℕ} {recursive : Bool} {f : FrameNo} {bs cs : List BoundSpec} {s v u : State} {es : List KeywordExpression} → bs ≡ cs → s ≡ v → Mean rs place level recursive f cs v u es → Mean rs place level recursive f bs s u es
-  keywords-from {place} {level} {recursive} {f} {bs} {cs} {s} {v} {u} {es} e g h = subst (λ (z : List BoundSpec). Mean rs place level recursive f z s u es) (sym e) (subst (λ (z : State). Mean rs place level recursive f cs z u es) (sym g) h)
+  keywords-from : {place : Span} {level : ℕ} {recursive : Bool} {f : FrameNo} {bs cs : List BoundSpec} {s v u : State} {es : List KeywordExpression} → bs ≡ cs → s ≡ v → Mean rs (placed place level) recursive f cs (between v u es) → Mean rs (placed place level) recursive f bs (between s u es)
+  keywords-from {place} {level} {recursive} {f} {bs} {cs} {s} {v} {u} {es} e g h = subst (λ (z : List BoundSpec). Mean rs (placed place level) recursive f z (between s u es)) (sym e) (subst (λ (z : State). Mean rs (placed place level) recursive f cs (between z u es)) (sym g) h)
 
-  item-from : {depth : ℕ} {done end : Taken} {u : State} {es : List KeywordExpression} (p q : PlannedItem × State) → p ≡ q → Acts rs q.0.at depth done q.0.form q.0.item q.1 end u es → Acts rs p.0.at depth done p.0.form p.0.item p.1 end u es
-  item-from {depth} {done} {end} {u} {es} p q e h = subst (λ (z : PlannedItem × State). Acts rs z.0.at depth done z.0.form z.0.item z.1 end u es) (sym e) h
+  item-from : {depth : ℕ} {done end : Taken} {u : State} {es : List KeywordExpression} (p q : PlannedItem × State) → p ≡ q → Acts rs q.0.at depth q.0.form q.0.item (taking done q.1 end u es) → Acts rs p.0.at depth p.0.form p.0.item (taking done p.1 end u es)
+  item-from {depth} {done} {end} {u} {es} p q e h = subst (λ (z : PlannedItem × State). Acts rs z.0.at depth z.0.form z.0.item (taking done z.1 end u es)) (sym e) h
 
-  take-from : {at : BodyAt} {depth : ℕ} {done end : Taken} {ts ys : List Tree} {s v u : State} {es : List KeywordExpression} → ts ≡ ys → s ≡ v → Take rs at depth done ys v end u es → Take rs at depth done ts s end u es
-  take-from {at} {depth} {done} {end} {ts} {ys} {s} {v} {u} {es} e f h = subst (λ (z : List Tree). Take rs at depth done z s end u es) (sym e) (subst (λ (z : State). Take rs at depth done ys z end u es) (sym f) h)
+  take-from : {at : BodyAt} {depth : ℕ} {done end : Taken} {ts ys : List Tree} {s v u : State} {es : List KeywordExpression} → ts ≡ ys → s ≡ v → Take rs at depth ys (taking done v end u es) → Take rs at depth ts (taking done s end u es)
+  take-from {at} {depth} {done} {end} {ts} {ys} {s} {v} {u} {es} e f h = subst (λ (z : List Tree). Take rs at depth z (taking done s end u es)) (sym e) (subst (λ (z : State). Take rs at depth ys (taking done z end u es)) (sym f) h)
 
   lines-from : {level : ℕ} {ws : List Waiting} {s v u : State} {xs : List NotedLine} → s ≡ v → Finish rs level ws v xs u → Finish rs level ws s xs u
   lines-from {level} {ws} {s} {v} {u} {xs} e h = subst (λ (z : State). Finish rs level ws z xs u) (sym e) h
 
-  line-from : {level : ℕ} {p q : Span} {w z : Waits} {s u : State} {x : NotedLine} → p ≡ q → w ≡ z → Ends rs level q z s x u → Ends rs level p w s x u
-  line-from {level} {p} {q} {w} {z} {s} {u} {x} e f h = subst (λ (a : Span). Ends rs level a w s x u) (sym e) (subst (λ (b : Waits). Ends rs level q b s x u) (sym f) h)
+  line-from : {level : ℕ} {p q : Span} {w z : Waits} {s u : State} {x : NotedLine} → p ≡ q → w ≡ z → Ends rs (placed q level) z s x u → Ends rs (placed p level) w s x u
+  line-from {level} {p} {q} {w} {z} {s} {u} {x} e f h = subst (λ (a : Span). Ends rs (placed a level) w s x u) (sym e) (subst (λ (b : Waits). Ends rs (placed q level) b s x u) (sym f) h)
 
   -- The planned item of a form of a body, and what was taken with it up to depths.
   items-same : (at : BodyAt) (depth depth' : ℕ) (done done' after after' : Taken) (t : Tree) (d d' : PlannedItem) (s v v' : State) → expand_item_uses rs at depth done t s ≡ Ok ((after, d), v) → expand_item_uses rs at depth' done' t s ≡ Ok ((after', d'), v')
@@ -259,13 +261,13 @@ module _ (rs : List CompiledLibrary) where
       ok-same (x, v) (x', v') (sym e ∙ sym (keyword-shallow at done t b s) ∙ ap (λ (z : Taken). define_keyword at z t b s) same ∙ keyword-shallow at done' t b s ∙ e')
 
   mutual
-    one-form : {place : Span} {level : ℕ} {t : Tree} {s u v : State} {c d : PlainCore} {x y : Noted} → Expands rs place level t s c u x → Expands rs place level t s d v y → Same c d u v x y
+    one-form : {place : Span} {level : ℕ} {t : Tree} {s u v : State} {c d : PlainCore} {x y : Noted} → Expands rs (placed place level) t c (between s u x) → Expands rs (placed place level) t d (between s v y) → Same c d u v x y
     one-form (settles {v = v} {d = d} e p) (settles {v = v'} {d = d'} e' p') = one-plan p (plan-from (d, v) (d', v') (ok-same (d, v) (d', v') (sym e ∙ e')) p')
 
-    one-plan : {place : Span} {level : ℕ} {t : Tree} {p : Plan} {s u v : State} {c d : PlainCore} {x y : Noted} → Performs rs place level t p s c u x → Performs rs place level t p s d v y → Same c d u v x y
-    one-plan (refers {place = place} {level = level} {t = t} {s = s} {l = l} {c = c} a b r) h = done-same (done-of rs (refers {place = place} {level = level} {t = t} {s = s} {l = l} {c = c} a b r)) (done-of rs h)
-    one-plan (is_done {place = place} {level = level} {t = t} {s = s} {c = c} a b) h = done-same (done-of rs (is_done {place = place} {level = level} {t = t} {s = s} {c = c} a b)) (done-of rs h)
-    one-plan (is_template {place = place} {level = level} {t = t} {operand = operand} {s = s} {x = x} {refs = refs} a b i) h = done-same (done-of rs (is_template {place = place} {level = level} {t = t} {operand = operand} {s = s} {x = x} {refs = refs} a b i)) (done-of rs h)
+    one-plan : {place : Span} {level : ℕ} {t : Tree} {p : Plan} {s u v : State} {c d : PlainCore} {x y : Noted} → Performs rs (placed place level) t p c (between s u x) → Performs rs (placed place level) t p d (between s v y) → Same c d u v x y
+    one-plan (refers {at = at} {t = t} {s = s} {l = l} {c = c} a b r) h = done-same (done-of rs (refers {at = at} {t = t} {s = s} {l = l} {c = c} a b r)) (done-of rs h)
+    one-plan (is_done {at = at} {t = t} {s = s} {c = c} a b) h = done-same (done-of rs (is_done {at = at} {t = t} {s = s} {c = c} a b)) (done-of rs h)
+    one-plan (is_template {at = at} {t = t} {operand = operand} {s = s} {x = x} {refs = refs} a b i) h = done-same (done-of rs (is_template {at = at} {t = t} {operand = operand} {s = s} {x = x} {refs = refs} a b i)) (done-of rs h)
     one-plan (calls a b) (calls a' b') =
         let x = one-form a a' in
         let y = one-forms b (forms-from refl x.1.0 b') in
@@ -291,9 +293,9 @@ module _ (rs : List CompiledLibrary) where
         let x = one-inits a (inits-from (λ i. (p i).0) (λ i. (p i).1) a') in
         let y = one-body b (body-from x.1.0 b') in
         (λ i. letrec star (inits (x.0 i)) (y.0 i), (λ i. cut (length s.scope) (y.1.0 i), λ i. both (x.1.1 i) (y.1.1 i)))
-    one-plan (matches_one {place = place} {literals = literals} {span = span} {w = w} {x = m} a e b) (matches_one {w = w'} {x = m'} a' e' b') =
+    one-plan (matches_one {at = at} {literals = literals} {span = span} {w = w} {x = m} a e b) (matches_one {w = w'} {x = m'} a' e' b') =
         let x = one-form a a' in
-        let p = ok-same (m, w) (m', w') (sym e ∙ ap (check_literals place literals) x.1.0 ∙ e') in
+        let p = ok-same (m, w) (m', w') (sym e ∙ ap (check_literals at.place literals) x.1.0 ∙ e') in
         let y = one-clauses b (clauses-from (λ i. (p i).1) b') in
         (λ i. matching (x.0 i) (clauses (y.0 i)) span, (y.1.0, λ i. both (x.1.1 i) (y.1.1 i)))
     one-plan (has_keywords a b) (has_keywords a' b') =
@@ -306,62 +308,62 @@ module _ (rs : List CompiledLibrary) where
         let y = codes-same b (codes-from (λ i. (p i).0) x.0 x.1.0 b') in
         (y.0, (y.1.0, λ i. both (x.1.1 i) (y.1.1 i)))
 
-    one-forms : {place : Span} {level : ℕ} {ts : List Tree} {s u v : State} {cs ds : List PlainCore} {x y : Noted} → Expand rs place level ts s cs u x → Expand rs place level ts s ds v y → Same cs ds u v x y
+    one-forms : {place : Span} {level : ℕ} {ts : List Tree} {s u v : State} {cs ds : List PlainCore} {x y : Noted} → Expand rs (placed place level) ts cs (between s u x) → Expand rs (placed place level) ts ds (between s v y) → Same cs ds u v x y
     one-forms none none = (refl, (refl, refl))
     one-forms (more a b) (more a' b') =
         let x = one-form a a' in
         let y = one-forms b (forms-from refl x.1.0 b') in
         (λ i. x.0 i ∷ y.0 i, (y.1.0, λ i. both (x.1.1 i) (y.1.1 i)))
 
-    one-case : {place : Span} {level : ℕ} {t : Tree} {ids : FormalIds} {forms : List Tree} {s u v : State} {c d : Lambda} {x y : Noted} → CaseBinds rs place level t ids forms s c u x → CaseBinds rs place level t ids forms s d v y → Same c d u v x y
+    one-case : {place : Span} {level : ℕ} {t : Tree} {ids : FormalIds} {forms : List Tree} {s u v : State} {c d : Lambda} {x y : Noted} → CaseBinds rs (placed place level) (procedure_parts t ids forms) c (between s u x) → CaseBinds rs (placed place level) (procedure_parts t ids forms) d (between s v y) → Same c d u v x y
     one-case (binds_formals {s = s} {v = v} {formals = formals} e a) (binds_formals {v = v'} {formals = formals'} e' a') =
         let p = ok-same (formals, v) (formals', v') (sym e ∙ e') in
         let x = one-body a (body-from (λ i. (p i).1) a') in
         (λ i. record { formals = (p i).0; body = x.0 i }, (λ i. cut (length s.scope) (x.1.0 i), x.1.1))
 
-    one-cases : {place : Span} {level : ℕ} {t : Tree} {xs : List LambdaCase} {s u v : State} {cs ds : List Lambda} {x y : Noted} → ExpandedBind rs place level t xs s cs u x → ExpandedBind rs place level t xs s ds v y → Same cs ds u v x y
+    one-cases : {place : Span} {level : ℕ} {t : Tree} {xs : List LambdaCase} {s u v : State} {cs ds : List Lambda} {x y : Noted} → ExpandedBind rs (placed place level) t xs cs (between s u x) → ExpandedBind rs (placed place level) t xs ds (between s v y) → Same cs ds u v x y
     one-cases no_case no_case = (refl, (refl, refl))
     one-cases (case a b) (case a' b') =
         let x = one-case a a' in
         let y = one-cases b (case-from x.1.0 b') in
         (λ i. x.0 i ∷ y.0 i, (y.1.0, λ i. both (x.1.1 i) (y.1.1 i)))
 
-    one-init : {place : Span} {level : ℕ} {f : FrameNo} {b : BoundSpec} {s u v : State} {c d : Init} {x y : Noted} → Starts rs place level f b s c u x → Starts rs place level f b s d v y → Same c d u v x y
+    one-init : {place : Span} {level : ℕ} {f : FrameNo} {b : BoundSpec} {s u v : State} {c d : Init} {x y : Noted} → Starts rs (placed place level) f b c (between s u x) → Starts rs (placed place level) f b d (between s v y) → Same c d u v x y
     one-init (starts_with {b = b} a) (starts_with a') = let x = one-form a a' in (λ i. record { label = b.label; value = x.0 i }, x.1)
 
-    one-inits : {place : Span} {level : ℕ} {f : FrameNo} {bs : List BoundSpec} {s u v : State} {cs ds : List Init} {x y : Noted} → ExpansionStart rs place level f bs s cs u x → ExpansionStart rs place level f bs s ds v y → Same cs ds u v x y
+    one-inits : {place : Span} {level : ℕ} {f : FrameNo} {bs : List BoundSpec} {s u v : State} {cs ds : List Init} {x y : Noted} → ExpansionStart rs (placed place level) f bs cs (between s u x) → ExpansionStart rs (placed place level) f bs ds (between s v y) → Same cs ds u v x y
     one-inits no_init no_init = (refl, (refl, refl))
     one-inits (init a b) (init a' b') =
         let x = one-init a a' in
         let y = one-inits b (inits-from refl x.1.0 b') in
         (λ i. x.0 i ∷ y.0 i, (y.1.0, λ i. both (x.1.1 i) (y.1.1 i)))
 
-    one-clause : {place : Span} {level : ℕ} {literals : List Tree} {z : PatternCase} {s u v : State} {c d : Clause} {x y : Noted} → ExpandsClause rs place level literals z s c u x → ExpandsClause rs place level literals z s d v y → Same c d u v x y
-    one-clause (matches_pattern {place = place} {level = level} {s = s} {v = v} {w = w} {p = p} {e = m} e f a b) (matches_pattern {v = v'} {w = w'} {p = p'} {e = m'} e' f' a' b') =
+    one-clause : {place : Span} {level : ℕ} {literals : List Tree} {z : PatternCase} {s u v : State} {c d : Clause} {x y : Noted} → ExpandsClause rs (placed place level) literals z c (between s u x) → ExpandsClause rs (placed place level) literals z d (between s v y) → Same c d u v x y
+    one-clause (matches_pattern {at = at} {s = s} {v = v} {w = w} {p = p} {e = m} e f a b) (matches_pattern {v = v'} {w = w'} {p = p'} {e = m'} e' f' a' b') =
         let made = ok-same (p, v) (p', v') (sym e ∙ e') in
-        let bound = ok-same (m, w) (m', w') (sym f ∙ ap (λ (z : Compiled × State). bind_pattern (record { 0 = s.names }) place level z.0.variables z.1) made ∙ f') in
+        let bound = ok-same (m, w) (m', w') (sym f ∙ ap (λ (z : Compiled × State). bind_pattern (record { 0 = s.names }) at.place at.level z.0.variables z.1) made ∙ f') in
         let x = one-fender a (fender-from (λ i. (bound i).1) a') in
         let y = one-form b (form-from x.1.0 b') in
         (λ i. record { pattern = (made i).0.pattern; fender = x.0 i; output = y.0 i }, (λ i. cut (length s.scope) (y.1.0 i), λ i. both (x.1.1 i) (y.1.1 i)))
 
-    one-clauses : {place : Span} {level : ℕ} {literals : List Tree} {xs : List PatternCase} {s u v : State} {cs ds : List Clause} {x y : Noted} → Match rs place level literals xs s cs u x → Match rs place level literals xs s ds v y → Same cs ds u v x y
+    one-clauses : {place : Span} {level : ℕ} {literals : List Tree} {xs : List PatternCase} {s u v : State} {cs ds : List Clause} {x y : Noted} → Match rs (placed place level) literals xs cs (between s u x) → Match rs (placed place level) literals xs ds (between s v y) → Same cs ds u v x y
     one-clauses no_clause no_clause = (refl, (refl, refl))
     one-clauses (clause a b) (clause a' b') =
         let x = one-clause a a' in
         let y = one-clauses b (clauses-from x.1.0 b') in
         (λ i. x.0 i ∷ y.0 i, (y.1.0, λ i. both (x.1.1 i) (y.1.1 i)))
 
-    one-fender : {place : Span} {level : ℕ} {f : FrameNo} {o : Option Tree} {s u v : State} {c d : Option PlainCore} {x y : Noted} → Asks rs place level f o s c u x → Asks rs place level f o s d v y → Same c d u v x y
+    one-fender : {place : Span} {level : ℕ} {f : FrameNo} {o : Option Tree} {s u v : State} {c d : Option PlainCore} {x y : Noted} → Asks rs (placed place level) f o c (between s u x) → Asks rs (placed place level) f o d (between s v y) → Same c d u v x y
     one-fender asks_nothing asks_nothing = (refl, (refl, refl))
     one-fender (asks_first a) (asks_first a') = let x = one-form a a' in (λ i. Some (x.0 i), x.1)
 
-    one-keyword : {place : Span} {level : ℕ} {b : BoundSpec} {s u v : State} {es fs : List KeywordExpression} → KeywordMeans rs place level b s u es → KeywordMeans rs place level b s v fs → (u ≡ v) × (es ≡ fs)
-    one-keyword (means {place = place} {b = b} {s = s} {u = u} {x = m} a e) (means {u = u'} {x = m'} a' e') =
+    one-keyword : {place : Span} {level : ℕ} {b : BoundSpec} {s u v : State} {es fs : List KeywordExpression} → KeywordMeans rs (placed place level) b (between s u es) → KeywordMeans rs (placed place level) b (between s v fs) → (u ≡ v) × (es ≡ fs)
+    one-keyword (means {at = at} {b = b} {s = s} {u = u} {x = m} a e) (means {u = u'} {x = m'} a' e') =
         let x = one-form a a' in
-        let p = ok-same (m, u) (m', u') (sym e ∙ (λ i. evaluate_transformer rs (place_of b.init place) b.label (x.0 i) (record (x.1.0 i) { scope = s.scope })) ∙ e') in
+        let p = ok-same (m, u) (m', u') (sym e ∙ (λ i. evaluate_transformer rs (place_of b.init at.place) b.label (x.0 i) (record (x.1.0 i) { scope = s.scope })) ∙ e') in
         (λ i. (p i).1, λ i. (x.1.1 i).expressions ++ record { keyword = b.label; code = x.0 i; references = (x.1.1 i).references; state = x.1.0 i } ∷ [])
 
-    one-mean : {place : Span} {level : ℕ} {recursive : Bool} {f : FrameNo} {bs : List BoundSpec} {s u v : State} {es fs : List KeywordExpression} → Mean rs place level recursive f bs s u es → Mean rs place level recursive f bs s v fs → (u ≡ v) × (es ≡ fs)
+    one-mean : {place : Span} {level : ℕ} {recursive : Bool} {f : FrameNo} {bs : List BoundSpec} {s u v : State} {es fs : List KeywordExpression} → Mean rs (placed place level) recursive f bs (between s u es) → Mean rs (placed place level) recursive f bs (between s v fs) → (u ≡ v) × (es ≡ fs)
     one-mean no_keyword no_keyword = (refl, refl)
     one-mean (keyword a b) (keyword a' b') =
         let x = one-keyword a a' in
@@ -369,17 +371,17 @@ module _ (rs : List CompiledLibrary) where
         (y.0, λ i. x.1 i ++ y.1 i)
 
     one-keywords : {place : Span} {level : ℕ} {recursive : Bool} {bs : List BindingSpec} {forms : List Tree} {s u v : State} {ts ys : List Tree} {es fs : List KeywordExpression}
-        → BindsKeywords rs place level recursive bs forms s ts u es → BindsKeywords rs place level recursive bs forms s ys v fs → Same ts ys u v es fs
+        → BindsKeywords rs (placed place level) (let_syntax_parts recursive bs forms) ts (between s u es) → BindsKeywords rs (placed place level) (let_syntax_parts recursive bs forms) ys (between s v fs) → Same ts ys u v es fs
     one-keywords (binds_keywords {v = v} {xs = xs} e a) (binds_keywords {v = v'} {xs = xs'} e' a') =
         let p = ok-same (xs, v) (xs', v') (sym e ∙ e') in
         (refl, one-mean a (keywords-from (λ i. (p i).0) (λ i. (p i).1) a'))
 
-    one-taken : {at : BodyAt} {depth depth' : ℕ} {done done' end end' : Taken} {t : Tree} {s u v : State} {es fs : List KeywordExpression} → TakesForm rs at depth done t s end u es → TakesForm rs at depth' done' t s end' v fs → shallow done ≡ shallow done' → Same (shallow end) (shallow end') u v es fs
+    one-taken : {at : BodyAt} {depth depth' : ℕ} {done done' end end' : Taken} {t : Tree} {s u v : State} {es fs : List KeywordExpression} → TakesForm rs at depth t (taking done s end u es) → TakesForm rs at depth' t (taking done' s end' v fs) → shallow done ≡ shallow done' → Same (shallow end) (shallow end') u v es fs
     one-taken (takes {at = at} {depth = depth} {done = done} {after = after} {t = t} {d = d} {s = s} {v = v} e a) (takes {depth = depth'} {done = done'} {after = after'} {d = d'} {v = v'} e' a') same =
         let p = items-same at depth depth' done done' after after' t d d' s v v' e e' same in
         one-act a (item-from (d, v) (d', v') (λ i. ((p i).0.1, (p i).1)) a') (λ i. (p i).0.0)
 
-    one-act : {at : BodyAt} {depth depth' : ℕ} {done done' end end' : Taken} {t : Tree} {z : Item} {s u v : State} {es fs : List KeywordExpression} → Acts rs at depth done t z s end u es → Acts rs at depth' done' t z s end' v fs → shallow done ≡ shallow done' → Same (shallow end) (shallow end') u v es fs
+    one-act : {at : BodyAt} {depth depth' : ℕ} {done done' end end' : Taken} {t : Tree} {z : Item} {s u v : State} {es fs : List KeywordExpression} → Acts rs at depth t z (taking done s end u es) → Acts rs at depth' t z (taking done' s end' v fs) → shallow done ≡ shallow done' → Same (shallow end) (shallow end') u v es fs
     one-act is_taken is_taken same = (same, (refl, refl))
     one-act (takes_forms a) (takes_forms a') same = one-take a a' same
     one-act (defines_keyword {at = at} {done = done} {t = t} {b = b} {x = x} {s = s} {v = v} e a) (defines_keyword {done = done'} {x = x'} {v = v'} e' a') same =
@@ -390,14 +392,14 @@ module _ (rs : List CompiledLibrary) where
         let y = one-take b (take-from x.0 x.1.0 b') same in
         (y.0, (y.1.0, λ i. x.1.1 i ++ y.1.1 i))
 
-    one-take : {at : BodyAt} {depth depth' : ℕ} {done done' end end' : Taken} {ts : List Tree} {s u v : State} {es fs : List KeywordExpression} → Take rs at depth done ts s end u es → Take rs at depth' done' ts s end' v fs → shallow done ≡ shallow done' → Same (shallow end) (shallow end') u v es fs
+    one-take : {at : BodyAt} {depth depth' : ℕ} {done done' end end' : Taken} {ts : List Tree} {s u v : State} {es fs : List KeywordExpression} → Take rs at depth ts (taking done s end u es) → Take rs at depth' ts (taking done' s end' v fs) → shallow done ≡ shallow done' → Same (shallow end) (shallow end') u v es fs
     one-take none_taken none_taken same = (same, (refl, refl))
     one-take (more_taken a b) (more_taken a' b') same =
         let x = one-taken a a' same in
         let y = one-take b (take-from refl x.1.0 b') x.0 in
         (y.0, (y.1.0, λ i. x.1.1 i ++ y.1.1 i))
 
-    one-body : {place : Span} {level : ℕ} {t : Tree} {forms : List Tree} {s u v : State} {c d : PlainCore} {x y : Noted} → IsBody rs place level t forms s c u x → IsBody rs place level t forms s d v y → Same c d u v x y
+    one-body : {place : Span} {level : ℕ} {t : Tree} {forms : List Tree} {s u v : State} {c d : PlainCore} {x y : Noted} → IsBody rs (placed place level) t forms c (between s u x) → IsBody rs (placed place level) t forms d (between s v y) → Same c d u v x y
     one-body (is_body {s = s} {d = d} depth a b) (is_body {d = d'} depth' a' b') =
         let x = one-take a a' refl in
         let y = one-lines b (lines-from x.1.0 b') (same-waits d.waiting d'.waiting (λ i. (x.0 i).waiting)) in
@@ -412,7 +414,7 @@ module _ (rs : List CompiledLibrary) where
         let y = one-lines b (lines-from x.1 b') same.1.1 in
         (λ i. x.0 i ∷ y.0 i, y.1)
 
-    one-line : {level : ℕ} {place : Span} {w : Waits} {s u v : State} {x y : NotedLine} → Ends rs level place w s x u → Ends rs level place w s y v → (x ≡ y) × (u ≡ v)
+    one-line : {level : ℕ} {place : Span} {w : Waits} {s u v : State} {x y : NotedLine} → Ends rs (placed place level) w s x u → Ends rs (placed place level) w s y v → (x ≡ y) × (u ≡ v)
     one-line declares declares = (refl, refl)
     one-line (defines {l = l} a) (defines a') = let x = one-form a a' in (λ i. record { line = line.Define l (x.0 i); noted = x.1.1 i }, x.1.0)
     one-line (defines_procedure {s = s} {l = l} a) (defines_procedure a') = let x = one-case a a' in (λ i. record { line = line.Define l (procedure (record { 0 = s.names }) (cases (x.0 i ∷ [])) true); noted = x.1.1 i }, x.1.0)

@@ -41,6 +41,7 @@ use Rattle.law_fresh_expansion.specs.Known.{IsNewAmong}
 use Rattle.law_fresh_expansion.specs.States.{FreshStateHolds}
 use Rattle.law_fresh_expansion.proofs.Changing.{stamp-holds}
 use Rattle.law_fresh_expansion.proofs.Standing as standing
+use Rattle.law_references.specs.Changes.{between, placed}
 use Rattle.law_references.specs.Expands.{counted, QuasiCodes, quotes, has_no_insert, has_inserts}
 use Rattle.law_references.specs.Namings.{template_namings, namings, all_namings}
 use Rattle.law_references.specs.Noted.{Reference, of_references, named}
@@ -102,7 +103,7 @@ module _ (libs : List LibName) (own : LibName) (core : Among libs library.Core) 
   Q n c = HasKnownEvents libs own n c
 
   -- the pattern variables of a template are taken
-  pub template-kept : (s u : State) (place : Span) (level : ℕ) (t : Tree) (x : PlainTemplate) (refs : List Reference) → TreeHolds (Q s.names.number) t → s.names.number ≤ u.names.number → u.frames ≡ s.frames → IsTemplateOf s place level t x refs → Each (Kept libs own core new u) refs
+  pub template-kept : (s u : State) (place : Span) (level : ℕ) (t : Tree) (x : PlainTemplate) (refs : List Reference) → TreeHolds (Q s.names.number) t → s.names.number ≤ u.names.number → u.frames ≡ s.frames → IsTemplateOf s (placed place level) t x refs → Each (Kept libs own core new u) refs
   template-kept s u place level t x refs g up same h = all refs h.variables (some-known Known refs (leaves t) h.places (leaves-known (Q s.names.number) t g))
     where
       Known : Tree → Type 0
@@ -125,7 +126,7 @@ module _ (libs : List LibName) (own : LibName) (core : Among libs library.Core) 
   -- what the code of a quasi form is, and the pattern variables in it
   pub record Coded (place : Span) (level : ℕ) (t : Tree) (q : QuasiForm) (cs : List PlainCore) (s : State) (c : PlainCore) (u : State) : Type 0 where
     pub references : List Reference
-    pub is : QuasiCodes place level t q cs s c u (of_references references)
+    pub is : QuasiCodes (placed place level) t q cs c (between s u (of_references references))
     pub all : namings c ≡ all_namings (cores cs) ++ named references
     pub kept : Each (Kept libs own core new u) references
 

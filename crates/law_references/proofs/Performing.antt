@@ -74,6 +74,7 @@ use Rattle.law_fresh_expansion.proofs.Plans as plan
 use Rattle.law_fresh_expansion.proofs.PlannedForm as settled
 use Rattle.law_fresh_expansion.proofs.Shapes.{FormalsHold, LambdaHolds, PatternCaseHolds, ShapeHolds, shape-holds}
 use Rattle.law_fresh_expansion.proofs.Standing as standing
+use Rattle.law_references.specs.Changes.{between, placed, taking}
 use Rattle.law_references.specs.Expands.{counted, Expands, settles, Performs, refers, is_done, is_template, QuasiCodes, calls, tests, chooses, assigns, follows, makes, makes_cases, matches_one, has_keywords, fills, Expand, none, more, CaseBinds, ExpandedBind, Match}
 use Rattle.law_references.specs.Expands.{KeywordMeans, BindsKeywords, TakesForm, takes, Acts, is_taken, takes_forms, defines_keyword, takes_among, Take}
 use Rattle.law_references.specs.Namings.{Naming, names_variable, namings, all_namings, case_namings, clause_namings}
@@ -194,7 +195,7 @@ module _ (libs : List LibName) (own : LibName) (core : Among libs library.Core) 
             gave-after (Goes (FormMade place level operator s) s) (PlanMade place level t (plans.Call operator operands) s) (go.form (site_at place level depth) operator s) _ (form-went place level depth operator s h k)
             (λ c v w. gave-after (Goes (walking.FormsMade libs own core new rs place level operands v) v) (PlanMade place level t (plans.Call operator operands) s) (in_order go (site_at place level depth) operands v) (λ cs. give (call c (cores cs)))
             (order-went place level depth operands v (goes s v h w.0) (standing.trees-up own K J P lives first s.names.number v.names.number w.0.from.stage.up operands g))
-            (λ cs u z. staying.made-joined libs own core new (λ refs. Expands rs place level operator s c v refs) (λ refs. Expand rs place level operands v cs u refs) (λ refs. Performs rs place level t (plans.Call operator operands) s (call c (cores cs)) u refs)
+            (λ cs u z. staying.made-joined libs own core new (λ refs. Expands rs (placed place level) operator c (between s v refs)) (λ refs. Expand rs (placed place level) operands cs (between v u refs)) (λ refs. Performs rs (placed place level) t (plans.Call operator operands) (call c (cores cs)) (between s u refs))
             (namings c) (all_namings (cores cs)) s v u z.0.later w.1 z.1 (λ refs others i j. calls i j)))
 
         conditional-made : (test consequent : Tree) (o : Option Tree) (s : State) → F s → T s.names.number test → T s.names.number consequent → OptionHolds (T s.names.number) o
@@ -209,7 +210,7 @@ module _ (libs : List LibName) (own : LibName) (core : Among libs library.Core) 
             by : (o : Option Tree) → OptionHolds (T s.names.number) o → (c : PlainCore) (v : State) → Goes (FormMade place level test s) s c v → (d : PlainCore) (y : State) → Goes (FormMade place level consequent v) v d y
                 → Gave (PlanMade place level t (plans.Conditional test consequent o) s) (alternate go (site_at place level depth) c d o y)
             by None q c v w d y z =
-                staying.made-joined libs own core new (λ refs. Expands rs place level test s c v refs) (λ refs. Expands rs place level consequent v d y refs) (λ refs. Performs rs place level t (plans.Conditional test consequent None) s (one_armed c d) y refs)
+                staying.made-joined libs own core new (λ refs. Expands rs (placed place level) test c (between s v refs)) (λ refs. Expands rs (placed place level) consequent d (between v y refs)) (λ refs. Performs rs (placed place level) t (plans.Conditional test consequent None) (one_armed c d) (between s y refs))
                 (namings c) (namings d) s v y z.0.later w.1 z.1 (λ refs others i j. tests i j)
             by (Some other) q c v w d y z =
                 let up = w.0.from.stage.up in
@@ -217,10 +218,10 @@ module _ (libs : List LibName) (own : LibName) (core : Among libs library.Core) 
                 gave-after (Goes (FormMade place level other y) y) (PlanMade place level t (plans.Conditional test consequent (Some other)) s) (go.form (site_at place level depth) other y) (λ e. give (two_armed c d e))
                 (form-went place level depth other y (goes v y (goes s v h w.0) z.0) (tree-up s.names.number y.names.number (omega (arith, up, up-more)) other q))
                 (λ e u x.
-                let Two : Noted → Type 0 = λ refs. (early : Noted) × ((late : Noted) × ((refs ≡ both early late) × (Expands rs place level consequent v d y early × Expands rs place level other y e u late))) in
-                let All : Noted → Type 0 = λ refs. Performs rs place level t (plans.Conditional test consequent (Some other)) s (two_armed c d e) u refs in
-                staying.made-joined libs own core new (λ refs. Expands rs place level test s c v refs) Two All (namings c) (namings d ++ namings e) s v u (staying.went-then libs own core new first v y u z.0 x.0).later w.1
-                (staying.made-joined libs own core new (λ refs. Expands rs place level consequent v d y refs) (λ refs. Expands rs place level other y e u refs) Two (namings d) (namings e) v y u x.0.later z.1 x.1 (λ refs others i j. (refs, (others, (refl, (i, j))))))
+                let Two : Noted → Type 0 = λ refs. (early : Noted) × ((late : Noted) × ((refs ≡ both early late) × (Expands rs (placed place level) consequent d (between v y early) × Expands rs (placed place level) other e (between y u late)))) in
+                let All : Noted → Type 0 = λ refs. Performs rs (placed place level) t (plans.Conditional test consequent (Some other)) (two_armed c d e) (between s u refs) in
+                staying.made-joined libs own core new (λ refs. Expands rs (placed place level) test c (between s v refs)) Two All (namings c) (namings d ++ namings e) s v u (staying.went-then libs own core new first v y u z.0 x.0).later w.1
+                (staying.made-joined libs own core new (λ refs. Expands rs (placed place level) consequent d (between v y refs)) (λ refs. Expands rs (placed place level) other e (between y u refs)) Two (namings d) (namings e) v y u x.0.later z.1 x.1 (λ refs others i j. (refs, (others, (refl, (i, j))))))
                 (λ refs others i j. subst (λ (ls : Noted). All (both refs ls)) (sym j.1.1.0) (chooses i j.1.1.1.0 j.1.1.1.1)))
 
         set-made : (l : Label) (value : Tree) (s : State) → F s → T s.names.number t → T s.names.number value → IsTarget place t l value s → Gave (PlanMade place level t (plans.Assignment l value) s) (set go (site_at place level depth) l value s)
@@ -239,34 +240,34 @@ module _ (libs : List LibName) (own : LibName) (core : Among libs library.Core) 
             })
 
         abbrev SequenceMade : List Tree → State → PlainCore → State → Type 0
-        SequenceMade ts s c u = (cs : List PlainCore) × ((c ≡ sequence_of cs) × Made (λ refs. Expand rs place level ts s cs u refs) (namings c) s u)
+        SequenceMade ts s c u = (cs : List PlainCore) × ((c ≡ sequence_of cs) × Made (λ refs. Expand rs (placed place level) ts cs (between s u refs)) (namings c) s u)
 
         sequence-made : (ts : List Tree) (s : State) → F s → Ts s.names.number ts → Gave (SequenceMade ts s) (in_sequence go (site_at place level depth) ts s)
         unfolding in_sequence
         sequence-made ts s h k =
             gave-after (Goes (walking.FormsMade libs own core new rs place level ts s) s) (SequenceMade ts s) (in_order go (site_at place level depth) ts s) (λ cs. give (sequence_of cs)) (order-went place level depth ts s h k)
-            (λ cs u z. (cs, (refl, staying.made-so libs own core new (λ refs. Expand rs place level ts s cs u refs) (λ refs. Expand rs place level ts s cs u refs) (all_namings (cores cs)) (namings (sequence_of cs)) s u z.1 (λ refs i. i) (sequence-said cs))))
+            (λ cs u z. (cs, (refl, staying.made-so libs own core new (λ refs. Expand rs (placed place level) ts cs (between s u refs)) (λ refs. Expand rs (placed place level) ts cs (between s u refs)) (all_namings (cores cs)) (namings (sequence_of cs)) s u z.1 (λ refs i. i) (sequence-said cs))))
 
         in-sequence-made : (ts : List Tree) (s : State) → F s → Ts s.names.number ts → Gave (PlanMade place level t (plans.Sequence ts) s) (in_sequence go (site_at place level depth) ts s)
         in-sequence-made ts s h k =
             gave-less (SequenceMade ts s) (PlanMade place level t (plans.Sequence ts) s) (in_sequence go (site_at place level depth) ts s) (sequence-made ts s h k)
             (λ c u z. subst (λ (x : PlainCore). PlanMade place level t (plans.Sequence ts) s x u) (sym z.1.0)
-            (staying.made-so libs own core new (λ refs. Expand rs place level ts s z.0 u refs) (λ refs. Performs rs place level t (plans.Sequence ts) s (sequence_of z.0) u refs) (namings c) (namings (sequence_of z.0)) s u z.1.1 (λ refs i. follows i) (ap namings (sym z.1.0))))
+            (staying.made-so libs own core new (λ refs. Expand rs (placed place level) ts z.0 (between s u refs)) (λ refs. Performs rs (placed place level) t (plans.Sequence ts) (sequence_of z.0) (between s u refs)) (namings c) (namings (sequence_of z.0)) s u z.1.1 (λ refs i. follows i) (ap namings (sym z.1.0))))
 
         lambda-made : (ids : FormalIds) (fs : List Tree) (s : State) → F s → FormalsHold (P s.names.number) ids → Ts s.names.number fs → Gave (PlanMade place level t (plans.Lambda ids fs) s) (lambda go (site_at place level depth) (procedure_parts t ids fs) s)
         unfolding lambda fresh
         lambda-made ids fs s h k g =
             gave-after (walking.CaseMade libs own core new rs place level t ids fs (counted s)) (PlanMade place level t (plans.Lambda ids fs) s) (lambda_case go (site_at place level depth) (procedure_parts t ids fs) (counted s)) _
             (walking.case-made libs own core new rs first held room traced place level depth t ids fs (counted s) (counted-at s h) (items.formals-up own K J P lives first s.names.number (s.names.number + 1) (one-more s) ids k) (standing.trees-up own K J P lives first s.names.number (s.names.number + 1) (one-more s) fs g))
-            (λ c u z. staying.made-from libs own core new (λ refs. CaseBinds rs place level t ids fs (counted s) c u refs) (λ refs. Performs rs place level t (plans.Lambda ids fs) s (procedure (record { 0 = s.names }) (cases (c ∷ [])) true) u refs) (namings c.body) (namings c.body ++ []) s (counted s) u (told-self s) z (λ refs i. makes i) (append-nil (namings c.body)))
+            (λ c u z. staying.made-from libs own core new (λ refs. CaseBinds rs (placed place level) (procedure_parts t ids fs) c (between (counted s) u refs)) (λ refs. Performs rs (placed place level) t (plans.Lambda ids fs) (procedure (record { 0 = s.names }) (cases (c ∷ [])) true) (between s u refs)) (namings c.body) (namings c.body ++ []) s (counted s) u (told-self s) z (λ refs i. makes i) (append-nil (namings c.body)))
 
         case-lambda-made : (xs : List LambdaCase) (s : State) → F s → Each (LambdaHolds (P s.names.number)) xs → Gave (PlanMade place level t (plans.CaseLambda xs) s) (case_lambda go (site_at place level depth) t xs s)
         unfolding case_lambda fresh
         case-lambda-made xs s h k =
-            gave-after (λ cs u. Went (counted s) u × Made (ExpandedBind rs place level t xs (counted s) cs u) (case_namings (cases cs)) (counted s) u) (PlanMade place level t (plans.CaseLambda xs) s) (all_cases go (site_at place level depth) t xs (counted s)) _
+            gave-after (λ cs u. Went (counted s) u × Made (λ refs. ExpandedBind rs (placed place level) t xs cs (between (counted s) u refs)) (case_namings (cases cs)) (counted s) u) (PlanMade place level t (plans.CaseLambda xs) s) (all_cases go (site_at place level depth) t xs (counted s)) _
             (walking.cases-went libs own core new rs first held room traced place level depth t xs (counted s) (counted-at s h)
             (each-implied (LambdaHolds (P s.names.number)) (LambdaHolds (P (s.names.number + 1))) (walking.lambda-case-up libs own core new rs first held room traced s.names.number (s.names.number + 1) (one-more s)) xs k))
-            (λ cs u z. staying.made-from libs own core new (λ refs. ExpandedBind rs place level t xs (counted s) cs u refs) (λ refs. Performs rs place level t (plans.CaseLambda xs) s (procedure (record { 0 = s.names }) (cases cs) false) u refs) (case_namings (cases cs)) (case_namings (cases cs)) s (counted s) u (told-self s) z.1 (λ refs i. makes_cases i) refl)
+            (λ cs u z. staying.made-from libs own core new (λ refs. ExpandedBind rs (placed place level) t xs cs (between (counted s) u refs)) (λ refs. Performs rs (placed place level) t (plans.CaseLambda xs) (procedure (record { 0 = s.names }) (cases cs) false) (between s u refs)) (case_namings (cases cs)) (case_namings (cases cs)) s (counted s) u (told-self s) z.1 (λ refs i. makes_cases i) refl)
 
         matching-made : (subject : Tree) (literals : List Tree) (xs : List PatternCase) (span : Span) (s : State) → F s → T s.names.number subject → Each (PatternCaseHolds (P s.names.number)) xs
             → Gave (PlanMade place level t (plans.Matching subject literals xs span) s) (syntax_case go (site_at place level depth) (syntax_case_parts subject literals xs span) s)
@@ -281,12 +282,12 @@ module _ (libs : List LibName) (own : LibName) (core : Among libs library.Core) 
             (staying.gave-from libs own core new first (λ n e. Unit {0}) v (check_literals place literals v) (standing.literals-hold own K J P lives first literals place v hv)))
             (λ e y q.
             let up-more = q.1.0.0.stage.up in
-            gave-after (λ cs u. Went y u × Made (Match rs place level literals xs y cs u) (clause_namings (clauses cs)) y u) (PlanMade place level t (plans.Matching subject literals xs span) s) (all_clauses go (site_at place level depth) literals xs y) (λ cs. give (matching c (clauses cs) span))
+            gave-after (λ cs u. Went y u × Made (λ refs. Match rs (placed place level) literals xs cs (between y u refs)) (clause_namings (clauses cs)) y u) (PlanMade place level t (plans.Matching subject literals xs span) s) (all_clauses go (site_at place level depth) literals xs y) (λ cs. give (matching c (clauses cs) span))
             (walking.clauses-went libs own core new rs first held room traced place level depth literals xs y (from-to v y hv q.1.0.0)
             (each-implied (PatternCaseHolds (P s.names.number)) (PatternCaseHolds (P y.names.number)) (forms.pattern-case-up own K J P lives first go (walking.keeps libs own core new rs first held room) s.names.number y.names.number (omega (arith, up, up-more))) xs g))
             (λ cs u z.
-            let Rest : Noted → Type 0 = λ refs. Match rs place level literals xs y cs u refs in
-            staying.made-joined libs own core new (λ refs. Expands rs place level subject s c v refs) Rest (λ refs. Performs rs place level t (plans.Matching subject literals xs span) s (matching c (clauses cs) span) u refs)
+            let Rest : Noted → Type 0 = λ refs. Match rs (placed place level) literals xs cs (between y u refs) in
+            staying.made-joined libs own core new (λ refs. Expands rs (placed place level) subject c (between s v refs)) Rest (λ refs. Performs rs (placed place level) t (plans.Matching subject literals xs span) (matching c (clauses cs) span) (between s u refs))
             (namings c) (clause_namings (clauses cs)) s v u (later-then own v y u q.0 z.0.later) w.1
             (staying.made-from libs own core new Rest Rest (clause_namings (clauses cs)) (clause_namings (clauses cs)) v y u (same-told v y (told (Same v) (check_literals place literals v) e y (literals-same literals place v) q.1.1)) z.1 (λ refs i. i) refl)
             (λ refs others i j. matches_one i q.1.1 j))))
@@ -296,13 +297,13 @@ module _ (libs : List LibName) (own : LibName) (core : Among libs library.Core) 
         unfolding keywords_form
         keywords-made recursive bs fs s h k g =
             let bound = with_keywords go (site_at place level depth) (let_syntax_parts recursive bs fs) s in
-            let Keywords : List Tree → State → Type 0 = λ xs v. staying.Bound libs own core new (λ es. BindsKeywords rs place level recursive bs fs s xs v es) s v in
+            let Keywords : List Tree → State → Type 0 = λ xs v. staying.Bound libs own core new (λ es. BindsKeywords rs (placed place level) (let_syntax_parts recursive bs fs) xs (between s v es)) s v in
             gave-after (λ xs v. (FreshStateHolds own K P s.names.number v × Ts v.names.number xs) × Keywords xs v) (PlanMade place level t (plans.Keywords recursive bs fs) s) bound (in_sequence go (site_at place level depth))
             (staying.gave-and libs own core new first Ts Keywords s bound (forms.with-keywords-holds own K J P lives first go (walking.keeps libs own core new rs first held room) place level depth recursive bs fs s h k g)
             (walking.keywords-made libs own core new rs first held room traced place level depth recursive bs fs s h k))
             (λ xs v z. gave-less (SequenceMade xs v) (PlanMade place level t (plans.Keywords recursive bs fs) s) (in_sequence go (site_at place level depth) xs v) (sequence-made xs v (from-to s v h z.0.0) z.0.1)
             (λ c u y. subst (λ (x : PlainCore). PlanMade place level t (plans.Keywords recursive bs fs) s x u) (sym y.1.0)
-            (staying.bound-made libs own core new (λ es. BindsKeywords rs place level recursive bs fs s xs v es) (λ refs. Expand rs place level xs v y.0 u refs) (λ refs. Performs rs place level t (plans.Keywords recursive bs fs) s (sequence_of y.0) u refs) (namings c) (namings (sequence_of y.0)) s v u z.1 y.1.1
+            (staying.bound-made libs own core new (λ es. BindsKeywords rs (placed place level) (let_syntax_parts recursive bs fs) xs (between s v es)) (λ refs. Expand rs (placed place level) xs y.0 (between v u refs)) (λ refs. Performs rs (placed place level) t (plans.Keywords recursive bs fs) (sequence_of y.0) (between s u refs)) (namings c) (namings (sequence_of y.0)) s v u z.1 y.1.1
             (λ es refs i j. has_keywords i j) (ap namings (sym y.1.0)))))
 
         -- Quasi forms.
@@ -312,7 +313,7 @@ module _ (libs : List LibName) (own : LibName) (core : Among libs library.Core) 
         form-up m n le (quasi_forms.Syntax q) h = tree-up m n le q.template h.0
 
         abbrev PartMade : PartForm → State → PlainCore → State → Noted → Type 0
-        PartMade p s c u refs = Expands rs place level p.form s c u refs
+        PartMade p s c u refs = Expands rs (placed place level) p.form c (between s u refs)
 
         form-low : (room : ℕ) (d : ℕ) (x : Tree) (s : State) → Gave (λ c u. nat_lt most_round d ≡ false) ((inside rs room).form (site_at place level d) x s)
         unfolding inside form_at
@@ -341,9 +342,9 @@ module _ (libs : List LibName) (own : LibName) (core : Among libs library.Core) 
             (λ q v z.
             let hv = from-to s v h z.0.0 in
             let ps = parts_of t depth q in
-            gave-after (λ cs w. (Went v w × Made (λ refs. Expand rs place level (forms_of ps) v cs w refs) (all_namings (cores cs)) v w) × AreLow ps cs w) So (parts_in_order go place level ps v) (code_of place level t q)
-            (gave-both (λ cs w. Went v w × Made (λ refs. Expand rs place level (forms_of ps) v cs w refs) (all_namings (cores cs)) v w) (AreLow ps) (parts_in_order go place level ps v)
-            (walking.each-went libs own core new rs first held room traced (part_core go place level) (λ n p. T n p.form) (λ m n le p x. tree-up m n le p.form x) PartMade (λ ps s cs u refs. Expand rs place level (forms_of ps) s cs u refs) namings (λ cs. all_namings (cores cs))
+            gave-after (λ cs w. (Went v w × Made (λ refs. Expand rs (placed place level) (forms_of ps) cs (between v w refs)) (all_namings (cores cs)) v w) × AreLow ps cs w) So (parts_in_order go place level ps v) (code_of place level t q)
+            (gave-both (λ cs w. Went v w × Made (λ refs. Expand rs (placed place level) (forms_of ps) cs (between v w refs)) (all_namings (cores cs)) v w) (AreLow ps) (parts_in_order go place level ps v)
+            (walking.each-went libs own core new rs first held room traced (part_core go place level) (λ n p. T n p.form) (λ m n le p x. tree-up m n le p.form x) PartMade (λ ps s cs u refs. Expand rs (placed place level) (forms_of ps) cs (between s u refs)) namings (λ cs. all_namings (cores cs))
             (λ s. none) (λ p ps s v u c cs refs others i j. more i j) refl (λ c cs. refl) (λ p s h k. form-went place level p.depth p.form s h k) ps v hv
             (inserts.parts-of-hold own K J P lives first v.names.number t depth q (tree-up s.names.number v.names.number z.0.0.stage.up t k) z.0.1))
             (parts-low ps v))
@@ -354,19 +355,19 @@ module _ (libs : List LibName) (own : LibName) (core : Among libs library.Core) 
             (gave-both (Coded libs own core new place level t q cs w) (Untold w) code
             (code-coded libs own core new place level t first depth q cs w (goes v w hv y.0.0) (form-up v.names.number w.names.number y.0.0.from.stage.up q z.0.1) y.1.0 y.1.1) (code-told place level t q cs w)))
             (λ c u x.
-            let Filled : Noted → Type 0 = λ refs. Expand rs place level (forms_of ps) v cs w refs in
-            let Coding : Noted → Type 0 = λ refs. QuasiCodes place level t q cs w c u refs in
-            let All : Noted → Type 0 = λ refs. Performs rs place level t (plans.Quasi which template) s c u refs in
+            let Filled : Noted → Type 0 = λ refs. Expand rs (placed place level) (forms_of ps) cs (between v w refs) in
+            let Coding : Noted → Type 0 = λ refs. QuasiCodes (placed place level) t q cs c (between w u refs) in
+            let All : Noted → Type 0 = λ refs. Performs rs (placed place level) t (plans.Quasi which template) c (between s u refs) in
             let refs = x.1.0.references in
             let m = all_namings (cores cs) ++ named refs in
             let formed = same-told s v (ap (λ (y : State). y.keywords) (told (λ q v. v ≡ s) made q v (form-same place t which template s) z.1)) in
             let coded : Made Coding (named refs) w u = record { noted = of_references refs; is = x.1.0.is; all = refl; kept = x.1.0.kept; expressions = tt; told = λ l d e. inl (x.1.1 l d e) } in
             staying.made-from libs own core new All All m (namings c) s v u formed
-            (staying.made-joined libs own core new Filled Coding All (all_namings (cores cs)) (named refs) v w u x.0 y.0.1 coded (λ others behind i j. fills z.1 (subst (λ (ts : List Tree). Expand rs place level ts v cs w others) (parts-are t depth q y.1.0) i) j)) (λ refs i. i) x.1.0.all)))
+            (staying.made-joined libs own core new Filled Coding All (all_namings (cores cs)) (named refs) v w u x.0 y.0.1 coded (λ others behind i j. fills z.1 (subst (λ (ts : List Tree). Expand rs (placed place level) ts cs (between v w others)) (parts-are t depth q y.1.0) i) j)) (λ refs i. i) x.1.0.all)))
 
       -- the template of a `syntax` form
       syntax-made : (place : Span) (level : ℕ) (t operand : Tree) (x : PlainTemplate) (refs : List Reference) (s : State) → T s.names.number t → shape core_forms.Syntax t place ≡ Ok (shapes.Operand operand)
-          → template_of place level operand s ≡ Ok (x, s) → IsTemplateOf s place level operand x refs → PlanMade place level t (plans.Done (instance x (place_of t place))) s (instance x (place_of t place)) s
+          → template_of place level operand s ≡ Ok (x, s) → IsTemplateOf s (placed place level) operand x refs → PlanMade place level t (plans.Done (instance x (place_of t place))) s (instance x (place_of t place)) s
       syntax-made place level t operand x refs s g shaped made is = record {
         noted = of_references refs;
         is = is_template shaped made is;
@@ -388,7 +389,7 @@ module _ (libs : List LibName) (own : LibName) (core : Among libs library.Core) 
       }
       perform-made place level depth t (plans.Done c) s h g k (inr (inr q)) =
           subst (λ (d : PlainCore). PlanMade place level t (plans.Done d) s d s) (sym q.code) (syntax-made place level t q.operand q.template q.references s g q.shaped q.made q.is)
-      perform-made place level depth t (plans.Done c) s h g k (inr (inl q)) = staying.made-none libs own core new (λ refs. Performs rs place level t (plans.Done c) s c s refs) (namings c) s s (is_done q.0 q.1) q.1 (told-self s)
+      perform-made place level depth t (plans.Done c) s h g k (inr (inl q)) = staying.made-none libs own core new (λ refs. Performs rs (placed place level) t (plans.Done c) c (between s s refs)) (namings c) s s (is_done q.0 q.1) q.1 (told-self s)
       perform-made place level depth t (plans.Call operator operands) s h g k q = application-made place level (deeper depth) t operator operands s h k.0 k.1
       perform-made place level depth t (plans.Conditional test consequent other) s h g k q = conditional-made place level (deeper depth) t test consequent other s h k.0 k.1.0 k.1.1
       perform-made place level depth t (plans.Assignment l value) s h g k q = set-made place level (deeper depth) t l value s h g k q
@@ -411,7 +412,7 @@ module _ (libs : List LibName) (own : LibName) (core : Among libs library.Core) 
           (gave-after (SettledSo place level t s) (FormMade place level t s) (expand_uses rs place level t s) (perform_settled go level depth)
           (gave-both (λ d v. (FreshStateHolds own K P s.names.number v × settled.SettledAt own K J P lives first rs held v.names.number d) × (expand_uses rs place level t s ≡ Ok (d, v))) (Settles rs level) (expand_uses rs place level t s) (staying.gave-from libs own core new first (settled.SettledAt own K J P lives first rs held) s (expand_uses rs place level t s) (settled.expand_uses-to-holds own K J P lives first rs held s.uses_left place level t s h g)) (expand_uses-so rs level place t s))
           (λ d v z. gave-less (PlanMade d.place level d.form d.plan v) (FormMade place level t s) (perform go (site_at d.place level depth) d.form d.plan v) (perform-made d.place level depth d.form d.plan v (from-to s v h z.0.0.0) z.0.0.1.0 z.0.0.1.1 z.1)
-          (λ c u y. staying.made-from libs own core new (λ refs. Performs rs d.place level d.form d.plan v c u refs) (λ refs. Expands rs place level t s c u refs) (namings c) (namings c) s v u (told (Untold s) (expand_uses rs place level t s) d v (expand_uses-told rs level place t s) z.0.1) y (λ refs i. settles z.0.1 i) refl))))
+          (λ c u y. staying.made-from libs own core new (λ refs. Performs rs (placed d.place level) d.form d.plan c (between v u refs)) (λ refs. Expands rs (placed place level) t c (between s u refs)) (namings c) (namings c) s v u (told (Untold s) (expand_uses rs place level t s) d v (expand_uses-told rs level place t s) z.0.1) y (λ refs i. settles z.0.1 i) refl))))
 
       -- Forms of a body.
 
@@ -419,7 +420,7 @@ module _ (libs : List LibName) (own : LibName) (core : Among libs library.Core) 
       TakenAt n d = items.TakenAt own K J P lives first n d
 
       abbrev ActsMade : BodyAt → ℕ → Taken → Tree → Item → State → Taken → State → Type 0
-      ActsMade at depth d t i s e u = staying.Bound libs own core new (λ es. Acts rs at depth d t i s e u es) s u
+      ActsMade at depth d t i s e u = staying.Bound libs own core new (λ es. Acts rs at depth t i (taking d s e u es)) s u
 
       keyword-item-made : (at : BodyAt) (depth : ℕ) (d : Taken) (t : Tree) (b : BindingSpec) (s : State) → F s → standing.SpecAt own K J P lives first s.names.number b
           → Gave (ActsMade at depth d t (of_items.Keyword b) s) (after (define_syntax go at (deeper depth) d (definition_parts t b) s) (λ _. give d))
@@ -431,29 +432,29 @@ module _ (libs : List LibName) (own : LibName) (core : Among libs library.Core) 
           (gave-after (λ x v. ((FreshStateHolds own K P s.names.number v × standing.BoundHolds own K J P lives first v.names.number x) × (made ≡ Ok (x, v))) × Untold s x v) (λ x u. ActsMade at depth d t (of_items.Keyword b) s d u) made (expand_transformer go (site_at at.place at.level (deeper depth)))
           (gave-both (λ x v. (FreshStateHolds own K P s.names.number v × standing.BoundHolds own K J P lives first v.names.number x) × (made ≡ Ok (x, v))) (Untold s) made
           (staying.gave-from libs own core new first (standing.BoundHolds own K J P lives first) s made (items.define-keyword-holds own K J P lives first at (deeper depth) d t b s h k)) (define-keyword-told at (deeper depth) d t b s))
-          (λ x v z. gave-less (λ y u. staying.Bound libs own core new (λ es. KeywordMeans rs at.place at.level x v u es) v u) (λ y u. ActsMade at depth d t (of_items.Keyword b) s d u) (expand_transformer go (site_at at.place at.level (deeper depth)) x v)
+          (λ x v z. gave-less (λ y u. staying.Bound libs own core new (λ es. KeywordMeans rs (placed at.place at.level) x (between v u es)) v u) (λ y u. ActsMade at depth d t (of_items.Keyword b) s d u) (expand_transformer go (site_at at.place at.level (deeper depth)) x v)
           (walking.means-made libs own core new rs first held room traced at.place at.level (deeper depth) x v (from-to s v h z.0.0.0) z.0.0.1)
-          (λ y u x. staying.bound-from libs own core new (λ es. KeywordMeans rs at.place at.level _ v u es) (λ es. Acts rs at depth d t (of_items.Keyword b) s d u es) s v u z.1 x (λ es i. defines_keyword z.0.1 i))))
+          (λ y u x. staying.bound-from libs own core new (λ es. KeywordMeans rs (placed at.place at.level) _ (between v u es)) (λ es. Acts rs at depth t (of_items.Keyword b) (taking d s d u es)) s v u z.1 x (λ es i. defines_keyword z.0.1 i))))
           (λ x u y. y)
 
       acts-made : (at : BodyAt) (depth : ℕ) (d : Taken) (t : Tree) (i : Item) (s : State) → F s → TakenAt s.names.number d → T s.names.number t → items.ItemAt own K J P lives first s.names.number i → J s.names.number at.frame
           → Gave (ActsMade at depth d t i s) (perform_item go at depth d t i s)
       unfolding perform_item
-      acts-made at depth d t of_items.Nothing s h k g y q = staying.bound-none libs own core new (λ es. Acts rs at depth d t of_items.Nothing s d s es) s s is_taken (told-self s)
+      acts-made at depth d t of_items.Nothing s h k g y q = staying.bound-none libs own core new (λ es. Acts rs at depth t of_items.Nothing (taking d s d s es)) s s is_taken (told-self s)
       acts-made at depth d t (of_items.Forms fs) s h k g y q =
           gave-less (walking.TakeMade libs own core new rs at (deeper depth) d fs s) (ActsMade at depth d t (of_items.Forms fs) s) (splice go at (deeper depth) d fs s)
           (walking.take-made libs own core new rs first held room traced at (deeper depth) d fs s h k y q)
-          (λ e u x. staying.bound-from libs own core new (λ es. Take rs at (deeper depth) d fs s e u es) (λ es. Acts rs at depth d t (of_items.Forms fs) s e u es) s s u (told-self s) x (λ es i. takes_forms i))
+          (λ e u x. staying.bound-from libs own core new (λ es. Take rs at (deeper depth) fs (taking d s e u es)) (λ es. Acts rs at depth t (of_items.Forms fs) (taking d s e u es)) s s u (told-self s) x (λ es i. takes_forms i))
       acts-made at depth d t (of_items.Keyword b) s h k g y q = keyword-item-made at depth d t b s h y
       acts-made at depth d t (of_items.Keywords recursive bs fs) s h k g y q =
           let bound = with_keywords go (site_at at.place at.level (deeper depth)) (let_syntax_parts recursive bs fs) s in
-          let Keywords : List Tree → State → Type 0 = λ xs v. staying.Bound libs own core new (λ es. BindsKeywords rs at.place at.level recursive bs fs s xs v es) s v in
+          let Keywords : List Tree → State → Type 0 = λ xs v. staying.Bound libs own core new (λ es. BindsKeywords rs (placed at.place at.level) (let_syntax_parts recursive bs fs) xs (between s v es)) s v in
           gave-after (λ xs v. (FreshStateHolds own K P s.names.number v × Ts v.names.number xs) × Keywords xs v) (ActsMade at depth d t (of_items.Keywords recursive bs fs) s) bound (splice go at (deeper depth) d)
           (staying.gave-and libs own core new first Ts Keywords s bound (forms.with-keywords-holds own K J P lives first go (walking.keeps libs own core new rs first held room) at.place at.level (deeper depth) recursive bs fs s h y.0 y.1)
           (walking.keywords-made libs own core new rs first held room traced at.place at.level (deeper depth) recursive bs fs s h y.0))
           (λ xs v z. gave-less (walking.TakeMade libs own core new rs at (deeper depth) d xs v) (ActsMade at depth d t (of_items.Keywords recursive bs fs) s) (splice go at (deeper depth) d xs v)
           (walking.take-made libs own core new rs first held room traced at (deeper depth) d xs v (from-to s v h z.0.0) (items.taken-up own K J P lives first s.names.number v.names.number z.0.0.stage.up d k) z.0.1 (lives.frames s.names.number v.names.number at.frame z.0.0.stage.up q))
-          (λ e u x. staying.bound-joined libs own core new (λ es. BindsKeywords rs at.place at.level recursive bs fs s xs v es) (λ es. Take rs at (deeper depth) d xs v e u es) (λ es. Acts rs at depth d t (of_items.Keywords recursive bs fs) s e u es) s v u z.1 x (λ es others i j. takes_among i j)))
+          (λ e u x. staying.bound-joined libs own core new (λ es. BindsKeywords rs (placed at.place at.level) (let_syntax_parts recursive bs fs) xs (between s v es)) (λ es. Take rs at (deeper depth) xs (taking d v e u es)) (λ es. Acts rs at depth t (of_items.Keywords recursive bs fs) (taking d s e u es)) s v u z.1 x (λ es others i j. takes_among i j)))
 
       item-made : (at : BodyAt) (depth : ℕ) (d : Taken) (t : Tree) (s : State) → F s → TakenAt s.names.number d → T s.names.number t → J s.names.number at.frame → Gave (walking.TakesMade libs own core new rs at depth d t s) (item go at depth d t s)
       unfolding item
@@ -467,7 +468,7 @@ module _ (libs : List LibName) (own : LibName) (core : Among libs library.Core) 
           (expand_uses-item-told rs depth at d t s))
           (λ p v z. gave-less (ActsMade p.1.at depth p.0 p.1.form p.1.item v) So (perform_item go p.1.at depth p.0 p.1.form p.1.item v)
           (acts-made p.1.at depth p.0 p.1.form p.1.item v (from-to s v h z.0.0.0) z.0.0.1.0 z.0.0.1.1.0 z.0.0.1.1.1.0 z.0.0.1.1.1.1)
-          (λ e u y. staying.bound-from libs own core new (λ es. Acts rs p.1.at depth p.0 p.1.form p.1.item v e u es) (λ es. TakesForm rs at depth d t s e u es) s v u z.1 y (λ es i. takes z.0.1 i)))))
+          (λ e u y. staying.bound-from libs own core new (λ es. Acts rs p.1.at depth p.1.form p.1.item (taking p.0 v e u es)) (λ es. TakesForm rs at depth t (taking d s e u es)) s v u z.1 y (λ es i. takes z.0.1 i)))))
 
     -- so it is however deep forms nest
     pub all-traced : (first : ℕ) (held : RecordsHold (P first) rs) (room : ℕ) → walking.Traced libs own core new rs first held room

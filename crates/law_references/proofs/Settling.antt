@@ -49,6 +49,7 @@ use Rattle.expand_forms.specs.declared.expand_uses.PlannedForm.{PlannedForm}
 use Rattle.expand_forms.specs.declared.expand_uses.PlanOrUse.{PlanOrUse}
 use Rattle.expand_forms.specs.declared.expand_uses.PlanOrUse.TheVariants as steps
 use Rattle.law_expand.specs.Named.{RefersTo}
+use Rattle.law_references.specs.Changes.{placed}
 use Rattle.law_references.specs.Namings.{namings}
 use Rattle.law_references.specs.Noted.{Reference}
 use Rattle.law_references.specs.Templates.{IsTemplateOf}
@@ -80,7 +81,7 @@ pub record IsSyntax (place : Span) (level : ℕ) (t : Tree) (c : PlainCore) (u :
   pub template : PlainTemplate
   pub made : template_of place level operand u ≡ Ok (template, u)
   pub references : List Reference
-  pub is : IsTemplateOf u place level operand template references
+  pub is : IsTemplateOf u (placed place level) operand template references
   pub code : c ≡ instance template (place_of t place)
 
 abbrev pub IsTarget : Span → Tree → Label → Tree → State → Type 0

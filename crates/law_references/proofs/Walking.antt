@@ -70,6 +70,7 @@ use Rattle.law_fresh_expansion.proofs.Items as items
 use Rattle.law_fresh_expansion.proofs.PlannedForm.{inside-keeps}
 use Rattle.law_fresh_expansion.proofs.Shapes.{FormalsHold, LambdaHolds, PatternCaseHolds}
 use Rattle.law_fresh_expansion.proofs.Standing as standing
+use Rattle.law_references.specs.Changes.{between, placed, taking}
 use Rattle.law_references.specs.Expands.{counted, Expands, Performs, binds_all, Expand, none, more, CaseBinds, binds_formals, ExpandedBind, no_case, case, Starts, starts_with, ExpansionStart, no_init, init}
 use Rattle.law_references.specs.Expands.{ExpandsClause, matches_pattern, Match, no_clause, clause, Asks, asks_nothing, asks_first, IsBody, is_body, Finish, no_line, next_line, Ends, declares, defines, defines_procedure, is_expression}
 use Rattle.law_references.specs.Expands.{KeywordMeans, means, Mean, no_keyword, keyword, BindsKeywords, binds_keywords, TakesForm, Take, none_taken, more_taken}
@@ -152,22 +153,22 @@ module _ (libs : List LibName) (own : LibName) (core : Among libs library.Core) 
     -- What is told of what forms come to.
 
     abbrev pub FormMade : Span → ℕ → Tree → State → PlainCore → State → Type 0
-    FormMade place level t s c u = Made (λ refs. Expands rs place level t s c u refs) (namings c) s u
+    FormMade place level t s c u = Made (λ refs. Expands rs (placed place level) t c (between s u refs)) (namings c) s u
 
     abbrev pub FormsMade : Span → ℕ → List Tree → State → List PlainCore → State → Type 0
-    FormsMade place level ts s cs u = Made (λ refs. Expand rs place level ts s cs u refs) (all_namings (cores cs)) s u
+    FormsMade place level ts s cs u = Made (λ refs. Expand rs (placed place level) ts cs (between s u refs)) (all_namings (cores cs)) s u
 
     abbrev pub CaseMade : Span → ℕ → Tree → FormalIds → List Tree → State → Lambda → State → Type 0
-    CaseMade place level t ids forms s c u = Made (λ refs. CaseBinds rs place level t ids forms s c u refs) (namings c.body) s u
+    CaseMade place level t ids forms s c u = Made (λ refs. CaseBinds rs (placed place level) (procedure_parts t ids forms) c (between s u refs)) (namings c.body) s u
 
     abbrev pub BodyMade : Span → ℕ → Tree → List Tree → State → PlainCore → State → Type 0
-    BodyMade place level t forms s c u = Made (λ refs. IsBody rs place level t forms s c u refs) (namings c) s u
+    BodyMade place level t forms s c u = Made (λ refs. IsBody rs (placed place level) t forms c (between s u refs)) (namings c) s u
 
     abbrev InitMade : Span → ℕ → FrameNo → BoundSpec → State → Init → State → Type 0
-    InitMade place level f b s i u = Made (λ refs. Starts rs place level f b s i u refs) (namings i.value) s u
+    InitMade place level f b s i u = Made (λ refs. Starts rs (placed place level) f b i (between s u refs)) (namings i.value) s u
 
     abbrev ClauseMade : Span → ℕ → List Tree → PatternCase → State → Clause → State → Type 0
-    ClauseMade place level literals x s c u = Made (λ refs. ExpandsClause rs place level literals x s c u refs) (clause-said c) s u
+    ClauseMade place level literals x s c u = Made (λ refs. ExpandsClause rs (placed place level) literals x c (between s u refs)) (clause-said c) s u
 
     -- the lines of a body, with what is noted of each
     pub record LinesMade (level : ℕ) (ws : List Waiting) (s : State) (ls : List Line) (u : State) : Type 0 where
@@ -179,14 +180,14 @@ module _ (libs : List LibName) (own : LibName) (core : Among libs library.Core) 
       pub kept : KeepsOnly (of_lines told) s u
 
     abbrev pub PlanMade : Span → ℕ → Tree → Plan → State → PlainCore → State → Type 0
-    PlanMade place level t p s c u = Made (λ refs. Performs rs place level t p s c u refs) (namings c) s u
+    PlanMade place level t p s c u = Made (λ refs. Performs rs (placed place level) t p c (between s u refs)) (namings c) s u
 
     -- of the first pass over a form, and over forms
     abbrev pub TakesMade : BodyAt → ℕ → Taken → Tree → State → Taken → State → Type 0
-    TakesMade at depth d t s e u = Bound (λ es. TakesForm rs at depth d t s e u es) s u
+    TakesMade at depth d t s e u = Bound (λ es. TakesForm rs at depth t (taking d s e u es)) s u
 
     abbrev pub TakeMade : BodyAt → ℕ → Taken → List Tree → State → Taken → State → Type 0
-    TakeMade at depth d ts s e u = Bound (λ es. Take rs at depth d ts s e u es) s u
+    TakeMade at depth d ts s e u = Bound (λ es. Take rs at depth ts (taking d s e u es)) s u
 
     module _ (first : ℕ) (held : RecordsHold (P first) rs) (room : ℕ) where
       abbrev F : State → Type 0
@@ -260,23 +261,23 @@ module _ (libs : List LibName) (own : LibName) (core : Among libs library.Core) 
 
         pub order-went : (place : Span) (level depth : ℕ) (ts : List Tree) (s : State) → F s → Ts s.names.number ts → Gave (Goes (FormsMade place level ts s) s) (in_order go (site_at place level depth) ts s)
         order-went place level depth ts s h k =
-            each-went (go.form (site_at place level depth)) T tree-up (λ t s c u refs. Expands rs place level t s c u refs) (λ ts s cs u refs. Expand rs place level ts s cs u refs) namings (λ cs. all_namings (cores cs))
+            each-went (go.form (site_at place level depth)) T tree-up (λ t s c u refs. Expands rs (placed place level) t c (between s u refs)) (λ ts s cs u refs. Expand rs (placed place level) ts cs (between s u refs)) namings (λ cs. all_namings (cores cs))
             (λ s. none) (λ t ts s v u c cs refs others i j. more i j) refl (λ c cs. refl) (λ t s h k. form-went place level depth t s h k) ts s h k
 
         -- Lines of a body.
 
         abbrev pub LineMade : ℕ → Waiting → State → Line → State → Type 0
-        LineMade level w s x u = Made (λ refs. Ends rs level w.place w.what s (record { line = x; noted = refs }) u) (line-said x) s u
+        LineMade level w s x u = Made (λ refs. Ends rs (placed w.place level) w.what s (record { line = x; noted = refs }) u) (line-said x) s u
 
         abbrev ValueMade : Span → ℕ → ℕ → Label → Option Tree → State → PlainCore → State → Type 0
         ValueMade place level depth l o s c u = LineMade level (record { place = place; depth = depth; what = waits.Variable l o }) s (line.Define l c) u
 
         value-made : (place : Span) (level depth : ℕ) (l : Label) (o : Option Tree) (s : State) → F s → OptionHolds (T s.names.number) o → Gave (ValueMade place level depth l o s) (value_of go (site_at place level (deeper depth)) o s)
         value-made place level depth l None s h k =
-            staying.made-none libs own core new (λ refs. Ends rs level place (waits.Variable l None) s (record { line = line.Define l no_value; noted = refs }) s) [] s s declares refl (told-self s)
+            staying.made-none libs own core new (λ refs. Ends rs (placed place level) (waits.Variable l None) s (record { line = line.Define l no_value; noted = refs }) s) [] s s declares refl (told-self s)
         value-made place level depth l (Some t) s h k =
             gave-less (FormMade place level t s) (ValueMade place level depth l (Some t) s) (go.form (site_at place level (deeper depth)) t s) (traced.form place level (deeper depth) t s h k)
-            (λ c u z. staying.made-so libs own core new (λ refs. Expands rs place level t s c u refs) (λ refs. Ends rs level place (waits.Variable l (Some t)) s (record { line = line.Define l c; noted = refs }) u) (namings c) (namings c) s u z (λ refs i. defines i) refl)
+            (λ c u z. staying.made-so libs own core new (λ refs. Expands rs (placed place level) t c (between s u refs)) (λ refs. Ends rs (placed place level) (waits.Variable l (Some t)) s (record { line = line.Define l c; noted = refs }) u) (namings c) (namings c) s u z (λ refs i. defines i) refl)
 
         line-made : (level : ℕ) (place : Span) (depth : ℕ) (w : Waits) (s : State) → F s → WaitsHold (P s.names.number) w → Gave (LineMade level (record { place = place; depth = depth; what = w }) s) (finish_as go (site_at place level depth) w s)
         unfolding finish_as fresh
@@ -286,11 +287,11 @@ module _ (libs : List LibName) (own : LibName) (core : Among libs library.Core) 
             (traced.procedure place level (deeper depth) t ids fs (counted s) (counted-at s h) (items.formals-up own K J P lives first s.names.number (s.names.number + 1) (one-more s) ids k.1.0) (trees-up s.names.number (s.names.number + 1) (one-more s) fs k.1.1))
             (λ c u z.
             let code = procedure (record { 0 = s.names }) (cases (c ∷ [])) true in
-            staying.made-from libs own core new (λ refs. CaseBinds rs place level t ids fs (counted s) c u refs) (λ refs. Ends rs level place (waits.Procedure l t ids fs) s (record { line = line.Define l code; noted = refs }) u)
+            staying.made-from libs own core new (λ refs. CaseBinds rs (placed place level) (procedure_parts t ids fs) c (between (counted s) u refs)) (λ refs. Ends rs (placed place level) (waits.Procedure l t ids fs) s (record { line = line.Define l code; noted = refs }) u)
             (namings c.body) (namings code) s (counted s) u (told-self s) z (λ refs i. defines_procedure i) (append-nil (namings c.body)))
         line-made level place depth (waits.Expression t) s h k =
             gave-after (FormMade place level t s) (LineMade level (record { place = place; depth = depth; what = waits.Expression t }) s) (go.form (site_at place level depth) t s) (λ c. give (line.Expr c)) (traced.form place level depth t s h k)
-            (λ c u z. staying.made-so libs own core new (λ refs. Expands rs place level t s c u refs) (λ refs. Ends rs level place (waits.Expression t) s (record { line = line.Expr c; noted = refs }) u) (namings c) (namings c) s u z (λ refs i. is_expression i) refl)
+            (λ c u z. staying.made-so libs own core new (λ refs. Expands rs (placed place level) t c (between s u refs)) (λ refs. Ends rs (placed place level) (waits.Expression t) s (record { line = line.Expr c; noted = refs }) u) (namings c) (namings c) s u z (λ refs i. is_expression i) refl)
 
         pub line-went : (level : ℕ) (w : Waiting) (s : State) → F s → WaitsHold (P s.names.number) w.what → Gave (Goes (LineMade level w s) s) (finish_one go level w s)
         line-went level w s h k =
@@ -322,7 +323,7 @@ module _ (libs : List LibName) (own : LibName) (core : Among libs library.Core) 
         -- The expression of a keyword.
 
         abbrev MeansMade : Span → ℕ → BoundSpec → State → State → Type 0
-        MeansMade place level b s u = Bound (λ es. KeywordMeans rs place level b s u es) s u
+        MeansMade place level b s u = Bound (λ es. KeywordMeans rs (placed place level) b (between s u es)) s u
 
         means-kept : (place : Span) (level : ℕ) (b : BoundSpec) (s v : State) (c : PlainCore) → FormMade place (level + 1) b.init (record s { scope = [] }) c v
             → Gave (λ x u. MeansMade place level b s u) (evaluate_transformer rs (place_of b.init place) b.label c (record v { scope = s.scope }))
@@ -363,21 +364,21 @@ module _ (libs : List LibName) (own : LibName) (core : Among libs library.Core) 
         seen-known false f b n h = h.0
 
         mean-made : (place : Span) (level depth : ℕ) (recursive : Bool) (f : FrameNo) (bs : List BoundSpec) (s : State) → F s → Each (InFrame f s.names.number) bs
-            → Gave (λ x u. Bound (λ es. Mean rs place level recursive f bs s u es) s u) (expand_transformers go (site_at place level depth) recursive f bs s)
+            → Gave (λ x u. Bound (λ es. Mean rs (placed place level) recursive f bs (between s u es)) s u) (expand_transformers go (site_at place level depth) recursive f bs s)
         unfolding gather
-        mean-made place level depth recursive f [] s h k = staying.bound-none libs own core new (λ es. Mean rs place level recursive f [] s s es) s s no_keyword (told-self s)
+        mean-made place level depth recursive f [] s h k = staying.bound-none libs own core new (λ es. Mean rs (placed place level) recursive f [] (between s s es)) s s no_keyword (told-self s)
         mean-made place level depth recursive f (b ∷ bs) s h k =
             let x : BoundSpec = seen_in recursive f b in
-            gave-after (λ e v. (FreshStateHolds own K P s.names.number v × Unit {0}) × MeansMade place level x s v) (λ e u. Bound (λ es. Mean rs place level recursive f (b ∷ bs) s u es) s u) (expand_transformer_in go (site_at place level depth) recursive f tt b s) (λ e. gather (expand_transformer_in go (site_at place level depth) recursive f) e bs)
+            gave-after (λ e v. (FreshStateHolds own K P s.names.number v × Unit {0}) × MeansMade place level x s v) (λ e u. Bound (λ es. Mean rs (placed place level) recursive f (b ∷ bs) (between s u es)) s u) (expand_transformer_in go (site_at place level depth) recursive f tt b s) (λ e. gather (expand_transformer_in go (site_at place level depth) recursive f) e bs)
             (staying.gave-and libs own core new first (λ n e. Unit {0}) (λ e v. MeansMade place level x s v) s (keywords.expand_transformer go (site_at place level depth) x s)
             (forms.keyword-holds own K J P lives first go keeps place level depth x s h (seen-known recursive f b s.names.number k.0)) (means-made place level depth x s h (seen-known recursive f b s.names.number k.0)))
-            (λ e v z. gave-less (λ d u. Bound (λ es. Mean rs place level recursive f bs v u es) v u) (λ d u. Bound (λ es. Mean rs place level recursive f (b ∷ bs) s u es) s u) (expand_transformers go (site_at place level depth) recursive f bs v)
+            (λ e v z. gave-less (λ d u. Bound (λ es. Mean rs (placed place level) recursive f bs (between v u es)) v u) (λ d u. Bound (λ es. Mean rs (placed place level) recursive f (b ∷ bs) (between s u es)) s u) (expand_transformers go (site_at place level depth) recursive f bs v)
             (mean-made place level depth recursive f bs v (from-to s v h z.0.0) (each-implied (InFrame f s.names.number) (InFrame f v.names.number) (forms.bound-in-up own K J P lives first f s.names.number v.names.number z.0.0.stage.up) bs k.1))
-            (λ d u y. staying.bound-joined libs own core new (λ es. KeywordMeans rs place level x s v es) (λ es. Mean rs place level recursive f bs v u es) (λ es. Mean rs place level recursive f (b ∷ bs) s u es) s v u z.1 y (λ es others i j. keyword i j)))
+            (λ d u y. staying.bound-joined libs own core new (λ es. KeywordMeans rs (placed place level) x (between s v es)) (λ es. Mean rs (placed place level) recursive f bs (between v u es)) (λ es. Mean rs (placed place level) recursive f (b ∷ bs) (between s u es)) s v u z.1 y (λ es others i j. keyword i j)))
 
         -- keywords, with the forms in which they stand
         abbrev KeywordsMade : Span → ℕ → Bool → List BindingSpec → List Tree → State → List Tree → State → Type 0
-        KeywordsMade place level recursive bs fs s ts u = Bound (λ es. BindsKeywords rs place level recursive bs fs s ts u es) s u
+        KeywordsMade place level recursive bs fs s ts u = Bound (λ es. BindsKeywords rs (placed place level) (let_syntax_parts recursive bs fs) ts (between s u es)) s u
 
         pub keywords-made : (place : Span) (level depth : ℕ) (recursive : Bool) (bs : List BindingSpec) (fs : List Tree) (s : State) → F s → Each (standing.SpecAt own K J P lives first s.names.number) bs → Gave (KeywordsMade place level recursive bs fs s) (with_keywords go (site_at place level depth) (let_syntax_parts recursive bs fs) s)
         unfolding fresh_frame keywords.keywords
@@ -391,10 +392,10 @@ module _ (libs : List LibName) (own : LibName) (core : Among libs library.Core) 
             (staying.gave-from libs own core new first (λ n xs. Each (standing.BoundHolds own K J P lives first n) xs) (counted s) bound
             (standing.bind-keywords-holds own K J P lives first f place level bs (counted s) hs (each-implied (standing.SpecAt own K J P lives first s.names.number) (standing.SpecAt own K J P lives first (s.names.number + 1)) (standing.spec-up own K J P lives first s.names.number (s.names.number + 1) (one-more s)) bs k)))
             (keywords-told f place level bs (counted s)))
-            (λ xs v z. gave-less (λ x u. Bound (λ es. Mean rs place level recursive f xs v u es) v u) (λ x u. KeywordsMade place level recursive bs fs s (map (stamp f) fs) u) (expand_transformers go (site_at place level depth) recursive f xs v)
+            (λ xs v z. gave-less (λ x u. Bound (λ es. Mean rs (placed place level) recursive f xs (between v u es)) v u) (λ x u. KeywordsMade place level recursive bs fs s (map (stamp f) fs) u) (expand_transformers go (site_at place level depth) recursive f xs v)
             (mean-made place level depth recursive f xs v (from-to (counted s) v hs z.0.0.0)
             (forms.all-bound-in own K J P lives first f v.names.number xs z.0.0.1 (lives.frames (s.names.number + 1) v.names.number f z.0.0.0.stage.up (standing.frame-made own K J P lives first s h))))
-            (λ x u y. staying.bound-from libs own core new (λ es. Mean rs place level recursive f xs v u es) (λ es. BindsKeywords rs place level recursive bs fs s (map (stamp f) fs) u es) s v u z.1 y (λ es i. binds_keywords z.0.1 i))))
+            (λ x u y. staying.bound-from libs own core new (λ es. Mean rs (placed place level) recursive f xs (between v u es)) (λ es. BindsKeywords rs (placed place level) (let_syntax_parts recursive bs fs) (map (stamp f) fs) (between s u es)) s v u z.1 y (λ es i. binds_keywords z.0.1 i))))
             (λ x u y. y)
 
         -- The first pass over forms.
@@ -404,13 +405,13 @@ module _ (libs : List LibName) (own : LibName) (core : Among libs library.Core) 
 
         pub take-made : (at : BodyAt) (depth : ℕ) (d : Taken) (ts : List Tree) (s : State) → F s → TakenAt s.names.number d → Ts s.names.number ts → J s.names.number at.frame → Gave (TakeMade at depth d ts s) (splice go at depth d ts s)
         unfolding gather
-        take-made at depth d [] s h k g q = staying.bound-none libs own core new (λ es. Take rs at depth d [] s d s es) s s none_taken (told-self s)
+        take-made at depth d [] s h k g q = staying.bound-none libs own core new (λ es. Take rs at depth [] (taking d s d s es)) s s none_taken (told-self s)
         take-made at depth d (t ∷ ts) s h k g q =
             gave-after (λ e v. (FreshStateHolds own K P s.names.number v × TakenAt v.names.number e) × TakesMade at depth d t s e v) (TakeMade at depth d (t ∷ ts) s) (go.item at depth d t s) (λ e. gather (go.item at depth) e ts)
             (staying.gave-and libs own core new first TakenAt (TakesMade at depth d t s) s (go.item at depth d t s) (keeps.item at depth d t s h k g.0 q) (traced.item at depth d t s h k g.0 q))
             (λ e v z. gave-less (TakeMade at depth e ts v) (TakeMade at depth d (t ∷ ts) s) (splice go at depth e ts v)
             (take-made at depth e ts v (from-to s v h z.0.0) z.0.1 (trees-up s.names.number v.names.number z.0.0.stage.up ts g.1) (lives.frames s.names.number v.names.number at.frame z.0.0.stage.up q))
-            (λ x u y. staying.bound-joined libs own core new (λ es. TakesForm rs at depth d t s e v es) (λ es. Take rs at depth e ts v x u es) (λ es. Take rs at depth d (t ∷ ts) s x u es) s v u z.1 y (λ es others i j. more_taken i j)))
+            (λ x u y. staying.bound-joined libs own core new (λ es. TakesForm rs at depth t (taking d s e v es)) (λ es. Take rs at depth ts (taking e v x u es)) (λ es. Take rs at depth (t ∷ ts) (taking d s x u es)) s v u z.1 y (λ es others i j. more_taken i j)))
 
         -- Bodies.
 
@@ -508,12 +509,12 @@ module _ (libs : List LibName) (own : LibName) (core : Among libs library.Core) 
             (body-made place level depth t (map (stamp f) fs) v (from-to (counted s) v hs z.0.0)
             (stamps-hold own K J P lives v.names.number f fs (lives.frames (s.names.number + 1) v.names.number f z.0.0.stage.up (standing.frame-made own K J P lives first s h)) (trees-up s.names.number v.names.number (let up : s.names.number + 1 ≤ v.names.number = z.0.0.stage.up in omega (arith, up)) fs g)))
             (λ c u y.
-            let Case : Noted → Type 0 = λ refs. CaseBinds rs place level t ids fs s (record { formals = x; body = c }) (cut n u) refs in
+            let Case : Noted → Type 0 = λ refs. CaseBinds rs (placed place level) (procedure_parts t ids fs) (record { formals = x; body = c }) (between s (cut n u) refs) in
             staying.made-cut libs own core new Case Case (namings c) n s u
-            (staying.made-from libs own core new (λ refs. IsBody rs place level t (map (stamp f) fs) v c u refs) Case (namings c) (namings c) s v u (told-by (counted s) v bound x (formals-same f place level ids (counted s)) z.1) y (λ refs i. binds_formals z.1 i) refl) (λ refs i. i))))
+            (staying.made-from libs own core new (λ refs. IsBody rs (placed place level) t (map (stamp f) fs) c (between v u refs)) Case (namings c) (namings c) s v u (told-by (counted s) v bound x (formals-same f place level ids (counted s)) z.1) y (λ refs i. binds_formals z.1 i) refl) (λ refs i. i))))
 
         abbrev Case : Span → ℕ → Tree → LambdaCase → State → Lambda → State → Noted → Type 0
-        Case place level t x s c u refs = CaseBinds rs place level t x.formals x.body s c u refs
+        Case place level t x s c u refs = CaseBinds rs (placed place level) (procedure_parts t x.formals x.body) c (between s u refs)
 
         case-went : (place : Span) (level depth : ℕ) (t : Tree) (x : LambdaCase) (s : State) → F s → LambdaHolds (P s.names.number) x → Gave (λ c u. Went s u × Made (Case place level t x s c u) (namings c.body) s u) (one_case go (site_at place level depth) t x s)
         case-went place level depth t x s h k =
@@ -526,9 +527,9 @@ module _ (libs : List LibName) (own : LibName) (core : Among libs library.Core) 
         lambda-case-up m n le x h = (items.formals-up own K J P lives first m n le x.formals h.0, trees-up m n le x.body h.1)
 
         pub cases-went : (place : Span) (level depth : ℕ) (t : Tree) (xs : List LambdaCase) (s : State) → F s → Each (LambdaHolds (P s.names.number)) xs
-            → Gave (λ cs u. Went s u × Made (ExpandedBind rs place level t xs s cs u) (case_namings (cases cs)) s u) (all_cases go (site_at place level depth) t xs s)
+            → Gave (λ cs u. Went s u × Made (λ refs. ExpandedBind rs (placed place level) t xs cs (between s u refs)) (case_namings (cases cs)) s u) (all_cases go (site_at place level depth) t xs s)
         cases-went place level depth t xs s h k =
-            each-went (one_case go (site_at place level depth) t) (λ n x. LambdaHolds (P n) x) lambda-case-up (Case place level t) (λ xs s cs u refs. ExpandedBind rs place level t xs s cs u refs) (λ (c : Lambda). namings c.body) (λ cs. case_namings (cases cs))
+            each-went (one_case go (site_at place level depth) t) (λ n x. LambdaHolds (P n) x) lambda-case-up (Case place level t) (λ xs s cs u refs. ExpandedBind rs (placed place level) t xs cs (between s u refs)) (λ (c : Lambda). namings c.body) (λ cs. case_namings (cases cs))
             (λ s. no_case) (λ x xs s v u c cs refs others i j. case i j) refl (λ c cs. refl) (λ x s h k. case-went place level depth t x s h k) xs s h k
 
         -- `letrec` and `letrec*`.
@@ -538,12 +539,12 @@ module _ (libs : List LibName) (own : LibName) (core : Among libs library.Core) 
         init-went place level depth f b s h k =
             gave-after (Goes (FormMade place level (stamp f b.init) s) s) (λ i u. Went s u × InitMade place level f b s i u) (go.form (site_at place level depth) (stamp f b.init) s) (λ c. give (record { label = b.label; value = c }))
             (form-went place level depth (stamp f b.init) s h (stamp-holds own K J P lives s.names.number f b.init k.1 k.0))
-            (λ c u z. (z.0, staying.made-so libs own core new (λ refs. Expands rs place level (stamp f b.init) s c u refs) (λ refs. Starts rs place level f b s (record { label = b.label; value = c }) u refs) (namings c) (namings c) s u z.1 (λ refs i. starts_with i) refl))
+            (λ c u z. (z.0, staying.made-so libs own core new (λ refs. Expands rs (placed place level) (stamp f b.init) c (between s u refs)) (λ refs. Starts rs (placed place level) f b (record { label = b.label; value = c }) (between s u refs)) (namings c) (namings c) s u z.1 (λ refs i. starts_with i) refl))
 
         inits-went : (place : Span) (level depth : ℕ) (f : FrameNo) (bs : List BoundSpec) (s : State) → F s → Each (forms.BoundIn own K J P lives first f s.names.number) bs
-            → Gave (λ is u. Went s u × Made (ExpansionStart rs place level f bs s is u) (init_namings (inits is)) s u) (all_inits go (site_at place level depth) f bs s)
+            → Gave (λ is u. Went s u × Made (λ refs. ExpansionStart rs (placed place level) f bs is (between s u refs)) (init_namings (inits is)) s u) (all_inits go (site_at place level depth) f bs s)
         inits-went place level depth f bs s h k =
-            each-went (one_init go (site_at place level depth) f) (λ n b. forms.BoundIn own K J P lives first f n b) (forms.bound-in-up own K J P lives first f) (λ b s i u refs. Starts rs place level f b s i u refs) (λ bs s is u refs. ExpansionStart rs place level f bs s is u refs)
+            each-went (one_init go (site_at place level depth) f) (λ n b. forms.BoundIn own K J P lives first f n b) (forms.bound-in-up own K J P lives first f) (λ b s i u refs. Starts rs (placed place level) f b i (between s u refs)) (λ bs s is u refs. ExpansionStart rs (placed place level) f bs is (between s u refs))
             (λ (i : Init). namings i.value) (λ is. init_namings (inits is)) (λ s. no_init) (λ b bs s v u i is refs others x y. init x y) refl (λ i is. refl) (λ b s h k. init-went place level depth f b s h k) bs s h k
 
         pub letrec-made : (place : Span) (level depth : ℕ) (t : Tree) (star : Bool) (bs : List BindingSpec) (fs : List Tree) (s : State) → F s → Each (standing.SpecAt own K J P lives first s.names.number) bs → Ts s.names.number fs
@@ -564,7 +565,7 @@ module _ (libs : List LibName) (own : LibName) (core : Among libs library.Core) 
             (λ ls v z.
             let hv = from-to (counted s) v hs z.0.0 in
             let up : s.names.number + 1 ≤ v.names.number = z.0.0.stage.up in
-            gave-after (λ is w. Went v w × Made (ExpansionStart rs place level f ls v is w) (init_namings (inits is)) v w) So (all_inits go (site_at place level depth) f ls v) _
+            gave-after (λ is w. Went v w × Made (λ refs. ExpansionStart rs (placed place level) f ls is (between v w refs)) (init_namings (inits is)) v w) So (all_inits go (site_at place level depth) f ls v) _
             (inits-went place level depth f ls v hv (forms.all-bound-in own K J P lives first f v.names.number ls z.0.1 (lives.frames (s.names.number + 1) v.names.number f up made)))
             (λ is w y.
             let more-up = y.0.from.stage.up in
@@ -572,22 +573,22 @@ module _ (libs : List LibName) (own : LibName) (core : Among libs library.Core) 
             (body-went place level depth t (map (stamp f) fs) w (goes v w hv y.0)
             (stamps-hold own K J P lives w.names.number f fs (lives.frames (s.names.number + 1) w.names.number f (omega (arith, up, more-up)) made) (trees-up s.names.number w.names.number (omega (arith, one, up, more-up)) fs g)))
             (λ c u x.
-            let All : Noted → Type 0 = λ refs. Performs rs place level t (plans.Letrec star bs fs) s (letrec star (inits is) c) (cut n u) refs in
+            let All : Noted → Type 0 = λ refs. Performs rs (placed place level) t (plans.Letrec star bs fs) (letrec star (inits is) c) (between s (cut n u) refs) in
             let m = init_namings (inits is) ++ namings c in
             staying.made-cut libs own core new All All m n s u
             (staying.made-from libs own core new All All m m s v u (told-by (counted s) v bound ls (specs-same f place level bs (counted s)) z.1)
-            (staying.made-joined libs own core new (ExpansionStart rs place level f ls v is w) (λ refs. IsBody rs place level t (map (stamp f) fs) w c u refs) All
+            (staying.made-joined libs own core new (λ refs. ExpansionStart rs (placed place level) f ls is (between v w refs)) (λ refs. IsBody rs (placed place level) t (map (stamp f) fs) c (between w u refs)) All
             (init_namings (inits is)) (namings c) v w u x.0 y.1 x.1 (λ refs others i j. binds_all z.1 i j)) (λ refs i. i) refl) (λ refs i. i)))))
 
         -- `syntax-case`.
 
         fender-made : (place : Span) (level depth : ℕ) (f : FrameNo) (o : Option Tree) (s : State) → F s → J s.names.number f → OptionHolds (T s.names.number) o
-            → Gave (λ x u. Went s u × Made (Asks rs place level f o s x u) (fender-namings x) s u) (fender go (site_at place level depth) f o s)
-        fender-made place level depth f None s h q k = (staying.went-self libs own core new first s h, staying.made-none libs own core new (Asks rs place level f None s None s) [] s s asks_nothing refl (told-self s))
+            → Gave (λ x u. Went s u × Made (λ refs. Asks rs (placed place level) f o x (between s u refs)) (fender-namings x) s u) (fender go (site_at place level depth) f o s)
+        fender-made place level depth f None s h q k = (staying.went-self libs own core new first s h, staying.made-none libs own core new (λ refs. Asks rs (placed place level) f None None (between s s refs)) [] s s asks_nothing refl (told-self s))
         fender-made place level depth f (Some t) s h q k =
-            gave-after (Goes (FormMade place level (stamp f t) s) s) (λ x u. Went s u × Made (Asks rs place level f (Some t) s x u) (fender-namings x) s u) (go.form (site_at place level depth) (stamp f t) s) (λ c. give (Some c))
+            gave-after (Goes (FormMade place level (stamp f t) s) s) (λ x u. Went s u × Made (λ refs. Asks rs (placed place level) f (Some t) x (between s u refs)) (fender-namings x) s u) (go.form (site_at place level depth) (stamp f t) s) (λ c. give (Some c))
             (form-went place level depth (stamp f t) s h (stamp-holds own K J P lives s.names.number f t q k))
-            (λ c u z. (z.0, staying.made-so libs own core new (λ refs. Expands rs place level (stamp f t) s c u refs) (Asks rs place level f (Some t) s (Some c) u) (namings c) (namings c) s u z.1 (λ refs i. asks_first i) refl))
+            (λ c u z. (z.0, staying.made-so libs own core new (λ refs. Expands rs (placed place level) (stamp f t) c (between s u refs)) (λ refs. Asks rs (placed place level) f (Some t) (Some c) (between s u refs)) (namings c) (namings c) s u z.1 (λ refs i. asks_first i) refl))
 
         clause-made : (place : Span) (level depth : ℕ) (literals : List Tree) (x : PatternCase) (s : State) → F s → PatternCaseHolds (P s.names.number) x → Gave (ClauseMade place level literals x s) (pattern_clause go (site_at place level depth) literals x s)
         unfolding pattern_clause fresh_frame
@@ -612,7 +613,7 @@ module _ (libs : List LibName) (own : LibName) (core : Among libs library.Core) 
             (λ e w y.
             let hw = from-to v w hv y.0.0 in
             let up-more = y.0.0.stage.up in
-            gave-after (λ o b. Went w b × Made (Asks rs place level f x.fender w o b) (fender-namings o) w b) So (fender go (site_at place level depth) f x.fender w) _
+            gave-after (λ o b. Went w b × Made (λ refs. Asks rs (placed place level) f x.fender o (between w b refs)) (fender-namings o) w b) So (fender go (site_at place level depth) f x.fender w) _
             (fender-made place level depth f x.fender w hw (lives.frames (s.names.number + 1) w.names.number f (omega (arith, up, up-more)) made) (standing.option-up own K J P lives first s.names.number w.names.number (omega (arith, one, up, up-more)) x.fender k.1.0))
             (λ o b q.
             let up-last = q.0.from.stage.up in
@@ -620,12 +621,12 @@ module _ (libs : List LibName) (own : LibName) (core : Among libs library.Core) 
             (form-went place level depth (stamp f x.output) b (goes w b hw q.0)
             (stamp-holds own K J P lives b.names.number f x.output (lives.frames (s.names.number + 1) b.names.number f (omega (arith, up, up-more, up-last)) made) (tree-up s.names.number b.names.number (omega (arith, one, up, up-more, up-last)) x.output k.1.1)))
             (λ c u r.
-            let One : Noted → Type 0 = ExpandsClause rs place level literals x s (record { pattern = p.pattern; fender = o; output = c }) (cut n u) in
+            let One : Noted → Type 0 = λ refs. ExpandsClause rs (placed place level) literals x (record { pattern = p.pattern; fender = o; output = c }) (between s (cut n u) refs) in
             let m = fender-namings o ++ namings c in
             let tells = told-then (counted s) v w (told-by (counted s) v compiled p (pattern-same literals place x.pattern (counted s)) z.1) (told-by v w bound e (bind-pattern-same f place level p.variables v) y.1) in
             staying.made-cut libs own core new One One m n s u
             (staying.made-from libs own core new One One m m s w u tells
-            (staying.made-joined libs own core new (Asks rs place level f x.fender w o b) (λ refs. Expands rs place level (stamp f x.output) b c u refs) One
+            (staying.made-joined libs own core new (λ refs. Asks rs (placed place level) f x.fender o (between w b refs)) (λ refs. Expands rs (placed place level) (stamp f x.output) c (between b u refs)) One
             (fender-namings o) (namings c) w b u r.0.later q.1 r.1 (λ refs others i j. matches_pattern z.1 y.1 i j)) (λ refs i. i) refl) (λ refs i. i))))))
 
         clause-went : (place : Span) (level depth : ℕ) (literals : List Tree) (x : PatternCase) (s : State) → F s → PatternCaseHolds (P s.names.number) x → Gave (λ c u. Went s u × ClauseMade place level literals x s c u) (pattern_clause go (site_at place level depth) literals x s)
@@ -636,7 +637,7 @@ module _ (libs : List LibName) (own : LibName) (core : Among libs library.Core) 
             (λ c u k. (k.0, k.1.1))
 
         pub clauses-went : (place : Span) (level depth : ℕ) (literals : List Tree) (xs : List PatternCase) (s : State) → F s → Each (PatternCaseHolds (P s.names.number)) xs
-            → Gave (λ cs u. Went s u × Made (Match rs place level literals xs s cs u) (clause_namings (clauses cs)) s u) (all_clauses go (site_at place level depth) literals xs s)
+            → Gave (λ cs u. Went s u × Made (λ refs. Match rs (placed place level) literals xs cs (between s u refs)) (clause_namings (clauses cs)) s u) (all_clauses go (site_at place level depth) literals xs s)
         clauses-went place level depth literals xs s h k =
-            each-went (pattern_clause go (site_at place level depth) literals) (λ n x. PatternCaseHolds (P n) x) (forms.pattern-case-up own K J P lives first go keeps) (λ x s c u refs. ExpandsClause rs place level literals x s c u refs) (λ xs s cs u refs. Match rs place level literals xs s cs u refs)
+            each-went (pattern_clause go (site_at place level depth) literals) (λ n x. PatternCaseHolds (P n) x) (forms.pattern-case-up own K J P lives first go keeps) (λ x s c u refs. ExpandsClause rs (placed place level) literals x c (between s u refs)) (λ xs s cs u refs. Match rs (placed place level) literals xs cs (between s u refs))
             clause-said (λ cs. clause_namings (clauses cs)) (λ s. no_clause) (λ x xs s v u c cs refs others i j. clause i j) refl clauses-said (λ x s h k. clause-went place level depth literals x s h k) xs s h k

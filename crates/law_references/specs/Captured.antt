@@ -17,13 +17,14 @@ use Rattle.law_fresh_expansion.specs.Events.{HasKnownEvents}
 abbrev pub IsIntroducedBy : Mark → List Event → Type 0
 IsIntroducedBy m es = (f : Option FrameNo) × Among es (introduced m f)
 
--- A leaf that was made with these marks, after these events, and the row of the binder that captures it.
-pub record IsHygienicReference (fs : Scope) (r : Row) (s : Option Span) (x : List ℕ) (ms : List Mark) (es : List Event) : Type 0 where
-  -- A binder that a use introduced captures the leaf only if the same use introduced the leaf, or this was made with the mark, as a temporary is.
-  pub binder : (m : Mark) → IsOfUse m r → Among ms m ⊎ IsIntroducedBy m es
-  -- Where a use introduced the leaf, the binder is one that the same use introduced, or it captures the leaf as this stood in the template before.
-  pub reference : (m : Mark) (f : Option FrameNo) (early late : List Event) → es ≡ early ++ introduced m f ∷ late
-      → IsOfUse m r ⊎ Captures fs r (leaf s x (after early ms))
+module _ (fs : Scope) (r : Row) where
+  -- A leaf that was made with these marks, after these events, and the row of the binder that captures it.
+  pub record IsHygienicReference (s : Option Span) (x : List ℕ) (ms : List Mark) (es : List Event) : Type 0 where
+    -- A binder that a use introduced captures the leaf only if the same use introduced the leaf, or this was made with the mark, as a temporary is.
+    pub binder : (m : Mark) → IsOfUse m r → Among ms m ⊎ IsIntroducedBy m es
+    -- Where a use introduced the leaf, the binder is one that the same use introduced, or it captures the leaf as this stood in the template before.
+    pub reference : (m : Mark) (f : Option FrameNo) (early late : List Event) → es ≡ early ++ introduced m f ∷ late
+        → IsOfUse m r ⊎ Captures fs r (leaf s x (after early ms))
 
 -- Each leaf that an expansion comes to has such a history, and is captured so, whatever frames there are.
 abbrev pub CapturesAreHygienic : Type 0

@@ -3,6 +3,7 @@ pub mod Reference
 pub mod Introduced
 pub mod Namings
 pub mod Noted
+pub mod Changes
 pub mod Templates
 pub mod Parts
 pub mod Expands

@@ -29,6 +29,7 @@ use Rattle.law_fresh.specs.Leaves.{CodesHold}
 use Rattle.law_fresh_expansion.specs.Events.{HasEvents}
 use Rattle.law_fresh_expansion.specs.Known.{libraries_of, IsNewAmong}
 use Rattle.law_fresh_expansion.specs.RecordMarks.{HasOnly, RecordHasOnly, WasRead}
+use Rattle.law_references.specs.Changes.{between, taking}
 use Rattle.law_references.specs.Expands.{Take, Finish}
 use Rattle.law_references.specs.Namings.{Naming, namings}
 use Rattle.law_references.specs.Noted.{KeywordExpression, NotedLine, lines, of_lines, mentioned, named, IsExpression}
@@ -53,44 +54,46 @@ abbrev pub IsBoundTo : List KeywordExpression → Label → Binding → Type 0
 IsBoundTo es l (binding.Macro level (Some c)) = IsExpression es l c
 IsBoundTo es l _ = Unit {0}
 
--- An export has the name that its clause gives it, and the label that the identifier of the clause stood for behind the first pass over the body and
--- stands for at the end. It was read, so no binder that a use introduced captures it.
-pub record IsRightExport (libs : List LibName) (own : LibName) (first last : State) (f : FrameNo) (e : List ℕ × Tree) (x : ImportedName) : Type 0 where
-  pub name : x.name ≡ e.0
-  pub stood : stands first.frames (stamp f e.1) ≡ Some x.label
-  pub captured : IsCaptured libs own first.names.number last (stamp f e.1) x.label
-  pub unmarked : captured.row.marks ≡ []
+module _ (libs : List LibName) (own : LibName) where
+  -- An export has the name that its clause gives it, and the label that the identifier of the clause stood for behind the first pass over the body and
+  -- stands for at the end. It was read, so no binder that a use introduced captures it.
+  pub record IsRightExport (first last : State) (f : FrameNo) (e : List ℕ × Tree) (x : ImportedName) : Type 0 where
+    pub name : x.name ≡ e.0
+    pub stood : stands first.frames (stamp f e.1) ≡ Some x.label
+    pub captured : IsCaptured libs own first.names.number last (stamp f e.1) x.label
+    pub unmarked : captured.row.marks ≡ []
 
--- so it is of each, in the order of the clauses
-abbrev pub AreRightExports : List LibName → LibName → State → State → FrameNo → List (List ℕ × Tree) → List ImportedName → Type 0
-AreRightExports libs own first last f [] [] = Unit {0}
-AreRightExports libs own first last f (e ∷ es) (x ∷ xs) = IsRightExport libs own first last f e x × AreRightExports libs own first last f es xs
-AreRightExports libs own first last f [] (x ∷ xs) = ⊥
-AreRightExports libs own first last f (e ∷ es) [] = ⊥
+  -- so it is of each, in the order of the clauses
+  abbrev pub AreRightExports : State → State → FrameNo → List (List ℕ × Tree) → List ImportedName → Type 0
+  AreRightExports first last f [] [] = Unit {0}
+  AreRightExports first last f (e ∷ es) (x ∷ xs) = IsRightExport first last f e x × AreRightExports first last f es xs
+  AreRightExports first last f [] (x ∷ xs) = ⊥
+  AreRightExports first last f (e ∷ es) [] = ⊥
 
--- The lines of a record are those of what the first pass took, and their references are right in the last state, whose rows the record has. Its keywords
--- have the expressions that were expanded in the first pass and in the second, and the references of these are right, each to the end of its expression. Its
--- exports are what their identifiers stand for.
-pub record RunIsRight (libs : List LibName) (own : LibName) (records : List CompiledLibrary) (start : State) (at : TopAt)
-    (exports : List (List ℕ × Tree)) (forms : List Tree) (r : CompiledLibrary) : Type 0 where
-  pub taken : Taken
-  pub first : State
-  pub bound : List KeywordExpression
-  pub exported : List ImportedName
-  pub between : State
-  pub told : List NotedLine
-  pub last : State
-  pub takes : top.first_pass (inside records full_room) at forms start ≡ Ok (taken, first)
-  pub taking : Take records (top.body_at at start.library) 0 begun (map (stamp at.frame) forms) start taken first bound
-  pub looks : top.exports at exports first ≡ Ok (exported, between)
-  pub ends : Finish records 0 taken.waiting between told last
-  pub run : lines told ≡ r.run
-  pub frames : r.frames ≡ rows_in last.library last.frames
-  pub right : Each (IsRightLine libs own last) told
-  pub expressions : Each (IsRightExpression libs own) (bound ++ of_lines told)
-  pub keywords : Each (λ (b : Label × Binding). IsBoundTo (bound ++ of_lines told) b.0 b.1) r.bindings
-  pub exports_are : r.exports ≡ exported
-  pub exports_right : AreRightExports libs own first last at.frame exports exported
+module _ (libs : List LibName) (own : LibName) (records : List CompiledLibrary) where
+  -- The lines of a record are those of what the first pass took, and their references are right in the last state, whose rows the record has. Its keywords
+  -- have the expressions that were expanded in the first pass and in the second, and the references of these are right, each to the end of its expression. Its
+  -- exports are what their identifiers stand for.
+  pub record RunIsRight (start : State) (at : TopAt)
+      (exports : List (List ℕ × Tree)) (forms : List Tree) (r : CompiledLibrary) : Type 0 where
+    pub taken : Taken
+    pub first : State
+    pub bound : List KeywordExpression
+    pub exported : List ImportedName
+    pub between : State
+    pub told : List NotedLine
+    pub last : State
+    pub takes : top.first_pass (inside records full_room) at forms start ≡ Ok (taken, first)
+    pub taking : Take records (top.body_at at start.library) 0 (map (stamp at.frame) forms) (taking begun start taken first bound)
+    pub looks : top.exports at exports first ≡ Ok (exported, between)
+    pub ends : Finish records 0 taken.waiting between told last
+    pub run : lines told ≡ r.run
+    pub frames : r.frames ≡ rows_in last.library last.frames
+    pub right : Each (IsRightLine libs own last) told
+    pub expressions : Each (IsRightExpression libs own) (bound ++ of_lines told)
+    pub keywords : Each (λ (b : Label × Binding). IsBoundTo (bound ++ of_lines told) b.0 b.1) r.bindings
+    pub exports_are : r.exports ≡ exported
+    pub exports_right : AreRightExports libs own first last at.frame exports exported
 
 -- So it is of the record of each library with a new name, behind records and codes of texts whose leaves have histories.
 abbrev pub RecordsAreHygienic : Type 0

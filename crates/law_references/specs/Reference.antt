@@ -18,12 +18,13 @@ use Rattle.law_fresh_expansion.specs.Events.{HasKnownEvents}
 use Rattle.base_data.specs.declared.name.Mark.{Mark}
 use Rattle.law_references.specs.Captured.{IsHygienicReference}
 
--- It refers to the label of the binder that captures it, as its history allows.
-pub record NamesItsBinder (s : State) (p : Option Span) (x : List ℕ) (k : LeafContext) (ms : List Mark) (es : List Event) (c : PlainCore) : Type 0 where
-  pub row : Row
-  pub captures : Captures s.frames row (leaf p x k)
-  pub refers : RefersTo s (Some row.label) c
-  pub hygienic : IsHygienicReference s.frames row p x ms es
+module _ (s : State) (p : Option Span) (x : List ℕ) (k : LeafContext) where
+  -- It refers to the label of the binder that captures it, as its history allows.
+  pub record NamesItsBinder (ms : List Mark) (es : List Event) (c : PlainCore) : Type 0 where
+    pub row : Row
+    pub captures : Captures s.frames row (leaf p x k)
+    pub refers : RefersTo s (Some row.label) c
+    pub hygienic : IsHygienicReference s.frames row p x ms es
 
 -- Each identifier that an expansion comes to, whatever form it lies in, becomes such a reference, or it is a use of a keyword.
 abbrev pub ReferencesAreHygienic : Type 0

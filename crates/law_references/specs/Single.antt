@@ -5,6 +5,7 @@ use Rattle.stx_tree.specs.Tree.{Tree}
 use Rattle.core_language.specs.Core.{PlainCore}
 use Rattle.core_language.specs.declared.record.CompiledLibrary.{CompiledLibrary}
 use Rattle.expand_standing.specs.State.{State}
+use Rattle.law_references.specs.Changes.{between, placed}
 use Rattle.law_references.specs.Expands.{Expands}
 use Rattle.law_references.specs.Noted.{Noted}
 
@@ -12,4 +13,4 @@ use Rattle.law_references.specs.Noted.{Noted}
 -- state is left.
 abbrev pub RelationHasOneAnswer : Type 0
 RelationHasOneAnswer = (records : List CompiledLibrary) (place : Span) (level : ℕ) (t : Tree) (s u v : State) (c d : PlainCore) (x y : Noted)
-    → Expands records place level t s c u x → Expands records place level t s d v y → (c ≡ d) × ((u ≡ v) × (x ≡ y))
+    → Expands records (placed place level) t c (between s u x) → Expands records (placed place level) t d (between s v y) → (c ≡ d) × ((u ≡ v) × (x ≡ y))

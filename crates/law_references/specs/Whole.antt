@@ -27,22 +27,24 @@ use Rattle.law_fresh_expansion.specs.Events.{HasKnownEvents}
 use Rattle.law_fresh_expansion.specs.Known.{IsKnown, IsNewAmong}
 use Rattle.law_fresh_expansion.specs.States.{RecordsHold, FreshStateHolds}
 use Rattle.law_references.specs.Captured.{IsHygienicReference}
+use Rattle.law_references.specs.Changes.{between, placed}
 use Rattle.law_references.specs.Expands.{Expands}
 use Rattle.law_references.specs.Namings.{namings}
 use Rattle.law_references.specs.Noted.{Reference, KeywordExpression, Noted, mentioned, named, IsExpression}
 
--- An identifier stands for the label of the binder that captures it, as its history allows, which it had before this name was taken.
-pub record IsCaptured (libs : List LibName) (own : LibName) (n : ℕ) (u : State) (t : Tree) (l : Label) : Type 0 where
-  pub span : Option Span
-  pub symbol : List ℕ
-  pub context : LeafContext
-  pub leaf : t ≡ tree.leaf span symbol context
-  pub history : HasKnownEvents libs own n context
-  pub now : stands u.frames t ≡ Some l
-  pub row : Row
-  pub captures : Captures u.frames row t
-  pub binder : row.label ≡ l
-  pub hygienic : IsHygienicReference u.frames row span symbol history.marks history.events
+module _ (libs : List LibName) (own : LibName) where
+  -- An identifier stands for the label of the binder that captures it, as its history allows, which it had before this name was taken.
+  pub record IsCaptured (n : ℕ) (u : State) (t : Tree) (l : Label) : Type 0 where
+    pub span : Option Span
+    pub symbol : List ℕ
+    pub context : LeafContext
+    pub leaf : t ≡ tree.leaf span symbol context
+    pub history : HasKnownEvents libs own n context
+    pub now : stands u.frames t ≡ Some l
+    pub row : Row
+    pub captures : Captures u.frames row t
+    pub binder : row.label ≡ l
+    pub hygienic : IsHygienicReference u.frames row span symbol history.marks history.events
 
 -- the template that has no more than this pattern variable
 abbrev pub IsOnlyVariable : State → Label → PlainCore → Type 0
@@ -66,14 +68,15 @@ pub record IsRightExpression (libs : List LibName) (own : LibName) (e : KeywordE
 abbrev pub KeepsOnly : List KeywordExpression → State → State → Type 0
 KeepsOnly es s u = (l : Label) (c : PlainCore) → expression_of l (stage_of u) ≡ Some c → (expression_of l (stage_of s) ≡ Some c) ⊎ IsExpression es l c
 
--- The core code of a form names, place by place, what the identifiers stand for that became these references: those variables it refers to or assigns,
--- and those pattern variables its templates have. So do the expressions of the keywords that were bound in it, and these are all that came to be kept.
-pub record Tells (libs : List LibName) (own : LibName) (c : PlainCore) (s u : State) (x : Noted) : Type 0 where
-  pub all : namings c ≡ named x.references
-  pub mentions : mentions c ≡ mentioned x.references
-  pub right : Each (IsRightReference libs own u) x.references
-  pub expressions : Each (IsRightExpression libs own) x.expressions
-  pub kept : KeepsOnly x.expressions s u
+module _ (libs : List LibName) (own : LibName) where
+  -- The core code of a form names, place by place, what the identifiers stand for that became these references: those variables it refers to or assigns,
+  -- and those pattern variables its templates have. So do the expressions of the keywords that were bound in it, and these are all that came to be kept.
+  pub record Tells (c : PlainCore) (s u : State) (x : Noted) : Type 0 where
+    pub all : namings c ≡ named x.references
+    pub mentions : mentions c ≡ mentioned x.references
+    pub right : Each (IsRightReference libs own u) x.references
+    pub expressions : Each (IsRightExpression libs own) x.expressions
+    pub kept : KeepsOnly x.expressions s u
 
 -- So it is of each form that the expansion of a new library comes to.
 abbrev pub FormsAreHygienic : Type 0
@@ -82,4 +85,4 @@ FormsAreHygienic = (libs : List LibName) (own : LibName) (records : List Compile
     → FreshStateHolds own (IsKnown libs own) (HasKnownEvents libs own) s.names.number s
     → RecordsHold (HasKnownEvents libs own s.names.number) records → TreeHolds (HasKnownEvents libs own s.names.number) t
     → (inside records room).form (site_at place level depth) t s ≡ Ok (c, u)
-    → (x : Noted) × (Expands records place level t s c u x × Tells libs own c s u x)
+    → (x : Noted) × (Expands records (placed place level) t c (between s u x) × Tells libs own c s u x)
