@@ -21,7 +21,7 @@ use Rattle.expand_heads.specs.declared.taken.Taken.{Taken}
 use Rattle.expand_heads.specs.declared.taken.Waiting.{Waiting}
 use Rattle.expand_heads.specs.declared.taken.Waits.{Waits}
 use Rattle.expand_forms.specs.Forms.{procedure_parts, let_syntax_parts}
-use Rattle.law_references.specs.Changes.{between, placed, taking}
+use Rattle.law_references.specs.Changes.{placed, between, body_change}
 use Rattle.law_references.specs.Expands as derivation
 use Rattle.law_references.specs.Expands.{counted, QuasiCodes, quotes, has_no_insert, has_inserts, Expands, settles, Performs, refers, is_done, is_template, calls, tests, chooses, assigns, follows, makes, makes_cases, binds_all, matches_one, has_keywords, fills, Expand, CaseBinds, binds_formals, ExpandedBind, Starts, starts_with, ExpansionStart, ExpandsClause, matches_pattern, Match, Asks, KeywordMeans, means, Mean, BindsKeywords, binds_keywords, TakesForm, takes, Acts, is_taken, takes_forms, defines_keyword, takes_among, Take, IsBody, is_body, Finish, Ends, declares, defines, defines_procedure, is_expression}
 use Rattle.law_references.specs.Noted.{KeywordExpression, Noted, NotedLine}
@@ -129,14 +129,14 @@ module _ (rs : List CompiledLibrary) where
         let k = count-keywords_made h in
         omega (arith, a, k)
 
-    count-item_made : {at : BodyAt} {depth : ℕ} {done end : Taken} {t : Tree} {s u : State} {es : List KeywordExpression} (d : TakesForm rs at depth t (taking done s end u es)) → item_made d + u.uses_left ≡ s.uses_left
+    count-item_made : {at : BodyAt} {depth : ℕ} {done end : Taken} {t : Tree} {s u : State} {es : List KeywordExpression} (d : TakesForm rs at depth t (body_change done s end u es)) → item_made d + u.uses_left ≡ s.uses_left
     count-item_made (takes {at = at} {depth = depth} {done = done} {after = between} {t = t} {d = d} {s = s} {v = v} e h) =
         let a = item-by rs depth at done between t s v d e in
         let now = a.left in
         let k = count-made_of_item h in
         omega (arith, now, k)
 
-    count-made_of_item : {at : BodyAt} {depth : ℕ} {done end : Taken} {t : Tree} {i : Item} {s u : State} {es : List KeywordExpression} (d : Acts rs at depth t i (taking done s end u es)) → made_of_item d + u.uses_left ≡ s.uses_left
+    count-made_of_item : {at : BodyAt} {depth : ℕ} {done end : Taken} {t : Tree} {i : Item} {s u : State} {es : List KeywordExpression} (d : Acts rs at depth t i (body_change done s end u es)) → made_of_item d + u.uses_left ≡ s.uses_left
     count-made_of_item is_taken = omega arith
     count-made_of_item (takes_forms h) = count-items_made h
     count-made_of_item (defines_keyword {at = at} {done = done} {t = t} {b = b} {s = s} e h) =
@@ -145,7 +145,7 @@ module _ (rs : List CompiledLibrary) where
         omega (arith, a, k)
     count-made_of_item (takes_among h g) = let k = count-scope_made h in let j = count-items_made g in omega (arith, k, j)
 
-    pub count-items_made : {at : BodyAt} {depth : ℕ} {done end : Taken} {ts : List Tree} {s u : State} {es : List KeywordExpression} (d : Take rs at depth ts (taking done s end u es)) → items_made d + u.uses_left ≡ s.uses_left
+    pub count-items_made : {at : BodyAt} {depth : ℕ} {done end : Taken} {ts : List Tree} {s u : State} {es : List KeywordExpression} (d : Take rs at depth ts (body_change done s end u es)) → items_made d + u.uses_left ≡ s.uses_left
     count-items_made derivation.none_taken = omega arith
     count-items_made (derivation.more_taken h g) = let k = count-item_made h in let j = count-items_made g in omega (arith, k, j)
 

@@ -17,7 +17,7 @@ use Rattle.expand_forms.specs.declared.expand_uses.PlannedForm.{PlannedForm}
 use Rattle.expand_forms.specs.declared.expand_uses.PlannedItem.{PlannedItem}
 use Rattle.expand_forms.specs.declared.top.TopAt.{TopAt}
 use Rattle.law_uses.specs.Counted.{Becomes, BecomesItem}
-use Rattle.law_references.specs.Changes.{between, placed, taking}
+use Rattle.law_references.specs.Changes.{placed, between, body_change}
 use Rattle.law_references.specs.Expands.{Expands, Take, Finish}
 use Rattle.law_references.specs.Noted.{KeywordExpression, Noted, NotedLine}
 use Rattle.law_references.specs.Records.{RunIsRight}
@@ -48,7 +48,7 @@ pub record UsesAreCountedInWhole : Type 0 where
   pub forms : (rs : List CompiledLibrary) (place : Span) (level : ℕ) (t : Tree) (s u : State) (c : PlainCore) (x : Noted)
       (h : Expands rs (placed place level) t c (between s u x)) → made h + u.uses_left ≡ s.uses_left
   pub first : (rs : List CompiledLibrary) (at : BodyAt) (depth : ℕ) (done end : Taken) (ts : List Tree) (s u : State) (es : List KeywordExpression)
-      (h : Take rs at depth ts (taking done s end u es)) → items_made h + u.uses_left ≡ s.uses_left
+      (h : Take rs at depth ts (body_change done s end u es)) → items_made h + u.uses_left ≡ s.uses_left
   pub second : (rs : List CompiledLibrary) (level : ℕ) (ws : List Waiting) (s u : State) (xs : List NotedLine)
       (h : Finish rs level ws s xs u) → lines_made h + u.uses_left ≡ s.uses_left
   pub libraries : (libs : List LibName) (own : LibName) (records : List CompiledLibrary) (imports : List ImportedName) (codes : Codes) (at : TopAt)

@@ -21,7 +21,7 @@ use Rattle.expand_heads.specs.declared.taken.Taken.{Taken}
 use Rattle.expand_heads.specs.declared.taken.Waiting.{Waiting}
 use Rattle.expand_heads.specs.declared.taken.Waits.{Waits}
 use Rattle.expand_forms.specs.Forms.{procedure_parts, let_syntax_parts}
-use Rattle.law_references.specs.Changes.{between, placed, taking}
+use Rattle.law_references.specs.Changes.{placed, between, body_change}
 use Rattle.law_references.specs.Expands as derivation
 use Rattle.law_references.specs.Expands.{Expands, settles, Performs, refers, is_done, is_template, calls, tests, chooses, assigns}
 use Rattle.law_references.specs.Expands.{follows, makes, makes_cases, binds_all, matches_one, has_keywords, fills, Expand, CaseBinds}
@@ -104,11 +104,11 @@ module _ {rs : List CompiledLibrary} where
     scope_made (binds_keywords e h) = keywords_made h
 
     pub item_made : {at : BodyAt} {depth : ℕ} {done end : Taken} {t : Tree} {s u : State} {es : List KeywordExpression}
-        → TakesForm rs at depth t (taking done s end u es) → ℕ
+        → TakesForm rs at depth t (body_change done s end u es) → ℕ
     item_made (takes {s = s} {v = v} e h) = (s.uses_left - v.uses_left) + made_of_item h
 
     pub made_of_item : {at : BodyAt} {depth : ℕ} {done end : Taken} {t : Tree} {i : Item} {s u : State} {es : List KeywordExpression}
-        → Acts rs at depth t i (taking done s end u es) → ℕ
+        → Acts rs at depth t i (body_change done s end u es) → ℕ
     made_of_item is_taken = 0
     made_of_item (takes_forms h) = items_made h
     made_of_item (defines_keyword e h) = keyword_made h
@@ -116,7 +116,7 @@ module _ {rs : List CompiledLibrary} where
 
     -- the first pass over a body
     pub items_made : {at : BodyAt} {depth : ℕ} {done end : Taken} {ts : List Tree} {s u : State} {es : List KeywordExpression}
-        → Take rs at depth ts (taking done s end u es) → ℕ
+        → Take rs at depth ts (body_change done s end u es) → ℕ
     items_made derivation.none_taken = 0
     items_made (derivation.more_taken h g) = item_made h + items_made g
 

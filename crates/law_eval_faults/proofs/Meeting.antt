@@ -190,13 +190,13 @@ module _ (w : PlainSetting) where
     unfolding tried
     tried-none scope s n = refl
 
-    passed : (cs : PlainClauses) (scope : Place) (s : WorldState) (n : ℕ) (t : WorldState) (m : ℕ) → ArePassed w v cs scope s n t m → tried w E cs v scope s n ≡ faulted no_match t m
-    passed _ _ _ _ _ _ (c.none_is_left {scope} {s} {n}) = tried-none scope s n
-    passed _ _ _ _ _ _ (c.no_match {p} {output} {cs} {scope} {s} {t} {n} {m} e rest) =
+    passed : (cs : PlainClauses) (scope : Place) (s : WorldState) (n : ℕ) (t : WorldState) (m : ℕ) → ArePassed w v scope cs s n t m → tried w E cs v scope s n ≡ faulted no_match t m
+    passed _ scope _ _ _ _ (c.none_is_left {s} {n}) = tried-none scope s n
+    passed _ scope _ _ _ _ (c.no_match {p} {output} {cs} {s} {t} {n} {m} e rest) =
         tried-one p output cs scope s n ∙ ap (λ o. on_match w E (tried w E cs v) (output_given w E output scope) scope s n o) e ∙ passed cs scope s n t m rest
-    passed _ _ _ _ _ _ (c.no_match_before {p} {fender} {output} {cs} {scope} {s} {t} {n} {m} e rest) =
+    passed _ scope _ _ _ _ (c.no_match_before {p} {fender} {output} {cs} {s} {t} {n} {m} e rest) =
         tried-fended p fender output cs scope s n ∙ ap (λ o. on_match w E (tried w E cs v) (fender_asked w E (tried w E cs v) fender output scope) scope s n o) e ∙ passed cs scope s n t m rest
-    passed _ _ _ _ _ _ (c.false_fender {p} {fender} {output} {cs} {scope} {f} {s} {r} {t} {n} {k} {m} e le false-is rest) =
+    passed _ scope _ _ _ _ (c.false_fender {p} {fender} {output} {cs} {f} {s} {r} {t} {n} {k} {m} e le false-is rest) =
         tried-fended p fender output cs scope s n
         ∙ ap (λ o. on_match w E (tried w E cs v) (fender_asked w E (tried w E cs v) fender output scope) scope s n o) e
         ∙ charged_paid s (fender_asked w E (tried w E cs v) fender output scope f s) f.taken n le

@@ -90,19 +90,20 @@ pub data IsBadApply (cells : List Cell) : List Value → Bare → Type 0 where
 abbrev pub with_binds : PatternBinds → Place → WorldState → WorldState
 with_binds f scope s = with_cell (cell.Binds f.binds (Some scope)) s
 
--- Every clause is passed over: its pattern doesn't match, or its fender gives `#f`. To try a clause costs 1, and what its ellipses take is paid for
--- before its fender.
-pub data ArePassed (w : PlainSetting) (v : Value) : PlainClauses → Place → WorldState → ℕ → WorldState → ℕ → Type 0 where
-  none_is_left : {scope : Place} {s : WorldState} {n : ℕ} → ArePassed w v no_clause scope s n s n
-  no_match : {p : PlainPattern} {output : PlainCore} {cs : PlainClauses} {scope : Place} {s t : WorldState} {n m : ℕ}
-      → match_of w.frames s.cells p v ≡ None → ArePassed w v cs scope s n t m → ArePassed w v (clause p output cs) scope s (suc n) t m
-  no_match_before : {p : PlainPattern} {fender output : PlainCore} {cs : PlainClauses} {scope : Place} {s t : WorldState} {n m : ℕ}
-      → match_of w.frames s.cells p v ≡ None → ArePassed w v cs scope s n t m
-      → ArePassed w v (fended p fender output cs) scope s (suc n) t m
-  false_fender : {p : PlainPattern} {fender output : PlainCore} {cs : PlainClauses} {scope : Place} {f : PatternBinds} {s r t : WorldState}
-      {n k m : ℕ} → match_of w.frames s.cells p v ≡ Some f → f.taken ≤ n
-      → eval_of w fender (next_place s) (with_binds f scope s) (n - f.taken) ≡ done (value.Atom (a.Bool false)) r k
-      → ArePassed w v cs scope r k t m → ArePassed w v (fended p fender output cs) scope s (suc n) t m
+module _ (w : PlainSetting) (v : Value) (scope : Place) where
+  -- Every clause is passed over: its pattern doesn't match, or its fender gives `#f`. To try a clause costs 1, and what its ellipses take is paid for
+  -- before its fender.
+  pub data ArePassed : PlainClauses → WorldState → ℕ → WorldState → ℕ → Type 0 where
+    none_is_left : {s : WorldState} {n : ℕ} → ArePassed no_clause s n s n
+    no_match : {p : PlainPattern} {output : PlainCore} {cs : PlainClauses} {s t : WorldState} {n m : ℕ}
+        → match_of w.frames s.cells p v ≡ None → ArePassed cs s n t m → ArePassed (clause p output cs) s (suc n) t m
+    no_match_before : {p : PlainPattern} {fender output : PlainCore} {cs : PlainClauses} {s t : WorldState} {n m : ℕ}
+        → match_of w.frames s.cells p v ≡ None → ArePassed cs s n t m
+        → ArePassed (fended p fender output cs) s (suc n) t m
+    false_fender : {p : PlainPattern} {fender output : PlainCore} {cs : PlainClauses} {f : PatternBinds} {s r t : WorldState}
+        {n k m : ℕ} → match_of w.frames s.cells p v ≡ Some f → f.taken ≤ n
+        → eval_of w fender (next_place s) (with_binds f scope s) (n - f.taken) ≡ done (value.Atom (a.Bool false)) r k
+        → ArePassed cs r k t m → ArePassed (fended p fender output cs) s (suc n) t m
 
 -- The faults that an evaluation in a setting can come to, with the state at the fault:
 pub data IsEvaluationFault (w : PlainSetting) (s : WorldState) : Bare → Type 0 where
@@ -159,5 +160,5 @@ pub record CausesAreFaults : Type 0 where
   pub templates : (w : PlainSetting) (t : PlainTemplate) (span : Span) (scope : Place) (s : WorldState) (n : ℕ) (bs : Binds) (f : Bare)
       → gathered s.cells scope t [] ≡ Some bs → cost_of bs t ≡ Err f → eval_of w (instance t span) scope s (suc n) ≡ faulted f s n
   pub clauses : (w : PlainSetting) (c : PlainCore) (cs : PlainClauses) (span : Span) (scope : Place) (v : Value) (s r t : WorldState)
-      (n k m : ℕ) → eval_of w c scope s n ≡ done v r k → ArePassed w v cs scope r k t m
+      (n k m : ℕ) → eval_of w c scope s n ≡ done v r k → ArePassed w v scope cs r k t m
       → eval_of w (matching c cs span) scope s (suc n) ≡ faulted (record { kind = kind.NoClause; words = [] }) t m

@@ -32,7 +32,7 @@ use Rattle.law_quasi.proofs.Puts.{map_joined}
 use Rattle.law_quasi.proofs.Same.{tail_words}
 use Rattle.law_quasi.proofs.Tails.{has_tail, cut, IsTail, cut_is, tail_no_tail, cut_length, splits_is, elements_at, tail_at}
 use Rattle.law_quasi.proofs.Walked.{is_tail}
-use Rattle.law_inserts.specs.Inserted.{one_insert, all_inserts, leaves_of, splices_of, IsPlainHead, IsInserted, IsRest, AreVectorElements, IsElement, IsKeptElement, HoldsLists, InsertsAreTold}
+use Rattle.law_inserts.specs.Inserted.{one_insert, all_inserts, leaves_of, splices_of, levels, IsPlainHead, IsInserted, IsRest, AreVectorElements, IsElement, IsKeptElement, HoldsLists, InsertsAreTold}
 use Rattle.law_inserts.specs.Inserted as r
 
 -- Trees without spans.
@@ -279,30 +279,30 @@ module _ (w : Looked) where
   tail-same : (a d : Tree) → report.is_tail w.words a d ≡ is_tail w.words a d
   tail-same a d = ap (λ b. b && is_some (only d)) (tail_words (w.words a))
 
-  one-more-rest : {n m : ℕ} {is js ks : List Insert} (s : Option Span) (a d u : Tree) {us : List Tree} (vs : List Tree) → is_tail w.words a d ≡ false → IsElement w m is a us js → IsRest w n m js d (chain vs u) ks → IsRest w n m is (pair s a d) (chain (us ++ vs) u) ks
-  one-more-rest {n} {m} {is} {js} {ks} s a d u {us} vs e i rest = subst (λ x. IsRest w n m is (pair s a d) x ks) (sym (chain-append us vs u)) (r.another (tail-same a d ∙ e) i rest)
+  one-more-rest : {n m : ℕ} {is js ks : List Insert} (s : Option Span) (a d u : Tree) {us : List Tree} (vs : List Tree) → is_tail w.words a d ≡ false → IsElement w m is a us js → IsRest w (levels n m) js d (chain vs u) ks → IsRest w (levels n m) is (pair s a d) (chain (us ++ vs) u) ks
+  one-more-rest {n} {m} {is} {js} {ks} s a d u {us} vs e i rest = subst (λ x. IsRest w (levels n m) is (pair s a d) x ks) (sym (chain-append us vs u)) (r.another (tail-same a d ∙ e) i rest)
 
-  rest-flat : (d : Tree) {n m : ℕ} {is mid js : List Insert} {us : List Tree} {u : Tree} → has_tail w.words d ≡ false → Elements m is (elements d) us mid → IsInserted w n mid (tail_of d) u js → IsRest w n m is d (chain us u) js
+  rest-flat : (d : Tree) {n m : ℕ} {is mid js : List Insert} {us : List Tree} {u : Tree} → has_tail w.words d ≡ false → Elements m is (elements d) us mid → IsInserted w n mid (tail_of d) u js → IsRest w (levels n m) is d (chain us u) js
   rest-flat (atom s a) h no_more i = r.an_end refl i
   rest-flat (leaf s x c) h no_more i = r.an_end refl i
   rest-flat (vector s d) h no_more i = r.an_end refl i
   rest-flat (pair s a d) {u = u} h (one_more {vs = vs} e es) i = let b = neither-if (is_tail w.words a d) (has_tail w.words d) h in one-more-rest s a d u vs b.0 e (rest-flat d b.1 es i)
 
-  rest-split : (d : Tree) {n m : ℕ} {is mid js : List Insert} {us : List Tree} {u : Tree} → has_tail w.words d ≡ true → Elements m is (take (cut w.words d) (elements d)) us mid → IsInserted w n mid (rest_at (cut w.words d) d) u js → IsRest w n m is d (chain us u) js
+  rest-split : (d : Tree) {n m : ℕ} {is mid js : List Insert} {us : List Tree} {u : Tree} → has_tail w.words d ≡ true → Elements m is (take (cut w.words d) (elements d)) us mid → IsInserted w n mid (rest_at (cut w.words d) d) u js → IsRest w (levels n m) is d (chain us u) js
   rest-split (atom s a) h es i = absurd (cc)
   rest-split (leaf s x c) h es i = absurd (cc)
   rest-split (vector s d) h es i = absurd (cc)
   rest-split (pair s a d) {n} {m} {is} {mid} {js} {us} {u} h es i = by (is_tail w.words a d) is mid us refl h es i (λ is us k es i. rest-split d k es i)
     where
       by : (b : Bool) (is mid : List Insert) (us : List Tree) → is_tail w.words a d ≡ b → (if b then true else has_tail w.words d) ≡ true → Elements m is (take (if b then 0 else suc (cut w.words d)) (a ∷ elements d)) us mid → IsInserted w n mid (rest_at (if b then 0 else suc (cut w.words d)) (pair s a d)) u js
-          → ((is : List Insert) (us : List Tree) → has_tail w.words d ≡ true → Elements m is (take (cut w.words d) (elements d)) us mid → IsInserted w n mid (rest_at (cut w.words d) d) u js → IsRest w n m is d (chain us u) js)
-          → IsRest w n m is (pair s a d) (chain us u) js
+          → ((is : List Insert) (us : List Tree) → has_tail w.words d ≡ true → Elements m is (take (cut w.words d) (elements d)) us mid → IsInserted w n mid (rest_at (cut w.words d) d) u js → IsRest w (levels n m) is d (chain us u) js)
+          → IsRest w (levels n m) is (pair s a d) (chain us u) js
       by true is _ _ e k no_more i rest = r.a_tail (tail-same a d ∙ e) i
       by false is mid _ e k (one_more {js = js} {us = us} {vs = vs} x xs) i rest = one-more-rest s a d u vs e x (rest js vs k xs i)
 
   -- what the first element and the rest give
   whole-list : {n : ℕ} {is mid ks : List Insert} (s : Option Span) (a d u : Tree) (ts us : List Tree) → IsPlainHead n (w.words a) → ((e : Tree) → w.words a ≡ word.Escape → IsList (e ∷ []) d → ⊥)
-      → Elements (level_behind (w.words a) n) is (a ∷ ts) us mid → ((js : List Insert) (vs : List Tree) → Elements (level_behind (w.words a) n) js ts vs mid → IsRest w n (level_behind (w.words a) n) js d (chain vs u) ks)
+      → Elements (level_behind (w.words a) n) is (a ∷ ts) us mid → ((js : List Insert) (vs : List Tree) → Elements (level_behind (w.words a) n) js ts vs mid → IsRest w (levels n (level_behind (w.words a) n)) js d (chain vs u) ks)
       → IsInserted w n is (pair s a d) (chain us u) ks
   whole-list {n} {is} {mid} {ks} s a d u ts _ head esc (one_more {js = js} {us = us} {vs = vs} e es) rest =
       subst (λ x. IsInserted w n is (pair s a d) x ks) (sym (chain-append us vs u)) (r.a_list head esc e (rest js vs es))

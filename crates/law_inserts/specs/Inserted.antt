@@ -38,50 +38,59 @@ abbrev pub IsPlainHead : ℕ → QuasiWord → Type 0
 IsPlainHead zero x = (x ≡ word.Lower → ⊥) × (x ≡ word.Splice → ⊥)
 IsPlainHead (suc n) x = Unit {0}
 
--- Forms at a level, from the inserts before them to those behind them.
-mutual
-  pub data IsInserted (w : Looked) : ℕ → List Insert → Tree → Tree → List Insert → Type 0 where
-    a_datum : {n : ℕ} {is : List Insert} {span : Option Span} {a : Atom} → IsInserted w n is (atom span a) (atom None a) is
-    an_identifier : {n : ℕ} {is : List Insert} {span : Option Span} {x : List ℕ} {c : LeafContext} → IsInserted w n is (leaf span x c) (leaf None x c) is
-    -- `(unsyntax e)`
-    an_insert : {is : List Insert} {h e t : Tree} → w.words h ≡ word.Lower → IsList (h ∷ e ∷ []) t
-        → IsInserted w 0 is t (insert_leaf (length is)) (one_insert 0 e is)
-    -- `(... template)` stays as it is
-    an_escape : {n : ℕ} {is : List Insert} {h u t : Tree} → w.words h ≡ word.Escape → IsList (h ∷ u ∷ []) t → IsInserted w n is t (unspanned t) is
-    a_list : {n : ℕ} {is js ks : List Insert} {span : Option Span} {a d u : Tree} {us : List Tree}
-        → IsPlainHead n (w.words a) → ((e : Tree) → w.words a ≡ word.Escape → IsList (e ∷ []) d → ⊥)
-        → IsElement w (level_behind (w.words a) n) is a us js → IsRest w n (level_behind (w.words a) n) js d u ks
-        → IsInserted w n is (pair span a d) (chain us u) ks
-    a_vector : {n : ℕ} {is js : List Insert} {span : Option Span} {d u : Tree} → AreVectorElements w n is d u js
-        → IsInserted w n is (vector span d) (vector None u) js
+-- the level of the rest of a list, and that of its elements
+pub record RestLevels : Type 0 where
+  pub rest : ℕ
+  pub elements : ℕ
 
-  -- the rest of a list at the first of these levels, whose elements are at the second
-  pub data IsRest (w : Looked) : ℕ → ℕ → List Insert → Tree → Tree → List Insert → Type 0 where
-    an_end : {n m : ℕ} {is js : List Insert} {d u : Tree} → is_pair d ≡ false → IsInserted w n is d u js → IsRest w n m is d u js
-    -- `(1 . (unsyntax x))` is read as `(1 unsyntax x)`
-    a_tail : {n m : ℕ} {is js : List Insert} {span : Option Span} {a d u : Tree} → is_tail w.words a d ≡ true
-        → IsInserted w n is (pair span a d) u js → IsRest w n m is (pair span a d) u js
-    another : {n m : ℕ} {is js ks : List Insert} {span : Option Span} {a d u : Tree} {us : List Tree}
-        → is_tail w.words a d ≡ false → IsElement w m is a us js → IsRest w n m js d u ks → IsRest w n m is (pair span a d) (chain us u) ks
+abbrev pub levels : ℕ → ℕ → RestLevels
+levels n m = record { rest = n; elements = m }
 
-  -- the elements of a vector
-  pub data AreVectorElements (w : Looked) : ℕ → List Insert → Tree → Tree → List Insert → Type 0 where
-    no_item : {n : ℕ} {is : List Insert} {span : Option Span} → AreVectorElements w n is (atom span Nil) nil is
-    an_item : {n : ℕ} {is js ks : List Insert} {span : Option Span} {a d u : Tree} {us : List Tree}
-        → IsElement w n is a us js → AreVectorElements w n js d u ks → AreVectorElements w n is (pair span a d) (chain us u) ks
+module _ (w : Looked) where
+  -- Forms at a level, from the inserts before them to those behind them.
+  mutual
+    pub data IsInserted : ℕ → List Insert → Tree → Tree → List Insert → Type 0 where
+      a_datum : {n : ℕ} {is : List Insert} {span : Option Span} {a : Atom} → IsInserted n is (atom span a) (atom None a) is
+      an_identifier : {n : ℕ} {is : List Insert} {span : Option Span} {x : List ℕ} {c : LeafContext} → IsInserted n is (leaf span x c) (leaf None x c) is
+      -- `(unsyntax e)`
+      an_insert : {is : List Insert} {h e t : Tree} → w.words h ≡ word.Lower → IsList (h ∷ e ∷ []) t
+          → IsInserted 0 is t (insert_leaf (length is)) (one_insert 0 e is)
+      -- `(... template)` stays as it is
+      an_escape : {n : ℕ} {is : List Insert} {h u t : Tree} → w.words h ≡ word.Escape → IsList (h ∷ u ∷ []) t → IsInserted n is t (unspanned t) is
+      a_list : {n : ℕ} {is js ks : List Insert} {span : Option Span} {a d u : Tree} {us : List Tree}
+          → IsPlainHead n (w.words a) → ((e : Tree) → w.words a ≡ word.Escape → IsList (e ∷ []) d → ⊥)
+          → IsElement (level_behind (w.words a) n) is a us js → IsRest (levels n (level_behind (w.words a) n)) js d u ks
+          → IsInserted n is (pair span a d) (chain us u) ks
+      a_vector : {n : ℕ} {is js : List Insert} {span : Option Span} {d u : Tree} → AreVectorElements n is d u js
+          → IsInserted n is (vector span d) (vector None u) js
 
-  -- an element of a list or vector, and the trees in its place
-  pub data IsElement (w : Looked) : ℕ → List Insert → Tree → List Tree → List Insert → Type 0 where
-    each : {is : List Insert} {h t : Tree} {es : List Tree} → w.words h ≡ word.Lower → IsList (h ∷ es) t
-        → IsElement w 0 is t (leaves_of es is) (all_inserts 0 es is)
-    spliced : {is : List Insert} {h t : Tree} {es : List Tree} → w.words h ≡ word.Splice → IsList (h ∷ es) t
-        → IsElement w 0 is t (splices_of (unspanned w.dots) es is) (all_inserts 1 es is)
-    itself : {n : ℕ} {is js : List Insert} {t u : Tree} → IsKeptElement w n t → IsInserted w n is t u js → IsElement w n is t (u ∷ []) js
+    -- the rest of a list at the first of these levels, whose elements are at the second
+    pub data IsRest : RestLevels → List Insert → Tree → Tree → List Insert → Type 0 where
+      an_end : {n m : ℕ} {is js : List Insert} {d u : Tree} → is_pair d ≡ false → IsInserted n is d u js → IsRest (levels n m) is d u js
+      -- `(1 . (unsyntax x))` is read as `(1 unsyntax x)`
+      a_tail : {n m : ℕ} {is js : List Insert} {span : Option Span} {a d u : Tree} → is_tail w.words a d ≡ true
+          → IsInserted n is (pair span a d) u js → IsRest (levels n m) is (pair span a d) u js
+      another : {n m : ℕ} {is js ks : List Insert} {span : Option Span} {a d u : Tree} {us : List Tree}
+          → is_tail w.words a d ≡ false → IsElement m is a us js → IsRest (levels n m) js d u ks → IsRest (levels n m) is (pair span a d) (chain us u) ks
 
-  -- no list behind `unsyntax` or `unsyntax-splicing`, where these are reached
-  pub data IsKeptElement (w : Looked) : ℕ → Tree → Type 0 where
-    further_in : {n : ℕ} {t : Tree} → IsKeptElement w (suc n) t
-    no_form : {t : Tree} → ((h : Tree) (es : List Tree) → IsList (h ∷ es) t → IsPlainHead 0 (w.words h)) → IsKeptElement w 0 t
+    -- the elements of a vector
+    pub data AreVectorElements : ℕ → List Insert → Tree → Tree → List Insert → Type 0 where
+      no_item : {n : ℕ} {is : List Insert} {span : Option Span} → AreVectorElements n is (atom span Nil) nil is
+      an_item : {n : ℕ} {is js ks : List Insert} {span : Option Span} {a d u : Tree} {us : List Tree}
+          → IsElement n is a us js → AreVectorElements n js d u ks → AreVectorElements n is (pair span a d) (chain us u) ks
+
+    -- an element of a list or vector, and the trees in its place
+    pub data IsElement : ℕ → List Insert → Tree → List Tree → List Insert → Type 0 where
+      each : {is : List Insert} {h t : Tree} {es : List Tree} → w.words h ≡ word.Lower → IsList (h ∷ es) t
+          → IsElement 0 is t (leaves_of es is) (all_inserts 0 es is)
+      spliced : {is : List Insert} {h t : Tree} {es : List Tree} → w.words h ≡ word.Splice → IsList (h ∷ es) t
+          → IsElement 0 is t (splices_of (unspanned w.dots) es is) (all_inserts 1 es is)
+      itself : {n : ℕ} {is js : List Insert} {t u : Tree} → IsKeptElement n t → IsInserted n is t u js → IsElement n is t (u ∷ []) js
+
+    -- no list behind `unsyntax` or `unsyntax-splicing`, where these are reached
+    pub data IsKeptElement : ℕ → Tree → Type 0 where
+      further_in : {n : ℕ} {t : Tree} → IsKeptElement (suc n) t
+      no_form : {t : Tree} → ((h : Tree) (es : List Tree) → IsList (h ∷ es) t → IsPlainHead 0 (w.words h)) → IsKeptElement 0 t
 
 -- each vector in a form holds a list that ends in the empty list
 abbrev pub HoldsLists : Tree → Type 0

@@ -42,7 +42,7 @@ use Rattle.expand_heads.specs.declared.taken.Taken.{Taken}
 use Rattle.expand_heads.specs.declared.taken.Waiting.{Waiting}
 use Rattle.expand_heads.specs.declared.taken.Waits.{Waits}
 use Rattle.expand_forms.specs.Forms.{procedure_parts, let_syntax_parts}
-use Rattle.law_references.specs.Changes.{between, placed, taking}
+use Rattle.law_references.specs.Changes.{placed, between, body_change}
 use Rattle.law_references.specs.Expands.{counted, QuasiCodes, quotes, has_no_insert, has_inserts, Expands, settles, Performs, refers, is_done, is_template, calls, tests, chooses, assigns, follows, makes, makes_cases, binds_all, matches_one, has_keywords, fills, Expand, CaseBinds, binds_formals, ExpandedBind, Starts, starts_with, ExpansionStart, ExpandsClause, matches_pattern, Match, Asks, KeywordMeans, means, Mean, BindsKeywords, binds_keywords, TakesForm, takes, Acts, is_taken, takes_forms, defines_keyword, takes_among, Take, IsBody, is_body, Finish, Ends, declares, defines, defines_procedure, is_expression}
 use Rattle.law_references.specs.Expands as derivation
 use Rattle.law_references.specs.Noted.{Reference, KeywordExpression, Noted, nothing, only, of_references, of_keywords, both, NotedLine, if_definition, if_expression, of_definitions, of_expressions, of_lines}
@@ -234,19 +234,19 @@ module _ (rs : List CompiledLibrary) where
         let a = from-counted s v (grew-given (counted s) e (bind-keywords-grew (record { 0 = s.names }) at.place at.level bs (counted s))) in
         kept-from s v u es a (mean-kept h)
 
-    takes-kept : {at : BodyAt} {depth : ℕ} {done end : Taken} {t : Tree} {s u : State} {es : List KeywordExpression} → TakesForm rs at depth t (taking done s end u es) → Kept s u es
+    takes-kept : {at : BodyAt} {depth : ℕ} {done end : Taken} {t : Tree} {s u : State} {es : List KeywordExpression} → TakesForm rs at depth t (body_change done s end u es) → Kept s u es
     takes-kept (takes {at = at} {depth = depth} {done = done} {t = t} {s = s} {v = v} {u = u} {es = es} e h) =
         let a = grew-given s e (expand_uses-item-grew rs at depth done t s) in
         kept-from s v u es a (acts-kept h)
 
-    acts-kept : {at : BodyAt} {depth : ℕ} {done end : Taken} {t : Tree} {i : Item} {s u : State} {es : List KeywordExpression} → Acts rs at depth t i (taking done s end u es) → Kept s u es
+    acts-kept : {at : BodyAt} {depth : ℕ} {done end : Taken} {t : Tree} {i : Item} {s u : State} {es : List KeywordExpression} → Acts rs at depth t i (body_change done s end u es) → Kept s u es
     acts-kept (is_taken {s = s}) = record { grows = grows-same s s refl; linked = tt }
     acts-kept (takes_forms h) = take-kept h
     acts-kept (defines_keyword {at = at} {done = done} {t = t} {b = b} {x = x} {s = s} {v = v} {u = u} {es = es} e h) =
         kept-from s v u es (grew-given s e (define-keyword-grew at done t b s)) (means-kept h)
     acts-kept (takes_among {s = s} {v = v} {u = u} {es = es} {others = others} h g) = kept-both s v u es others (keywords-kept h) (take-kept g)
 
-    pub take-kept : {at : BodyAt} {depth : ℕ} {done end : Taken} {ts : List Tree} {s u : State} {es : List KeywordExpression} → Take rs at depth ts (taking done s end u es) → Kept s u es
+    pub take-kept : {at : BodyAt} {depth : ℕ} {done end : Taken} {ts : List Tree} {s u : State} {es : List KeywordExpression} → Take rs at depth ts (body_change done s end u es) → Kept s u es
     take-kept (derivation.none_taken {s = s}) = record { grows = grows-same s s refl; linked = tt }
     take-kept (derivation.more_taken {s = s} {v = v} {u = u} {es = es} {others = others} h g) = kept-both s v u es others (takes-kept h) (take-kept g)
 

@@ -24,7 +24,7 @@ use Rattle.law_fresh.specs.Leaves.{CodesHold}
 use Rattle.law_fresh_expansion.specs.Events.{HasEvents}
 use Rattle.law_fresh_expansion.specs.Known.{libraries_of, IsNewAmong}
 use Rattle.law_fresh_expansion.specs.RecordMarks.{HasOnly, RecordHasOnly, WasRead}
-use Rattle.law_references.specs.Changes.{between, taking}
+use Rattle.law_references.specs.Changes.{body_change}
 use Rattle.law_references.specs.Expands.{Take, Finish}
 use Rattle.law_references.specs.Noted.{KeywordExpression, NotedLine, lines, of_lines}
 use Rattle.law_links.specs.Links.{link_to, IsLink, AreLinked, ExpressionsLinked}
@@ -46,7 +46,7 @@ module _ (records : List CompiledLibrary) where
     pub between : State
     pub told : List NotedLine
     pub last : State
-    pub taking : Take records (top.body_at at start.library) 0 (map (stamp at.frame) forms) (taking begun start taken first bound)
+    pub taking : Take records (top.body_at at start.library) 0 (map (stamp at.frame) forms) (body_change begun start taken first bound)
     pub looks : top.exports at exports first ≡ Ok (exported, between)
     pub ends : Finish records 0 taken.waiting between told last
     pub run : lines told ≡ l.library.run

@@ -49,7 +49,7 @@ use Rattle.expand_forms.specs.ExpandUses.{expand_item_uses}
 use Rattle.expand_forms.specs.Forms.{procedure_parts, let_syntax_parts}
 use Rattle.expand_forms.specs.declared.expand_uses.PlannedForm.{PlannedForm}
 use Rattle.expand_forms.specs.declared.expand_uses.PlannedItem.{PlannedItem}
-use Rattle.law_references.specs.Changes.{between, placed, taking}
+use Rattle.law_references.specs.Changes.{placed, between, body_change}
 use Rattle.law_references.specs.Expands.{counted, QuasiCodes, quotes, has_no_insert, has_inserts, Expands, settles, Performs, refers, is_done, is_template, calls, tests, chooses, assigns, follows, makes, makes_cases, binds_all, matches_one, has_keywords, fills, Expand, none, more, CaseBinds, binds_formals, ExpandedBind, no_case, case}
 use Rattle.law_references.specs.Expands.{Starts, starts_with, ExpansionStart, no_init, init, ExpandsClause, matches_pattern, Match, no_clause, clause, Asks, asks_nothing, asks_first, KeywordMeans, means, Mean, no_keyword, keyword, BindsKeywords, binds_keywords, TakesForm, takes, Acts, is_taken, takes_forms, defines_keyword, takes_among, Take, none_taken, more_taken}
 use Rattle.law_references.specs.Expands.{IsBody, is_body, Finish, no_line, next_line, Ends, declares, defines, defines_procedure, is_expression}
@@ -236,11 +236,11 @@ module _ (rs : List CompiledLibrary) where
   keywords-from : {place : Span} {level : ℕ} {recursive : Bool} {f : FrameNo} {bs cs : List BoundSpec} {s v u : State} {es : List KeywordExpression} → bs ≡ cs → s ≡ v → Mean rs (placed place level) recursive f cs (between v u es) → Mean rs (placed place level) recursive f bs (between s u es)
   keywords-from {place} {level} {recursive} {f} {bs} {cs} {s} {v} {u} {es} e g h = subst (λ (z : List BoundSpec). Mean rs (placed place level) recursive f z (between s u es)) (sym e) (subst (λ (z : State). Mean rs (placed place level) recursive f cs (between z u es)) (sym g) h)
 
-  item-from : {depth : ℕ} {done end : Taken} {u : State} {es : List KeywordExpression} (p q : PlannedItem × State) → p ≡ q → Acts rs q.0.at depth q.0.form q.0.item (taking done q.1 end u es) → Acts rs p.0.at depth p.0.form p.0.item (taking done p.1 end u es)
-  item-from {depth} {done} {end} {u} {es} p q e h = subst (λ (z : PlannedItem × State). Acts rs z.0.at depth z.0.form z.0.item (taking done z.1 end u es)) (sym e) h
+  item-from : {depth : ℕ} {done end : Taken} {u : State} {es : List KeywordExpression} (p q : PlannedItem × State) → p ≡ q → Acts rs q.0.at depth q.0.form q.0.item (body_change done q.1 end u es) → Acts rs p.0.at depth p.0.form p.0.item (body_change done p.1 end u es)
+  item-from {depth} {done} {end} {u} {es} p q e h = subst (λ (z : PlannedItem × State). Acts rs z.0.at depth z.0.form z.0.item (body_change done z.1 end u es)) (sym e) h
 
-  take-from : {at : BodyAt} {depth : ℕ} {done end : Taken} {ts ys : List Tree} {s v u : State} {es : List KeywordExpression} → ts ≡ ys → s ≡ v → Take rs at depth ys (taking done v end u es) → Take rs at depth ts (taking done s end u es)
-  take-from {at} {depth} {done} {end} {ts} {ys} {s} {v} {u} {es} e f h = subst (λ (z : List Tree). Take rs at depth z (taking done s end u es)) (sym e) (subst (λ (z : State). Take rs at depth ys (taking done z end u es)) (sym f) h)
+  take-from : {at : BodyAt} {depth : ℕ} {done end : Taken} {ts ys : List Tree} {s v u : State} {es : List KeywordExpression} → ts ≡ ys → s ≡ v → Take rs at depth ys (body_change done v end u es) → Take rs at depth ts (body_change done s end u es)
+  take-from {at} {depth} {done} {end} {ts} {ys} {s} {v} {u} {es} e f h = subst (λ (z : List Tree). Take rs at depth z (body_change done s end u es)) (sym e) (subst (λ (z : State). Take rs at depth ys (body_change done z end u es)) (sym f) h)
 
   lines-from : {level : ℕ} {ws : List Waiting} {s v u : State} {xs : List NotedLine} → s ≡ v → Finish rs level ws v xs u → Finish rs level ws s xs u
   lines-from {level} {ws} {s} {v} {u} {xs} e h = subst (λ (z : State). Finish rs level ws z xs u) (sym e) h
@@ -376,12 +376,12 @@ module _ (rs : List CompiledLibrary) where
         let p = ok-same (xs, v) (xs', v') (sym e ∙ e') in
         (refl, one-mean a (keywords-from (λ i. (p i).0) (λ i. (p i).1) a'))
 
-    one-taken : {at : BodyAt} {depth depth' : ℕ} {done done' end end' : Taken} {t : Tree} {s u v : State} {es fs : List KeywordExpression} → TakesForm rs at depth t (taking done s end u es) → TakesForm rs at depth' t (taking done' s end' v fs) → shallow done ≡ shallow done' → Same (shallow end) (shallow end') u v es fs
+    one-taken : {at : BodyAt} {depth depth' : ℕ} {done done' end end' : Taken} {t : Tree} {s u v : State} {es fs : List KeywordExpression} → TakesForm rs at depth t (body_change done s end u es) → TakesForm rs at depth' t (body_change done' s end' v fs) → shallow done ≡ shallow done' → Same (shallow end) (shallow end') u v es fs
     one-taken (takes {at = at} {depth = depth} {done = done} {after = after} {t = t} {d = d} {s = s} {v = v} e a) (takes {depth = depth'} {done = done'} {after = after'} {d = d'} {v = v'} e' a') same =
         let p = items-same at depth depth' done done' after after' t d d' s v v' e e' same in
         one-act a (item-from (d, v) (d', v') (λ i. ((p i).0.1, (p i).1)) a') (λ i. (p i).0.0)
 
-    one-act : {at : BodyAt} {depth depth' : ℕ} {done done' end end' : Taken} {t : Tree} {z : Item} {s u v : State} {es fs : List KeywordExpression} → Acts rs at depth t z (taking done s end u es) → Acts rs at depth' t z (taking done' s end' v fs) → shallow done ≡ shallow done' → Same (shallow end) (shallow end') u v es fs
+    one-act : {at : BodyAt} {depth depth' : ℕ} {done done' end end' : Taken} {t : Tree} {z : Item} {s u v : State} {es fs : List KeywordExpression} → Acts rs at depth t z (body_change done s end u es) → Acts rs at depth' t z (body_change done' s end' v fs) → shallow done ≡ shallow done' → Same (shallow end) (shallow end') u v es fs
     one-act is_taken is_taken same = (same, (refl, refl))
     one-act (takes_forms a) (takes_forms a') same = one-take a a' same
     one-act (defines_keyword {at = at} {done = done} {t = t} {b = b} {x = x} {s = s} {v = v} e a) (defines_keyword {done = done'} {x = x'} {v = v'} e' a') same =
@@ -392,7 +392,7 @@ module _ (rs : List CompiledLibrary) where
         let y = one-take b (take-from x.0 x.1.0 b') same in
         (y.0, (y.1.0, λ i. x.1.1 i ++ y.1.1 i))
 
-    one-take : {at : BodyAt} {depth depth' : ℕ} {done done' end end' : Taken} {ts : List Tree} {s u v : State} {es fs : List KeywordExpression} → Take rs at depth ts (taking done s end u es) → Take rs at depth' ts (taking done' s end' v fs) → shallow done ≡ shallow done' → Same (shallow end) (shallow end') u v es fs
+    one-take : {at : BodyAt} {depth depth' : ℕ} {done done' end end' : Taken} {ts : List Tree} {s u v : State} {es fs : List KeywordExpression} → Take rs at depth ts (body_change done s end u es) → Take rs at depth' ts (body_change done' s end' v fs) → shallow done ≡ shallow done' → Same (shallow end) (shallow end') u v es fs
     one-take none_taken none_taken same = (same, (refl, refl))
     one-take (more_taken a b) (more_taken a' b') same =
         let x = one-taken a a' same in

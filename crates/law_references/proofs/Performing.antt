@@ -74,7 +74,7 @@ use Rattle.law_fresh_expansion.proofs.Plans as plan
 use Rattle.law_fresh_expansion.proofs.PlannedForm as settled
 use Rattle.law_fresh_expansion.proofs.Shapes.{FormalsHold, LambdaHolds, PatternCaseHolds, ShapeHolds, shape-holds}
 use Rattle.law_fresh_expansion.proofs.Standing as standing
-use Rattle.law_references.specs.Changes.{between, placed, taking}
+use Rattle.law_references.specs.Changes.{placed, between, body_change}
 use Rattle.law_references.specs.Expands.{counted, Expands, settles, Performs, refers, is_done, is_template, QuasiCodes, calls, tests, chooses, assigns, follows, makes, makes_cases, matches_one, has_keywords, fills, Expand, none, more, CaseBinds, ExpandedBind, Match}
 use Rattle.law_references.specs.Expands.{KeywordMeans, BindsKeywords, TakesForm, takes, Acts, is_taken, takes_forms, defines_keyword, takes_among, Take}
 use Rattle.law_references.specs.Namings.{Naming, names_variable, namings, all_namings, case_namings, clause_namings}
@@ -420,7 +420,7 @@ module _ (libs : List LibName) (own : LibName) (core : Among libs library.Core) 
       TakenAt n d = items.TakenAt own K J P lives first n d
 
       abbrev ActsMade : BodyAt → ℕ → Taken → Tree → Item → State → Taken → State → Type 0
-      ActsMade at depth d t i s e u = staying.Bound libs own core new (λ es. Acts rs at depth t i (taking d s e u es)) s u
+      ActsMade at depth d t i s e u = staying.Bound libs own core new (λ es. Acts rs at depth t i (body_change d s e u es)) s u
 
       keyword-item-made : (at : BodyAt) (depth : ℕ) (d : Taken) (t : Tree) (b : BindingSpec) (s : State) → F s → standing.SpecAt own K J P lives first s.names.number b
           → Gave (ActsMade at depth d t (of_items.Keyword b) s) (after (define_syntax go at (deeper depth) d (definition_parts t b) s) (λ _. give d))
@@ -434,17 +434,17 @@ module _ (libs : List LibName) (own : LibName) (core : Among libs library.Core) 
           (staying.gave-from libs own core new first (standing.BoundHolds own K J P lives first) s made (items.define-keyword-holds own K J P lives first at (deeper depth) d t b s h k)) (define-keyword-told at (deeper depth) d t b s))
           (λ x v z. gave-less (λ y u. staying.Bound libs own core new (λ es. KeywordMeans rs (placed at.place at.level) x (between v u es)) v u) (λ y u. ActsMade at depth d t (of_items.Keyword b) s d u) (expand_transformer go (site_at at.place at.level (deeper depth)) x v)
           (walking.means-made libs own core new rs first held room traced at.place at.level (deeper depth) x v (from-to s v h z.0.0.0) z.0.0.1)
-          (λ y u x. staying.bound-from libs own core new (λ es. KeywordMeans rs (placed at.place at.level) _ (between v u es)) (λ es. Acts rs at depth t (of_items.Keyword b) (taking d s d u es)) s v u z.1 x (λ es i. defines_keyword z.0.1 i))))
+          (λ y u x. staying.bound-from libs own core new (λ es. KeywordMeans rs (placed at.place at.level) _ (between v u es)) (λ es. Acts rs at depth t (of_items.Keyword b) (body_change d s d u es)) s v u z.1 x (λ es i. defines_keyword z.0.1 i))))
           (λ x u y. y)
 
       acts-made : (at : BodyAt) (depth : ℕ) (d : Taken) (t : Tree) (i : Item) (s : State) → F s → TakenAt s.names.number d → T s.names.number t → items.ItemAt own K J P lives first s.names.number i → J s.names.number at.frame
           → Gave (ActsMade at depth d t i s) (perform_item go at depth d t i s)
       unfolding perform_item
-      acts-made at depth d t of_items.Nothing s h k g y q = staying.bound-none libs own core new (λ es. Acts rs at depth t of_items.Nothing (taking d s d s es)) s s is_taken (told-self s)
+      acts-made at depth d t of_items.Nothing s h k g y q = staying.bound-none libs own core new (λ es. Acts rs at depth t of_items.Nothing (body_change d s d s es)) s s is_taken (told-self s)
       acts-made at depth d t (of_items.Forms fs) s h k g y q =
           gave-less (walking.TakeMade libs own core new rs at (deeper depth) d fs s) (ActsMade at depth d t (of_items.Forms fs) s) (splice go at (deeper depth) d fs s)
           (walking.take-made libs own core new rs first held room traced at (deeper depth) d fs s h k y q)
-          (λ e u x. staying.bound-from libs own core new (λ es. Take rs at (deeper depth) fs (taking d s e u es)) (λ es. Acts rs at depth t (of_items.Forms fs) (taking d s e u es)) s s u (told-self s) x (λ es i. takes_forms i))
+          (λ e u x. staying.bound-from libs own core new (λ es. Take rs at (deeper depth) fs (body_change d s e u es)) (λ es. Acts rs at depth t (of_items.Forms fs) (body_change d s e u es)) s s u (told-self s) x (λ es i. takes_forms i))
       acts-made at depth d t (of_items.Keyword b) s h k g y q = keyword-item-made at depth d t b s h y
       acts-made at depth d t (of_items.Keywords recursive bs fs) s h k g y q =
           let bound = with_keywords go (site_at at.place at.level (deeper depth)) (let_syntax_parts recursive bs fs) s in
@@ -454,7 +454,7 @@ module _ (libs : List LibName) (own : LibName) (core : Among libs library.Core) 
           (walking.keywords-made libs own core new rs first held room traced at.place at.level (deeper depth) recursive bs fs s h y.0))
           (λ xs v z. gave-less (walking.TakeMade libs own core new rs at (deeper depth) d xs v) (ActsMade at depth d t (of_items.Keywords recursive bs fs) s) (splice go at (deeper depth) d xs v)
           (walking.take-made libs own core new rs first held room traced at (deeper depth) d xs v (from-to s v h z.0.0) (items.taken-up own K J P lives first s.names.number v.names.number z.0.0.stage.up d k) z.0.1 (lives.frames s.names.number v.names.number at.frame z.0.0.stage.up q))
-          (λ e u x. staying.bound-joined libs own core new (λ es. BindsKeywords rs (placed at.place at.level) (let_syntax_parts recursive bs fs) xs (between s v es)) (λ es. Take rs at (deeper depth) xs (taking d v e u es)) (λ es. Acts rs at depth t (of_items.Keywords recursive bs fs) (taking d s e u es)) s v u z.1 x (λ es others i j. takes_among i j)))
+          (λ e u x. staying.bound-joined libs own core new (λ es. BindsKeywords rs (placed at.place at.level) (let_syntax_parts recursive bs fs) xs (between s v es)) (λ es. Take rs at (deeper depth) xs (body_change d v e u es)) (λ es. Acts rs at depth t (of_items.Keywords recursive bs fs) (body_change d s e u es)) s v u z.1 x (λ es others i j. takes_among i j)))
 
       item-made : (at : BodyAt) (depth : ℕ) (d : Taken) (t : Tree) (s : State) → F s → TakenAt s.names.number d → T s.names.number t → J s.names.number at.frame → Gave (walking.TakesMade libs own core new rs at depth d t s) (item go at depth d t s)
       unfolding item
@@ -468,7 +468,7 @@ module _ (libs : List LibName) (own : LibName) (core : Among libs library.Core) 
           (expand_uses-item-told rs depth at d t s))
           (λ p v z. gave-less (ActsMade p.1.at depth p.0 p.1.form p.1.item v) So (perform_item go p.1.at depth p.0 p.1.form p.1.item v)
           (acts-made p.1.at depth p.0 p.1.form p.1.item v (from-to s v h z.0.0.0) z.0.0.1.0 z.0.0.1.1.0 z.0.0.1.1.1.0 z.0.0.1.1.1.1)
-          (λ e u y. staying.bound-from libs own core new (λ es. Acts rs p.1.at depth p.1.form p.1.item (taking p.0 v e u es)) (λ es. TakesForm rs at depth t (taking d s e u es)) s v u z.1 y (λ es i. takes z.0.1 i)))))
+          (λ e u y. staying.bound-from libs own core new (λ es. Acts rs p.1.at depth p.1.form p.1.item (body_change p.0 v e u es)) (λ es. TakesForm rs at depth t (body_change d s e u es)) s v u z.1 y (λ es i. takes z.0.1 i)))))
 
     -- so it is however deep forms nest
     pub all-traced : (first : ℕ) (held : RecordsHold (P first) rs) (room : ℕ) → walking.Traced libs own core new rs first held room

@@ -70,7 +70,7 @@ use Rattle.law_fresh_expansion.proofs.Items as items
 use Rattle.law_fresh_expansion.proofs.PlannedForm.{inside-keeps}
 use Rattle.law_fresh_expansion.proofs.Shapes.{FormalsHold, LambdaHolds, PatternCaseHolds}
 use Rattle.law_fresh_expansion.proofs.Standing as standing
-use Rattle.law_references.specs.Changes.{between, placed, taking}
+use Rattle.law_references.specs.Changes.{placed, between, body_change}
 use Rattle.law_references.specs.Expands.{counted, Expands, Performs, binds_all, Expand, none, more, CaseBinds, binds_formals, ExpandedBind, no_case, case, Starts, starts_with, ExpansionStart, no_init, init}
 use Rattle.law_references.specs.Expands.{ExpandsClause, matches_pattern, Match, no_clause, clause, Asks, asks_nothing, asks_first, IsBody, is_body, Finish, no_line, next_line, Ends, declares, defines, defines_procedure, is_expression}
 use Rattle.law_references.specs.Expands.{KeywordMeans, means, Mean, no_keyword, keyword, BindsKeywords, binds_keywords, TakesForm, Take, none_taken, more_taken}
@@ -184,10 +184,10 @@ module _ (libs : List LibName) (own : LibName) (core : Among libs library.Core) 
 
     -- of the first pass over a form, and over forms
     abbrev pub TakesMade : BodyAt → ℕ → Taken → Tree → State → Taken → State → Type 0
-    TakesMade at depth d t s e u = Bound (λ es. TakesForm rs at depth t (taking d s e u es)) s u
+    TakesMade at depth d t s e u = Bound (λ es. TakesForm rs at depth t (body_change d s e u es)) s u
 
     abbrev pub TakeMade : BodyAt → ℕ → Taken → List Tree → State → Taken → State → Type 0
-    TakeMade at depth d ts s e u = Bound (λ es. Take rs at depth ts (taking d s e u es)) s u
+    TakeMade at depth d ts s e u = Bound (λ es. Take rs at depth ts (body_change d s e u es)) s u
 
     module _ (first : ℕ) (held : RecordsHold (P first) rs) (room : ℕ) where
       abbrev F : State → Type 0
@@ -405,13 +405,13 @@ module _ (libs : List LibName) (own : LibName) (core : Among libs library.Core) 
 
         pub take-made : (at : BodyAt) (depth : ℕ) (d : Taken) (ts : List Tree) (s : State) → F s → TakenAt s.names.number d → Ts s.names.number ts → J s.names.number at.frame → Gave (TakeMade at depth d ts s) (splice go at depth d ts s)
         unfolding gather
-        take-made at depth d [] s h k g q = staying.bound-none libs own core new (λ es. Take rs at depth [] (taking d s d s es)) s s none_taken (told-self s)
+        take-made at depth d [] s h k g q = staying.bound-none libs own core new (λ es. Take rs at depth [] (body_change d s d s es)) s s none_taken (told-self s)
         take-made at depth d (t ∷ ts) s h k g q =
             gave-after (λ e v. (FreshStateHolds own K P s.names.number v × TakenAt v.names.number e) × TakesMade at depth d t s e v) (TakeMade at depth d (t ∷ ts) s) (go.item at depth d t s) (λ e. gather (go.item at depth) e ts)
             (staying.gave-and libs own core new first TakenAt (TakesMade at depth d t s) s (go.item at depth d t s) (keeps.item at depth d t s h k g.0 q) (traced.item at depth d t s h k g.0 q))
             (λ e v z. gave-less (TakeMade at depth e ts v) (TakeMade at depth d (t ∷ ts) s) (splice go at depth e ts v)
             (take-made at depth e ts v (from-to s v h z.0.0) z.0.1 (trees-up s.names.number v.names.number z.0.0.stage.up ts g.1) (lives.frames s.names.number v.names.number at.frame z.0.0.stage.up q))
-            (λ x u y. staying.bound-joined libs own core new (λ es. TakesForm rs at depth t (taking d s e v es)) (λ es. Take rs at depth ts (taking e v x u es)) (λ es. Take rs at depth (t ∷ ts) (taking d s x u es)) s v u z.1 y (λ es others i j. more_taken i j)))
+            (λ x u y. staying.bound-joined libs own core new (λ es. TakesForm rs at depth t (body_change d s e v es)) (λ es. Take rs at depth ts (body_change e v x u es)) (λ es. Take rs at depth (t ∷ ts) (body_change d s x u es)) s v u z.1 y (λ es others i j. more_taken i j)))
 
         -- Bodies.
 

@@ -31,5 +31,5 @@ pub record BodyChange : Type 0 where
   pub after : State
   pub expressions : List KeywordExpression
 
-abbrev pub taking : Taken → State → Taken → State → List KeywordExpression → BodyChange
-taking done s end u es = record { done = done; before = s; end = end; after = u; expressions = es }
+abbrev pub body_change : Taken → State → Taken → State → List KeywordExpression → BodyChange
+body_change done s end u es = record { done = done; before = s; end = end; after = u; expressions = es }

@@ -59,7 +59,7 @@ use Rattle.expand_forms.specs.Forms.{ProcedureForm, procedure_parts, LetSyntaxFo
 use Rattle.expand_forms.specs.declared.expand_uses.PlannedForm.{PlannedForm}
 use Rattle.expand_forms.specs.declared.expand_uses.PlannedItem.{PlannedItem}
 use Rattle.law_expand.specs.Named.{RefersTo}
-use Rattle.law_references.specs.Changes.{FormAt, placed, StateChange, between, BodyChange, taking}
+use Rattle.law_references.specs.Changes.{FormAt, placed, StateChange, between, BodyChange, body_change}
 use Rattle.law_references.specs.Namings.{namings}
 use Rattle.law_references.specs.Noted.{Reference, KeywordExpression, Noted, nothing, only, of_references, of_keywords, both, NotedLine, lines, of_body}
 use Rattle.law_references.specs.Parts.{expressions_of}
@@ -223,30 +223,30 @@ module _ (rs : List CompiledLibrary) where
     -- a form of a body, in the first pass: uses of keywords give other forms in its place until it is no use
     pub data TakesForm : BodyAt → ℕ → Tree → BodyChange → Type 0 where
       takes : {at : BodyAt} {depth : ℕ} {done after end : Taken} {t : Tree} {d : PlannedItem} {s v u : State} {es : List KeywordExpression}
-          → expand_item_uses rs at depth done t s ≡ Ok ((after, d), v) → Acts d.at depth d.form d.item (taking after v end u es)
-          → TakesForm at depth t (taking done s end u es)
+          → expand_item_uses rs at depth done t s ≡ Ok ((after, d), v) → Acts d.at depth d.form d.item (body_change after v end u es)
+          → TakesForm at depth t (body_change done s end u es)
 
     -- what is to be done with a form of a body; it waits for the second pass, or is no more than its definition, where nothing is
     pub data Acts : BodyAt → ℕ → Tree → Item → BodyChange → Type 0 where
-      is_taken : {at : BodyAt} {depth : ℕ} {done : Taken} {t : Tree} {s : State} → Acts at depth t items.Nothing (taking done s done s [])
+      is_taken : {at : BodyAt} {depth : ℕ} {done : Taken} {t : Tree} {s : State} → Acts at depth t items.Nothing (body_change done s done s [])
       takes_forms : {at : BodyAt} {depth : ℕ} {done end : Taken} {t : Tree} {forms : List Tree} {s u : State} {es : List KeywordExpression}
-          → Take at (deeper depth) forms (taking done s end u es) → Acts at depth t (items.Forms forms) (taking done s end u es)
+          → Take at (deeper depth) forms (body_change done s end u es) → Acts at depth t (items.Forms forms) (body_change done s end u es)
       defines_keyword : {at : BodyAt} {depth : ℕ} {done : Taken} {t : Tree} {b : BindingSpec} {x : BoundSpec} {s v u : State} {es : List KeywordExpression}
-          → define_keyword at done t b s ≡ Ok (x, v) → KeywordMeans (placed at.place at.level) x (between v u es) → Acts at depth t (items.Keyword b) (taking done s done u es)
+          → define_keyword at done t b s ≡ Ok (x, v) → KeywordMeans (placed at.place at.level) x (between v u es) → Acts at depth t (items.Keyword b) (body_change done s done u es)
       takes_among : {at : BodyAt} {depth : ℕ} {done end : Taken} {t : Tree} {recursive : Bool} {bs : List BindingSpec}
           {forms stamped : List Tree} {s v u : State} {es others : List KeywordExpression}
-          → BindsKeywords (placed at.place at.level) (let_syntax_parts recursive bs forms) stamped (between s v es) → Take at (deeper depth) stamped (taking done v end u others)
-          → Acts at depth t (items.Keywords recursive bs forms) (taking done s end u (es ++ others))
+          → BindsKeywords (placed at.place at.level) (let_syntax_parts recursive bs forms) stamped (between s v es) → Take at (deeper depth) stamped (body_change done v end u others)
+          → Acts at depth t (items.Keywords recursive bs forms) (body_change done s end u (es ++ others))
 
     pub data Take : BodyAt → ℕ → List Tree → BodyChange → Type 0 where
-      none_taken : {at : BodyAt} {depth : ℕ} {done : Taken} {s : State} → Take at depth [] (taking done s done s [])
+      none_taken : {at : BodyAt} {depth : ℕ} {done : Taken} {s : State} → Take at depth [] (body_change done s done s [])
       more_taken : {at : BodyAt} {depth : ℕ} {done after end : Taken} {t : Tree} {ts : List Tree} {s v u : State} {es others : List KeywordExpression}
-          → TakesForm at depth t (taking done s after v es) → Take at depth ts (taking after v end u others) → Take at depth (t ∷ ts) (taking done s end u (es ++ others))
+          → TakesForm at depth t (body_change done s after v es) → Take at depth ts (body_change after v end u others) → Take at depth (t ∷ ts) (body_change done s end u (es ++ others))
 
     -- A body: its frame is stamped on its forms, of which the first pass takes what waits for the second.
     pub data IsBody : FormAt → Tree → List Tree → PlainCore → StateChange Noted → Type 0 where
       is_body : {at : FormAt} {t : Tree} {forms : List Tree} {s v u : State} {d : Taken} {es : List KeywordExpression} {xs : List NotedLine}
-          → (depth : ℕ) → Take (lambda_at (record { 0 = s.names }) at.place at.level) depth (map (stamp (record { 0 = s.names })) forms) (taking begun (counted s) d v es)
+          → (depth : ℕ) → Take (lambda_at (record { 0 = s.names }) at.place at.level) depth (map (stamp (record { 0 = s.names })) forms) (body_change begun (counted s) d v es)
           → Finish at.level d.waiting v xs u → IsBody at t forms (body_core (lines xs)) (between s (cut (length s.scope) u) (of_body es xs))
 
     pub data Finish : ℕ → List Waiting → State → List NotedLine → State → Type 0 where

@@ -29,7 +29,7 @@ use Rattle.law_fresh.specs.Leaves.{CodesHold}
 use Rattle.law_fresh_expansion.specs.Events.{HasEvents}
 use Rattle.law_fresh_expansion.specs.Known.{libraries_of, IsNewAmong}
 use Rattle.law_fresh_expansion.specs.RecordMarks.{HasOnly, RecordHasOnly, WasRead}
-use Rattle.law_references.specs.Changes.{between, taking}
+use Rattle.law_references.specs.Changes.{body_change}
 use Rattle.law_references.specs.Expands.{Take, Finish}
 use Rattle.law_references.specs.Namings.{Naming, namings}
 use Rattle.law_references.specs.Noted.{KeywordExpression, NotedLine, lines, of_lines, mentioned, named, IsExpression}
@@ -84,7 +84,7 @@ module _ (libs : List LibName) (own : LibName) (records : List CompiledLibrary) 
     pub told : List NotedLine
     pub last : State
     pub takes : top.first_pass (inside records full_room) at forms start ≡ Ok (taken, first)
-    pub taking : Take records (top.body_at at start.library) 0 (map (stamp at.frame) forms) (taking begun start taken first bound)
+    pub taking : Take records (top.body_at at start.library) 0 (map (stamp at.frame) forms) (body_change begun start taken first bound)
     pub looks : top.exports at exports first ≡ Ok (exported, between)
     pub ends : Finish records 0 taken.waiting between told last
     pub run : lines told ≡ r.run

@@ -26,7 +26,7 @@ use Rattle.eval_template.specs.Instance.{then_add, turned, item, counts, is_end,
 use Rattle.law_templates.specs.Ready.{HasDepth}
 use Rattle.law_templates.proofs.Sight.{Sees, AllSeen, ItemsSeen, agreed_all, seen_next, seen_ready}
 use Rattle.law_templates.proofs.Alikes.{take_get}
-use Rattle.law_report.specs.Instances.{HasBinds, IsTurn, IsReached, IsSeen, HasLength, AreLengths, AreItemLengths, AllAre, IsAgreed, IsListed, IsNil, IsInstance, IsEnd, AreInstances, AreRepeated, AreTurns, IsItem, AreUneven, IsUneven, InstancesAreGiven}
+use Rattle.law_report.specs.Instances.{HasBinds, IsTurn, IsReached, IsSeen, HasLength, AreLengths, AreItemLengths, AllAre, IsAgreed, IsListed, IsNil, IsInstance, IsEnd, AreInstances, AreRepeated, turns_from, AreTurns, IsItem, AreUneven, IsUneven, InstancesAreGiven}
 use Rattle.law_report.specs.Instances as r
 
 -- Variables.
@@ -160,7 +160,7 @@ module _ (binds : Binds) (x y : List Cell) (k : Keeps x y) where
     repeated-still (r.no_ellipsis i) = r.no_ellipsis (still i)
     repeated-still (r.an_ellipsis l a i) = r.an_ellipsis l a (turns-still i)
 
-    turns-still : {turns : List ℕ} {t : PlainTemplate} {e n i : ℕ} {xs : List Value} → AreTurns binds x turns t e n i xs → AreTurns binds y turns t e n i xs
+    turns-still : {turns : List ℕ} {t : PlainTemplate} {e n i : ℕ} {xs : List Value} → AreTurns binds x turns t e (turns_from i n) xs → AreTurns binds y turns t e (turns_from i n) xs
     turns-still r.no_turn = r.no_turn
     turns-still (r.a_turn i is) = r.a_turn (repeated-still i) (turns-still is)
 
@@ -231,7 +231,7 @@ module _ (a : Absent) (binds : Binds) where
       by (many bs) e deep = absurd deep
 
   abbrev Turns : List ℕ → PlainTemplate → ℕ → ℕ → ℕ → List Cell → List Value → Type 0
-  Turns turns t e n i cells xs = AreTurns binds cells turns t e n i xs
+  Turns turns t e n i cells xs = AreTurns binds cells turns t e (turns_from i n) xs
 
   abbrev Repeated : List ℕ → PlainTemplate → ℕ → List Cell → List Value → Type 0
   Repeated turns t e cells xs = AreRepeated binds cells turns t e xs

@@ -83,40 +83,49 @@ pub data IsListed (cells : List Cell) : List Value → Value → Value → Type 
 pub data IsNil : PlainTemplate → Type 0 where
   nil : {span : Option Span} → IsNil (constant (tree.atom span Nil))
 
-mutual
-  pub data IsInstance (binds : Binds) (cells : List Cell) : List ℕ → PlainTemplate → Value → Type 0 where
-    -- a pattern variable gives what it is bound to
-    of_variable : {turns : List ℕ} {l : Label} {depth : ℕ} {v : Value} → IsSeen binds l depth turns (one v) → IsInstance binds cells turns (variable l depth) v
-    -- any other form gives itself
-    itself : {turns : List ℕ} {t : tree.Tree} → IsInstance binds cells turns (constant t) (value.Syn t)
-    as_list : {turns : List ℕ} {is : PlainItems} {t : PlainTemplate} {xs : List Value} {w v : Value}
-        → AreInstances binds cells turns is xs → IsEnd binds cells turns t w → IsListed cells xs w v → IsInstance binds cells turns (list is t) v
-    as_vector : {turns : List ℕ} {is : PlainItems} {xs : List Value} {p : Place} → AreInstances binds cells turns is xs
-        → vector_at cells p.0 ≡ Some xs → IsInstance binds cells turns (vector is) (value.Vector p)
+-- so many turns, from the i-th on
+pub record TurnsFrom : Type 0 where
+  pub first : ℕ
+  pub count : ℕ
 
-  -- a list ends in the empty list itself
-  pub data IsEnd (binds : Binds) (cells : List Cell) : List ℕ → PlainTemplate → Value → Type 0 where
-    plain_end : {turns : List ℕ} {t : PlainTemplate} → IsNil t → IsEnd binds cells turns t (value.Atom Nil)
-    other_end : {turns : List ℕ} {t : PlainTemplate} {w : Value} → (IsNil t → ⊥) → IsInstance binds cells turns t w → IsEnd binds cells turns t w
+abbrev pub turns_from : ℕ → ℕ → TurnsFrom
+turns_from i n = record { first = i; count = n }
 
-  pub data AreInstances (binds : Binds) (cells : List Cell) : List ℕ → PlainItems → List Value → Type 0 where
-    no_instance : {turns : List ℕ} → AreInstances binds cells turns none []
-    with_instances : {turns : List ℕ} {t : PlainTemplate} {ellipses : ℕ} {is : PlainItems} {xs ys : List Value}
-        → AreRepeated binds cells turns t ellipses xs → AreInstances binds cells turns is ys → AreInstances binds cells turns (more t ellipses is) (xs ++ ys)
+module _ (binds : Binds) (cells : List Cell) where
+  mutual
+    pub data IsInstance : List ℕ → PlainTemplate → Value → Type 0 where
+      -- a pattern variable gives what it is bound to
+      of_variable : {turns : List ℕ} {l : Label} {depth : ℕ} {v : Value} → IsSeen binds l depth turns (one v) → IsInstance turns (variable l depth) v
+      -- any other form gives itself
+      itself : {turns : List ℕ} {t : tree.Tree} → IsInstance turns (constant t) (value.Syn t)
+      as_list : {turns : List ℕ} {is : PlainItems} {t : PlainTemplate} {xs : List Value} {w v : Value}
+          → AreInstances turns is xs → IsEnd turns t w → IsListed cells xs w v → IsInstance turns (list is t) v
+      as_vector : {turns : List ℕ} {is : PlainItems} {xs : List Value} {p : Place} → AreInstances turns is xs
+          → vector_at cells p.0 ≡ Some xs → IsInstance turns (vector is) (value.Vector p)
 
-  -- a template with so many ellipses behind it: the outermost has as many turns as the variables that it repeats have binds
-  pub data AreRepeated (binds : Binds) (cells : List Cell) : List ℕ → PlainTemplate → ℕ → List Value → Type 0 where
-    no_ellipsis : {turns : List ℕ} {t : PlainTemplate} {v : Value} → IsInstance binds cells turns t v → AreRepeated binds cells turns t 0 (v ∷ [])
-    an_ellipsis : {turns : List ℕ} {t : PlainTemplate} {ellipses n : ℕ} {ns : List ℕ} {xs : List Value}
-        → AreLengths binds turns ellipses t ns → IsAgreed n ns → AreTurns binds cells turns t ellipses n 0 xs
-        → AreRepeated binds cells turns t (suc ellipses) xs
+    -- a list ends in the empty list itself
+    pub data IsEnd : List ℕ → PlainTemplate → Value → Type 0 where
+      plain_end : {turns : List ℕ} {t : PlainTemplate} → IsNil t → IsEnd turns t (value.Atom Nil)
+      other_end : {turns : List ℕ} {t : PlainTemplate} {w : Value} → (IsNil t → ⊥) → IsInstance turns t w → IsEnd turns t w
 
-  -- so many turns, from the i-th on
-  pub data AreTurns (binds : Binds) (cells : List Cell) : List ℕ → PlainTemplate → ℕ → ℕ → ℕ → List Value → Type 0 where
-    no_turn : {turns : List ℕ} {t : PlainTemplate} {ellipses i : ℕ} → AreTurns binds cells turns t ellipses 0 i []
-    a_turn : {turns : List ℕ} {t : PlainTemplate} {ellipses n i : ℕ} {xs ys : List Value}
-        → AreRepeated binds cells (turns ++ i ∷ []) t ellipses xs → AreTurns binds cells turns t ellipses n (i + 1) ys
-        → AreTurns binds cells turns t ellipses (suc n) i (xs ++ ys)
+    pub data AreInstances : List ℕ → PlainItems → List Value → Type 0 where
+      no_instance : {turns : List ℕ} → AreInstances turns none []
+      with_instances : {turns : List ℕ} {t : PlainTemplate} {ellipses : ℕ} {is : PlainItems} {xs ys : List Value}
+          → AreRepeated turns t ellipses xs → AreInstances turns is ys → AreInstances turns (more t ellipses is) (xs ++ ys)
+
+    -- a template with so many ellipses behind it: the outermost has as many turns as the variables that it repeats have binds
+    pub data AreRepeated : List ℕ → PlainTemplate → ℕ → List Value → Type 0 where
+      no_ellipsis : {turns : List ℕ} {t : PlainTemplate} {v : Value} → IsInstance turns t v → AreRepeated turns t 0 (v ∷ [])
+      an_ellipsis : {turns : List ℕ} {t : PlainTemplate} {ellipses n : ℕ} {ns : List ℕ} {xs : List Value}
+          → AreLengths binds turns ellipses t ns → IsAgreed n ns → AreTurns turns t ellipses (turns_from 0 n) xs
+          → AreRepeated turns t (suc ellipses) xs
+
+    -- these turns of a template with so many ellipses behind it
+    pub data AreTurns : List ℕ → PlainTemplate → ℕ → TurnsFrom → List Value → Type 0 where
+      no_turn : {turns : List ℕ} {t : PlainTemplate} {ellipses i : ℕ} → AreTurns turns t ellipses (turns_from i 0) []
+      a_turn : {turns : List ℕ} {t : PlainTemplate} {ellipses n i : ℕ} {xs ys : List Value}
+          → AreRepeated (turns ++ i ∷ []) t ellipses xs → AreTurns turns t ellipses (turns_from (i + 1) n) ys
+          → AreTurns turns t ellipses (turns_from i (suc n)) (xs ++ ys)
 
 -- a template with so many ellipses behind it, somewhere in another
 mutual
