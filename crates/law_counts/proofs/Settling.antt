@@ -37,7 +37,7 @@ use Rattle.law_expand.proofs.Acts.{Gave, gave-after, gave-less}
 use Rattle.law_expand.proofs.Plans.{IsTemplate, template-is, plan-cases}
 use Rattle.law_expand.proofs.References.{Refers, AssignsBy, reference-is, assign-is}
 use Rattle.law_uses.specs.Counted as counted
-use Rattle.law_uses.specs.Counted.{Becomes, BecomesItem}
+use Rattle.law_uses.specs.Counted.{unexpanded, unexpanded_item, Becomes, BecomesItem}
 use Rattle.law_uses.proofs.Counted.{uses-counted, body-uses-counted}
 use Rattle.law_counts.specs.Counted.{IsSettledBy, IsItemBy}
 use Rattle.law_counts.proofs.Items as items
@@ -99,7 +99,7 @@ module _ (rs : List CompiledLibrary) where
   unfolding next_form
   next-keeps left place t k f s = used-keeps (place_of t place) t k f (record s { uses_left = left })
 
-  chain-leaves : {level n more left : ℕ} {place at : Span} {t y : Tree} {s w : State} → Becomes rs level n more left place t s at y w → s.uses_left ≡ more → w.uses_left ≡ left
+  chain-leaves : {level n more left : ℕ} {place at : Span} {t y : Tree} {s w : State} → Becomes rs level n (unexpanded more place t s) (unexpanded left at y w) → s.uses_left ≡ more → w.uses_left ≡ left
   chain-leaves counted.itself e = e
   chain-leaves (counted.used {more = more} {place = place} {t = t} {u = u} {k = k} f g b) e = chain-leaves b (keeps-given (record u { uses_left = more }) g (next-keeps more place t k None u))
 
@@ -115,7 +115,7 @@ linked-keeps t (plans.Done c) s = code-keeps t c s
 linked-keeps t (plans.Assignment l value) s = noted-keeps (target_span t) l link.Refer s
 linked-keeps t _ s = refl
 
-pub settled-by : (rs : List CompiledLibrary) (level : ℕ) (place : Span) (t : Tree) (s v : State) (d : PlannedForm) → expand_uses rs place level t s ≡ Ok (d, v) → IsSettledBy rs level place t s v d
+pub settled-by : (rs : List CompiledLibrary) (level : ℕ) (place : Span) (t : Tree) (s v : State) (d : PlannedForm) → expand_uses rs place level t s ≡ Ok (d, v) → IsSettledBy rs level (unexpanded s.uses_left place t s) v d
 settled-by rs level place t s v d h =
     let c = uses-counted.only rs level place t s v d h in
     let n = c.0 in
@@ -129,21 +129,21 @@ settled-by rs level place t s v d h =
     record {
       uses = n;
       last = w;
-      becomes = subst (λ (m : ℕ). Becomes rs level n s.uses_left m place t s d.place d.form w) (sym last) chain;
+      becomes = subst (λ (m : ℕ). Becomes rs level n (unexpanded s.uses_left place t s) (unexpanded m d.place d.form w)) (sym last) chain;
       left = ap (λ (m : ℕ). n + m) last ∙ sym all;
     }
 
 -- Forms of bodies.
 
 module _ (rs : List CompiledLibrary) (depth : ℕ) where
-  item-chain-leaves : {n more left : ℕ} {at to : BodyAt} {done end : Taken} {t y : Tree} {s w : State} → BecomesItem rs depth n more left at done t s to end y w → s.uses_left ≡ more → w.uses_left ≡ left
+  item-chain-leaves : {n more left : ℕ} {at to : BodyAt} {done end : Taken} {t y : Tree} {s w : State} → BecomesItem rs depth n (unexpanded_item more at done t s) (unexpanded_item left to end y w) → s.uses_left ≡ more → w.uses_left ≡ left
   item-chain-leaves counted.item_itself e = e
   item-chain-leaves (counted.item_used {more = more} {at = at} {t = t} {u = u} {k = k} f g b) e = item-chain-leaves b (keeps-given (record u { uses_left = more }) g (next-keeps rs more at.place t k (Some at.frame) u))
 
   -- what expanding uses comes to
   abbrev Came : ℕ → BodyAt → Taken → Tree → State → Taken → PlannedItem → State → Type 0
   Came more at done t s end d v =
-      (n : ℕ) × ((left : ℕ) × ((taken : Taken) × ((w : State) × (BecomesItem rs depth n more left at done t s d.at taken d.form w × (item_step rs d.at depth taken d.form w ≡ Ok ((end, item_steps.Item d.item), v))))))
+      (n : ℕ) × ((left : ℕ) × ((taken : Taken) × ((w : State) × (BecomesItem rs depth n (unexpanded_item more at done t s) (unexpanded_item left d.at taken d.form w) × (item_step rs d.at depth taken d.form w ≡ Ok ((end, item_steps.Item d.item), v))))))
 
   came-now : (left : ℕ) (at : BodyAt) (done : Taken) (t : Tree) (s u v : State) (taken end : Taken) (i : Item) (d : PlannedItem) → item_step rs at depth done t s ≡ Ok ((taken, item_steps.Item i), u)
       → ◌≡◌ {A = (Taken × PlannedItem) × State} ((taken, record { at = at; form = t; item = i }), u) ((end, d), v) → Came left at done t s end d v
@@ -175,7 +175,7 @@ module _ (rs : List CompiledLibrary) (depth : ℕ) where
       by again (Ok ((taken, item_steps.Use k), u)) e is = by-form again taken k u e (next_form rs more at.place t k (Some at.frame) u) refl is
       by again (Err f) e is = absurd (cc)
 
-  pub item-by : (at : BodyAt) (done end : Taken) (t : Tree) (s v : State) (d : PlannedItem) → expand_item_uses rs at depth done t s ≡ Ok ((end, d), v) → IsItemBy rs depth at done t s v d
+  pub item-by : (at : BodyAt) (done end : Taken) (t : Tree) (s v : State) (d : PlannedItem) → expand_item_uses rs at depth done t s ≡ Ok ((end, d), v) → IsItemBy rs depth (unexpanded_item s.uses_left at done t s) v d
   item-by at done end t s v d h =
       let c = came s.uses_left at done end t s v d h in
       let n = c.0 in
@@ -189,6 +189,6 @@ module _ (rs : List CompiledLibrary) (depth : ℕ) where
         uses = n;
         taken = taken;
         last = w;
-        becomes = subst (λ (m : ℕ). BecomesItem rs depth n s.uses_left m at done t s d.at taken d.form w) (sym last) chain;
+        becomes = subst (λ (m : ℕ). BecomesItem rs depth n (unexpanded_item s.uses_left at done t s) (unexpanded_item m d.at taken d.form w)) (sym last) chain;
         left = ap (λ (m : ℕ). n + m) last ∙ sym all;
       }

@@ -16,7 +16,7 @@ use Rattle.expand_forms.specs.ExpandUses.{expand_uses, expand_item_uses}
 use Rattle.expand_forms.specs.declared.expand_uses.PlannedForm.{PlannedForm}
 use Rattle.expand_forms.specs.declared.expand_uses.PlannedItem.{PlannedItem}
 use Rattle.expand_forms.specs.declared.top.TopAt.{TopAt}
-use Rattle.law_uses.specs.Counted.{Becomes, BecomesItem}
+use Rattle.law_uses.specs.Counted.{UnexpandedForm, unexpanded, UnexpandedItem, unexpanded_item, Becomes, BecomesItem}
 use Rattle.law_references.specs.Changes.{placed, between, body_change}
 use Rattle.law_references.specs.Expands.{Expands, Take, Finish}
 use Rattle.law_references.specs.Noted.{KeywordExpression, Noted, NotedLine}
@@ -24,27 +24,27 @@ use Rattle.law_references.specs.Records.{RunIsRight}
 use Rattle.law_counts.specs.Made.{made, items_made, lines_made}
 
 -- A form was so many uses, one behind another, until it was none. They and the uses that are left then are those that were left before.
-pub record IsSettledBy (rs : List CompiledLibrary) (level : ℕ) (place : Span) (t : Tree) (s v : State) (d : PlannedForm) : Type 0 where
+pub record IsSettledBy (rs : List CompiledLibrary) (level : ℕ) (from : UnexpandedForm) (v : State) (d : PlannedForm) : Type 0 where
   pub uses : ℕ
   pub last : State
-  pub becomes : Becomes rs level uses s.uses_left v.uses_left place t s d.place d.form last
-  pub left : uses + v.uses_left ≡ s.uses_left
+  pub becomes : Becomes rs level uses from (unexpanded v.uses_left d.place d.form last)
+  pub left : uses + v.uses_left ≡ from.uses_left
 
 -- so it is of a form of a body
-pub record IsItemBy (rs : List CompiledLibrary) (depth : ℕ) (at : BodyAt) (done : Taken) (t : Tree) (s v : State) (d : PlannedItem) : Type 0 where
+pub record IsItemBy (rs : List CompiledLibrary) (depth : ℕ) (from : UnexpandedItem) (v : State) (d : PlannedItem) : Type 0 where
   pub uses : ℕ
   pub taken : Taken
   pub last : State
-  pub becomes : BecomesItem rs depth uses s.uses_left v.uses_left at done t s d.at taken d.form last
-  pub left : uses + v.uses_left ≡ s.uses_left
+  pub becomes : BecomesItem rs depth uses from (unexpanded_item v.uses_left d.at taken d.form last)
+  pub left : uses + v.uses_left ≡ from.uses_left
 
 -- All uses that are made in the expansion of a form, and those that are left after it, are those that were left before it: no use is counted twice,
 -- and none is given back. So all that are made in the expansion of a library, and those that are left at its end, are 1,000,000.
 pub record UsesAreCountedInWhole : Type 0 where
   pub settled : (rs : List CompiledLibrary) (level : ℕ) (place : Span) (t : Tree) (s v : State) (d : PlannedForm)
-      → expand_uses rs place level t s ≡ Ok (d, v) → IsSettledBy rs level place t s v d
+      → expand_uses rs place level t s ≡ Ok (d, v) → IsSettledBy rs level (unexpanded s.uses_left place t s) v d
   pub items : (rs : List CompiledLibrary) (depth : ℕ) (at : BodyAt) (done end : Taken) (t : Tree) (s v : State) (d : PlannedItem)
-      → expand_item_uses rs at depth done t s ≡ Ok ((end, d), v) → IsItemBy rs depth at done t s v d
+      → expand_item_uses rs at depth done t s ≡ Ok ((end, d), v) → IsItemBy rs depth (unexpanded_item s.uses_left at done t s) v d
   pub forms : (rs : List CompiledLibrary) (place : Span) (level : ℕ) (t : Tree) (s u : State) (c : PlainCore) (x : Noted)
       (h : Expands rs (placed place level) t c (between s u x)) → made h + u.uses_left ≡ s.uses_left
   pub first : (rs : List CompiledLibrary) (at : BodyAt) (depth : ℕ) (done end : Taken) (ts : List Tree) (s u : State) (es : List KeywordExpression)

@@ -22,7 +22,7 @@ use Rattle.expand_forms.specs.declared.expand_uses.PlannedForm.{PlannedForm}
 use Rattle.expand_forms.specs.declared.expand_uses.PlannedItem.{PlannedItem}
 use Rattle.expand_forms.specs.declared.expand_uses.PlanOrUse.{PlanOrUse}
 use Rattle.expand_forms.specs.declared.expand_uses.PlanOrUse.TheVariants as steps
-use Rattle.law_uses.specs.Counted.{Becomes, BecomesItem, UsesAreCounted, BodyUsesAreCounted}
+use Rattle.law_uses.specs.Counted.{unexpanded, unexpanded_item, Becomes, BecomesItem, UsesAreCounted, BodyUsesAreCounted}
 use Rattle.law_uses.specs.Counted as counted
 
 -- an action of which it is known what it gives
@@ -36,7 +36,7 @@ starts-with own records imports codes = refl
 -- Expressions.
 
 module _ (rs : List CompiledLibrary) (level : ℕ) where
-  is-counted : {n more left : ℕ} {place at : Span} {t y : Tree} {s w : State} → Becomes rs level n more left place t s at y w → more ≡ n + left
+  is-counted : {n more left : ℕ} {place at : Span} {t y : Tree} {s w : State} → Becomes rs level n (unexpanded more place t s) (unexpanded left at y w) → more ≡ n + left
   is-counted counted.itself = omega arith
   is-counted (counted.used e f b) = let k = is-counted b in omega (arith, k)
 
@@ -53,7 +53,7 @@ module _ (rs : List CompiledLibrary) (level : ℕ) where
       after-ok (step rs place level t s) (steps.Use k) u (planned_by (λ j s'. after (next_form rs more place t j None s') (expand_uses_to rs more (place_of t place) level)) place t) e
       ∙ after-ok (next_form rs more place t k None u) x v (expand_uses_to rs more (place_of t place) level) f
 
-  is-settled : {n more left : ℕ} {place at : Span} {t y : Tree} {s w : State} (u : State) (p : Plan) → Becomes rs level n more left place t s at y w → step rs at level y w ≡ Ok (steps.Plan p, u)
+  is-settled : {n more left : ℕ} {place at : Span} {t y : Tree} {s w : State} (u : State) (p : Plan) → Becomes rs level n (unexpanded more place t s) (unexpanded left at y w) → step rs at level y w ≡ Ok (steps.Plan p, u)
       → expand_uses_to rs more place level t s ≡ Ok (record { place = at; form = y; plan = p }, linked y p u)
   is-settled u p (counted.itself {left} {place} {t} {s}) e = settled-now left place t s u p e
   is-settled u p (counted.used {n} {more} {left} {place} {at} {t} {x} {y} {s} {u = r} {v} {w} {k} f g b) e = one-use more place t x s r v k f g ∙ is-settled u p b e
@@ -62,7 +62,7 @@ module _ (rs : List CompiledLibrary) (level : ℕ) where
   unfolding expand_uses_to
   none-left place t s u k e = after-ok (step rs place level t s) (steps.Use k) u (planned_by (λ j. too_many t place) place t) e
 
-  is-refused : {n more left : ℕ} {place at : Span} {t y : Tree} {s w : State} (u : State) (k : KeywordUse) → left ≡ 0 → Becomes rs level n more left place t s at y w → step rs at level y w ≡ Ok (steps.Use k, u)
+  is-refused : {n more left : ℕ} {place at : Span} {t y : Tree} {s w : State} (u : State) (k : KeywordUse) → left ≡ 0 → Becomes rs level n (unexpanded more place t s) (unexpanded left at y w) → step rs at level y w ≡ Ok (steps.Use k, u)
       → expand_uses_to rs more place level t s ≡ too_many y at u
   is-refused u k z (counted.itself {left} {place} {t} {s}) e = subst (λ m. expand_uses_to rs m place level t s ≡ too_many t place u) (sym z) (none-left place t s u k e)
   is-refused u k z (counted.used {n} {more} {left} {place} {at} {t} {x} {y} {s} {u = r} {v} {w} {k = j} f g b) e = one-use more place t x s r v j f g ∙ is-refused u k z b e
@@ -70,7 +70,7 @@ module _ (rs : List CompiledLibrary) (level : ℕ) where
   -- what expanding uses comes to
   abbrev Came : ℕ → Span → Tree → State → PlannedForm → State → Type 0
   Came more place t s d v =
-      (n : ℕ) × ((left : ℕ) × ((w : State) × ((u : State) × (Becomes rs level n more left place t s d.place d.form w × ((step rs d.place level d.form w ≡ Ok (steps.Plan d.plan, u)) × (v ≡ linked d.form d.plan u))))))
+      (n : ℕ) × ((left : ℕ) × ((w : State) × ((u : State) × (Becomes rs level n (unexpanded more place t s) (unexpanded left d.place d.form w) × ((step rs d.place level d.form w ≡ Ok (steps.Plan d.plan, u)) × (v ≡ linked d.form d.plan u))))))
 
   came-now : (left : ℕ) (place : Span) (t : Tree) (s u v : State) (p : Plan) (d : PlannedForm) → step rs place level t s ≡ Ok (steps.Plan p, u) → ◌≡◌ {A = PlannedForm × State} (record { place = place; form = t; plan = p }, linked t p u) (d, v) → Came left place t s d v
   came-now left place t s u v p d e is =
@@ -109,7 +109,7 @@ uses-counted = record {
 -- Forms of bodies.
 
 module _ (rs : List CompiledLibrary) (depth : ℕ) where
-  items-counted : {n more left : ℕ} {at to : BodyAt} {done end : Taken} {t y : Tree} {s w : State} → BecomesItem rs depth n more left at done t s to end y w → more ≡ n + left
+  items-counted : {n more left : ℕ} {at to : BodyAt} {done end : Taken} {t y : Tree} {s w : State} → BecomesItem rs depth n (unexpanded_item more at done t s) (unexpanded_item left to end y w) → more ≡ n + left
   items-counted counted.item_itself = omega arith
   items-counted (counted.item_used e f b) = let k = items-counted b in omega (arith, k)
 
@@ -127,7 +127,7 @@ module _ (rs : List CompiledLibrary) (depth : ℕ) where
       after-ok (item_step rs at depth done t s) (taken, item_steps.Use k) u (item_by (λ d j s'. after (next_form rs more at.place t j (Some at.frame) s') (expand_item_uses_to rs more (at_use at t) depth d)) at t) e
       ∙ after-ok (next_form rs more at.place t k (Some at.frame) u) x v (expand_item_uses_to rs more (at_use at t) depth taken) f
 
-  item-settled : {n more left : ℕ} {at to : BodyAt} {done end : Taken} {t y : Tree} {s w : State} (taken : Taken) (u : State) (i : Item) → BecomesItem rs depth n more left at done t s to end y w
+  item-settled : {n more left : ℕ} {at to : BodyAt} {done end : Taken} {t y : Tree} {s w : State} (taken : Taken) (u : State) (i : Item) → BecomesItem rs depth n (unexpanded_item more at done t s) (unexpanded_item left to end y w)
       → item_step rs to depth end y w ≡ Ok ((taken, item_steps.Item i), u) → expand_item_uses_to rs more at depth done t s ≡ Ok ((taken, record { at = to; form = y; item = i }), u)
   item-settled taken u i (counted.item_itself {left} {at} {done} {t} {s}) e = item-now left at done taken t s u i e
   item-settled taken u i (counted.item_used {n} {more} {left} {at} {to} {done} {taken = next} {end} {t} {x} {y} {s} {u = r} {v} {w} {k} f g b) e = one-item more at done next t x s r v k f g ∙ item-settled taken u i b e
@@ -136,7 +136,7 @@ module _ (rs : List CompiledLibrary) (depth : ℕ) where
   unfolding expand_item_uses_to
   no-item-left at done taken t s u k e = after-ok (item_step rs at depth done t s) (taken, item_steps.Use k) u (item_by (λ d j. too_many t at.place) at t) e
 
-  item-refused : {n more left : ℕ} {at to : BodyAt} {done end : Taken} {t y : Tree} {s w : State} (taken : Taken) (u : State) (k : KeywordUse) → left ≡ 0 → BecomesItem rs depth n more left at done t s to end y w
+  item-refused : {n more left : ℕ} {at to : BodyAt} {done end : Taken} {t y : Tree} {s w : State} (taken : Taken) (u : State) (k : KeywordUse) → left ≡ 0 → BecomesItem rs depth n (unexpanded_item more at done t s) (unexpanded_item left to end y w)
       → item_step rs to depth end y w ≡ Ok ((taken, item_steps.Use k), u) → expand_item_uses_to rs more at depth done t s ≡ too_many y to.place u
   item-refused taken u k z (counted.item_itself {left} {at} {done} {t} {s}) e = subst (λ m. expand_item_uses_to rs m at depth done t s ≡ too_many t at.place u) (sym z) (no-item-left at done taken t s u k e)
   item-refused taken u k z (counted.item_used {n} {more} {left} {at} {to} {done} {taken = next} {end} {t} {x} {y} {s} {u = r} {v} {w} {k = j} f g b) e = one-item more at done next t x s r v j f g ∙ item-refused taken u k z b e
