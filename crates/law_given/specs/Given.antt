@@ -51,8 +51,7 @@ module _ (w : PlainSetting) where
     pub in_turn : InTurn w f xs s answers state
 
   -- f is called on each element, in their order, and the list of those is given whose answers a choice tells
-  pub record Filters (c : ProcedureCall) (f : Value) (choice : List Value → List Value → List Value)
-      (xs : List Value) (s : WorldState) : Type 0 where
+  pub record Filters (c : ProcedureCall) (f : Value) (choice : List Value → List Value → List Value) (xs : List Value) (s : WorldState) : Type 0 where
     pub value : Value
     pub state : WorldState
     pub called : Calls w c s value state
@@ -131,8 +130,7 @@ module _ (w : PlainSetting) (f : Value) where
     pub is_nothing : v ≡ value.Unspecified
 
   -- what a call of `filter` or `remp` that gave this value did
-  pub record Filtered (choice : List Value → List Value → List Value) (xs : List Value) (s : WorldState)
-      (v : Value) (t : WorldState) : Type 0 where
+  pub record Filtered (choice : List Value → List Value → List Value) (xs : List Value) (s : WorldState) (v : Value) (t : WorldState) : Type 0 where
     pub answers : List Value
     pub in_turn : InTurn w f xs s answers t
     pub list : IsList t.cells (choice xs answers) v

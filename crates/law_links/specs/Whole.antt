@@ -37,8 +37,7 @@ BindersAreLinked = (f : FrameNo) (place : Span) (level : ℕ) (top : Bool) (id :
 module _ (records : List CompiledLibrary) where
   -- The links of a library are those of identifiers, and those of the references in its lines and in the expressions of its keywords are among them. The lines
   -- are those of the record.
-  pub record RunIsLinked (start : State) (at : TopAt) (exports : List (List ℕ × Tree)) (forms : List Tree)
-      (l : Linked) : Type 0 where
+  pub record RunIsLinked (start : State) (at : TopAt) (exports : List (List ℕ × Tree)) (forms : List Tree) (l : Linked) : Type 0 where
     pub taken : Taken
     pub first : State
     pub bound : List KeywordExpression

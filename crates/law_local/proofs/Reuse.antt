@@ -18,7 +18,7 @@ use Rattle.law_local.specs.Behind.{RunBase, behind, expand_behind, behind_next, 
 use Rattle.law_local.proofs.BehindLemmas.{all_same}
 use Rattle.law_local.specs.Entry.{ExpandedEntry, IsSoundEntry, HonestStore}
 use Rattle.law_local.specs.Local.{all_sources, entry_of, AreLoaded, IsNextLibrary, ReuseIsRight}
-use Rattle.law_local.specs.Reuse.{CacheModel, ReadsBack, entry_limit, same_held, same_source, fits, suits, if_right, if_short, stored_for, HoldsEntry, IsAlone, CanBeRead, MakesWhatSuits, HasTurns, IsKept, kept, too_long, unspelled, failed, LibraryTurn, reused, expanded, LibraryTurns, done, next, fault, ReuseChangesNothing}
+use Rattle.law_local.specs.Reuse.{CacheModel, ReadsBack, entry_limit, same_held, same_source, fits, suits, if_right, if_short, stored_for, HoldsEntry, IsAlone, CanBeRead, MakesWhatSuits, HasTurns, IsKept, turned, all_turned, kept, too_long, unspelled, failed, LibraryTurn, reused, expanded, LibraryTurns, done, next, fault, ReuseChangesNothing}
 use Rattle.law_local.proofs.RecordLemmas.{library-path}
 use Rattle.law_local.proofs.Local.{turns_to, turns_one}
 
@@ -120,7 +120,7 @@ module _ (base : RunBase) where
     kept_honest quiet e place before after sound same_entry honest (failed noisy others here) = touched place before after others here honest
 
     module _ (records : List CompiledLibrary) (store : Paths) (f : Found) (n : IsNextLibrary base group loaded records f) (honest : HonestStore base.prelude cache.entry_in store) (quiet : Bool) where
-      pub turn_right : (flag : Bool) (r : CompiledLibrary) (left : Paths) → LibraryTurn base cache roots group loaded quiet records store f flag r left
+      pub turn_right : (flag : Bool) (r : CompiledLibrary) (left : Paths) → LibraryTurn base cache roots group loaded quiet records store f (turned flag r left)
           → (expand_behind base records f (library_body f.opened.«data») ≡ Ok r) × HonestStore base.prelude cache.entry_in left
       turn_right flag r left (reused h) =
           let x = from_entry records store f r h in
@@ -132,7 +132,7 @@ module _ (base : RunBase) where
     -- ---- all libraries
 
     turns_right : (quiet : Bool) (before rows : Libraries) (records : List CompiledLibrary) (store : Paths) (flags : List Bool) (result : Result (List CompiledLibrary) Fault) (left : Paths)
-        → loaded ≡ before ++ rows → records_behind base before ≡ Ok records → HonestStore base.prelude cache.entry_in store → LibraryTurns base cache roots group loaded quiet rows records store flags result left
+        → loaded ≡ before ++ rows → records_behind base before ≡ Ok records → HonestStore base.prelude cache.entry_in store → LibraryTurns base cache roots group loaded quiet rows records store (all_turned flags result left)
         → (result ≡ records_behind base loaded) × HonestStore base.prelude cache.entry_in left
     turns_right quiet before rows records store flags result left parts made honest done =
         (sym made ∙ ap (records_behind base) (sym (append-nil before)) ∙ ap (records_behind base) (sym parts), honest)
@@ -162,7 +162,7 @@ module _ (base : RunBase) where
 
       -- the library's own turn
       turn_holds : (records : List CompiledLibrary) (store : Paths) (f : Found) → IsNextLibrary base group loaded records f → HonestStore base.prelude cache.entry_in store → (flag : Bool) (r : CompiledLibrary) (left : Paths)
-          → LibraryTurn base cache roots group loaded true records store f flag r left → CanBeRead cache (entry_of group roots loaded f r) → HoldsEntry cache roots group loaded left f r
+          → LibraryTurn base cache roots group loaded true records store f (turned flag r left) → CanBeRead cache (entry_of group roots loaded f r) → HoldsEntry cache roots group loaded left f r
       turn_holds records store f n honest flag r left (reused h) can =
           let x = from_entry records store f r h in
           let sound = honest (cache.place f) x.held x.entry x.there x.spells in
@@ -178,7 +178,7 @@ module _ (base : RunBase) where
 
       -- another turn leaves its place alone
       turn_leaves : (records : List CompiledLibrary) (store : Paths) (f : Found) (place : List ℕ) (flag : Bool) (r : CompiledLibrary) (left : Paths)
-          → LibraryTurn base cache roots group loaded true records store f flag r left → (place ≡ cache.place f → ⊥) → at_path left place ≡ at_path store place
+          → LibraryTurn base cache roots group loaded true records store f (turned flag r left) → (place ≡ cache.place f → ⊥) → at_path left place ≡ at_path store place
       turn_leaves records store f place flag r left (reused h) other = refl
       turn_leaves records store f place flag r left (expanded none made k) other = by left k
         where
@@ -189,7 +189,7 @@ module _ (base : RunBase) where
           by last (failed noisy others here) = others place other
 
       turns_leave : (rows : Libraries) (records : List CompiledLibrary) (store : Paths) (place : List ℕ) (flags : List Bool) (result : Result (List CompiledLibrary) Fault) (left : Paths)
-          → LibraryTurns base cache roots group loaded true rows records store flags result left → ((i : ℕ) (file : List ℕ) (l : Found) → slice_get rows i ≡ Some (file, l) → place ≡ cache.place l → ⊥) → at_path left place ≡ at_path store place
+          → LibraryTurns base cache roots group loaded true rows records store (all_turned flags result left) → ((i : ℕ) (file : List ℕ) (l : Found) → slice_get rows i ≡ Some (file, l) → place ≡ cache.place l → ⊥) → at_path left place ≡ at_path store place
       turns_leave rows records store place flags result left done other = refl
       turns_leave rows records store place flags result left (next {row = row} {rows = rest} {middle = middle} {flag = flag} {flags = more} {r = r} turn others) other =
           turns_leave rest (records ++ r ∷ []) middle place more result left others (λ i file l h. other (suc i) file l h)
@@ -218,7 +218,7 @@ module _ (base : RunBase) where
         still store left same h = record { held = h.held; there = same ∙ h.there; spells = h.spells }
 
         holds : (before middle rows : Libraries) (records later : List CompiledLibrary) (store : Paths) (flags : List Bool) (result : Result (List CompiledLibrary) Fault) (left : Paths)
-            → rows ≡ middle ++ (file, f) ∷ rest → loaded ≡ before ++ rows → records_behind base before ≡ Ok records → HonestStore base.prelude cache.entry_in store → LibraryTurns base cache roots group loaded true rows records store flags result left
+            → rows ≡ middle ++ (file, f) ∷ rest → loaded ≡ before ++ rows → records_behind base before ≡ Ok records → HonestStore base.prelude cache.entry_in store → LibraryTurns base cache roots group loaded true rows records store (all_turned flags result left)
             → turns (behind_next base) records middle ≡ Ok later → expand_behind base later f (library_body f.opened.«data») ≡ Ok r → HoldsEntry cache roots group loaded left f r
         holds before [] rows records later store flags result left split parts made honest done so_far made_here = absurd (cc)
         holds before (x ∷ middle) rows records later store flags result left split parts made honest done so_far made_here = absurd (cc)
@@ -226,13 +226,13 @@ module _ (base : RunBase) where
             let same : row ≡ (file, f) = cc in
             let behind : others ≡ rest = cc in
             let records_same : records ≡ later = cc in
-            let own : LibraryTurn base cache roots group loaded true records store f flag r0 store_after = subst (λ (y : List ℕ × Found). LibraryTurn base cache roots group loaded true records store y.1 flag r0 store_after) same turn in
+            let own : LibraryTurn base cache roots group loaded true records store f (turned flag r0 store_after) = subst (λ (y : List ℕ × Found). LibraryTurn base cache roots group loaded true records store y.1 (turned flag r0 store_after)) same turn in
             let whole : loaded ≡ before ++ (file, f) ∷ rest = parts ∙ ap (λ (ls : Libraries). before ++ ls) split in
             let n : IsNextLibrary base group loaded records f = record { before = before; file = file; after = rest; parts = whole; recorded = made } in
             let gives = (turn_right records store f n honest true flag r0 store_after own).0 in
             let both : ◌≡◌ {A = Result CompiledLibrary Fault} (Ok r0) (Ok r) = sym gives ∙ ap (λ (rs : List CompiledLibrary). expand_behind base rs f (library_body f.opened.«data»)) records_same ∙ made_here in
             let r_same : r0 ≡ r = cc in
-            let mine : LibraryTurn base cache roots group loaded true records store f flag r store_after = subst (λ (y : CompiledLibrary). LibraryTurn base cache roots group loaded true records store f flag y store_after) r_same own in
+            let mine : LibraryTurn base cache roots group loaded true records store f (turned flag r store_after) = subst (λ (y : CompiledLibrary). LibraryTurn base cache roots group loaded true records store f (turned flag y store_after)) r_same own in
             still store_after left
             (turns_leave others (records ++ r0 ∷ []) store_after (cache.place f) more result left turns_after
             (λ i name l h. elsewhere before whole i name l (subst (λ (ls : Libraries). slice_get ls i ≡ Some (name, l)) behind h)))
@@ -257,7 +257,7 @@ module _ (base : RunBase) where
             let both = sym (ap (λ y. y >>= (λ z. turns (behind_next base) z middle)) step) ∙ so_far in
             absurd (cc)
 
-      all_hold : (store : Paths) (flags : List Bool) (result : Result (List CompiledLibrary) Fault) (left : Paths) → HonestStore base.prelude cache.entry_in store → LibraryTurns base cache roots group loaded true loaded [] store flags result left
+      all_hold : (store : Paths) (flags : List Bool) (result : Result (List CompiledLibrary) Fault) (left : Paths) → HonestStore base.prelude cache.entry_in store → LibraryTurns base cache roots group loaded true loaded [] store (all_turned flags result left)
           → (records : List CompiledLibrary) (f : Found) (r : CompiledLibrary) → IsNextLibrary base group loaded records f → expand_behind base records f (library_body f.opened.«data») ≡ Ok r → IsAlone cache loaded f → CanBeRead cache (entry_of group roots loaded f r)
           → HoldsEntry cache roots group loaded left f r
       all_hold store flags result left honest turns records f r n made alone can =

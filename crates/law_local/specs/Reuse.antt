@@ -26,6 +26,24 @@ pub record CacheModel : Type 0 where
   pub place : Found → List ℕ
   pub follows : CompiledLibrary → List CompiledLibrary → Bool
 
+-- the turn of one library: whether it is reused, its record, and the store that is left
+pub record TurnOutcome : Type 0 where
+  pub reused : Bool
+  pub compiled : CompiledLibrary
+  pub left : Paths
+
+abbrev pub turned : Bool → CompiledLibrary → Paths → TurnOutcome
+turned flag r left = record { reused = flag; compiled = r; left = left }
+
+-- the turns of all: which are reused, their records or the first fault, and the store that is left
+pub record TurnsOutcome : Type 0 where
+  pub reused : List Bool
+  pub result : Result (List CompiledLibrary) Fault
+  pub left : Paths
+
+abbrev pub all_turned : List Bool → Result (List CompiledLibrary) Fault → Paths → TurnsOutcome
+all_turned flags result left = record { reused = flags; result = result; left = left }
+
 -- the most bytes of an entry
 abbrev pub entry_limit : ℕ
 entry_limit = 8388608
@@ -50,12 +68,12 @@ unfoldable pub suits : CacheModel → List CompiledLibrary → Found → Compile
 suits cache earlier f r = same_library r.name f.opened.form.name &&
     (pointwise nat_eq r.version f.opened.form.version && (same_text r.path f.opened.path && cache.follows r earlier))
 
--- the place of a library holds its entry
-pub record HoldsEntry (cache : CacheModel) (roots : List (List ℕ)) (group : Found → List Source) (loaded : Libraries) (store : Paths)
-    (f : Found) (r : CompiledLibrary) : Type 0 where
-  pub held : List ℕ
-  pub there : at_path store (cache.place f) ≡ Some held
-  pub spells : cache.entry_in held ≡ Some (entry_of group roots loaded f r)
+module _ (cache : CacheModel) (roots : List (List ℕ)) (group : Found → List Source) (loaded : Libraries) where
+  -- the place of a library holds its entry
+  pub record HoldsEntry (store : Paths) (f : Found) (r : CompiledLibrary) : Type 0 where
+    pub held : List ℕ
+    pub there : at_path store (cache.place f) ≡ Some held
+    pub spells : cache.entry_in held ≡ Some (entry_of group roots loaded f r)
 
 -- no other library lies at its place
 abbrev pub IsAlone : CacheModel → Libraries → Found → Type 0
@@ -100,33 +118,32 @@ module _ (base : RunBase) where
             → ((held : List ℕ) (d : ExpandedEntry) → at_path after place ≡ Some held → cache.entry_in held ≡ Some d
             → IsSoundEntry base.prelude d) → IsKept e place before after
 
-      -- the turn of one library: whether it is reused, its record, and the store that is left
-      pub data LibraryTurn (records : List CompiledLibrary) (store : Paths) (f : Found) : Bool → CompiledLibrary → Paths → Type 0 where
-        reused : {r : CompiledLibrary} → stored_for records store f ≡ Some r → LibraryTurn records store f true r store
+      -- the turn of one library
+      pub data LibraryTurn (records : List CompiledLibrary) (store : Paths) (f : Found) : TurnOutcome → Type 0 where
+        reused : {r : CompiledLibrary} → stored_for records store f ≡ Some r → LibraryTurn records store f (turned true r store)
         expanded : {r : CompiledLibrary} {left : Paths} → (quiet ≡ true → stored_for records store f ≡ None)
             → expand_behind base records f (library_body f.opened.«data») ≡ Ok r
-            → IsKept (entry_of group roots loaded f r) (cache.place f) store left → LibraryTurn records store f false r left
+            → IsKept (entry_of group roots loaded f r) (cache.place f) store left → LibraryTurn records store f (turned false r left)
 
-      -- the turns of all: which are reused, their records or the first fault, and the store that is left
-      pub data LibraryTurns : Libraries → List CompiledLibrary → Paths → List Bool → Result (List CompiledLibrary) Fault → Paths → Type 0 where
-        done : {records : List CompiledLibrary} {store : Paths} → LibraryTurns [] records store [] (Ok records) store
+      -- the turns of all, to the last or to the first fault
+      pub data LibraryTurns : Libraries → List CompiledLibrary → Paths → TurnsOutcome → Type 0 where
+        done : {records : List CompiledLibrary} {store : Paths} → LibraryTurns [] records store (all_turned [] (Ok records) store)
         next : {row : List ℕ × Found} {rows : Libraries} {records : List CompiledLibrary} {store middle left : Paths} {flag : Bool}
             {flags : List Bool} {r : CompiledLibrary} {result : Result (List CompiledLibrary) Fault}
-            → LibraryTurn records store row.1 flag r middle → LibraryTurns rows (records ++ r ∷ []) middle flags result left
-            → LibraryTurns (row ∷ rows) records store (flag ∷ flags) result left
+            → LibraryTurn records store row.1 (turned flag r middle) → LibraryTurns rows (records ++ r ∷ []) middle (all_turned flags result left)
+            → LibraryTurns (row ∷ rows) records store (all_turned (flag ∷ flags) result left)
         fault : {row : List ℕ × Found} {rows : Libraries} {records : List CompiledLibrary} {store : Paths} {f : Fault}
             → (quiet ≡ true → stored_for records store row.1 ≡ None)
-            → expand_behind base records row.1 (library_body row.1.opened.«data») ≡ Err f → LibraryTurns (row ∷ rows) records store [] (Err f) store
+            → expand_behind base records row.1 (library_body row.1.opened.«data») ≡ Err f → LibraryTurns (row ∷ rows) records store (all_turned [] (Err f) store)
+
+    -- the turns over some store
+    pub record HasTurns (rows : Libraries) (records : List CompiledLibrary) (store : Paths) : Type 0 where
+      pub flags : List Bool
+      pub result : Result (List CompiledLibrary) Fault
+      pub left : Paths
+      pub turns : LibraryTurns true rows records store (all_turned flags result left)
 
   -- ---- what reuse leaves as it is
-
-  -- the turns over some store
-  pub record HasTurns (cache : CacheModel) (roots : List (List ℕ)) (group : Found → List Source) (loaded : Libraries) (rows : Libraries)
-      (records : List CompiledLibrary) (store : Paths) : Type 0 where
-    pub flags : List Bool
-    pub result : Result (List CompiledLibrary) Fault
-    pub left : Paths
-    pub turns : LibraryTurns cache roots group loaded true rows records store flags result left
 
   -- what a run gives a library suits it
   abbrev pub MakesWhatSuits : CacheModel → (Found → List Source) → Libraries → Type 0
@@ -138,15 +155,15 @@ module _ (base : RunBase) where
     -- over an honest store the records, or the first fault, are those of expansion
     pub same : (quiet : Bool) (store : Paths) (flags : List Bool) (result : Result (List CompiledLibrary) Fault) (left : Paths)
         → HonestStore base.prelude cache.entry_in store
-        → LibraryTurns cache roots group loaded quiet loaded [] store flags result left
+        → LibraryTurns cache roots group loaded quiet loaded [] store (all_turned flags result left)
         → all_records base.prelude loaded ≡ (result >>= (λ others. Ok (base.derived ∷ others)))
     -- and the store that is left is honest
     pub honest : (quiet : Bool) (store : Paths) (flags : List Bool) (result : Result (List CompiledLibrary) Fault) (left : Paths)
         → HonestStore base.prelude cache.entry_in store
-        → LibraryTurns cache roots group loaded quiet loaded [] store flags result left → HonestStore base.prelude cache.entry_in left
+        → LibraryTurns cache roots group loaded quiet loaded [] store (all_turned flags result left) → HonestStore base.prelude cache.entry_in left
     -- where the store doesn't fail, the place of each library that has a record holds its entry, if that can be read and the place is its own
     pub kept : (store : Paths) (flags : List Bool) (result : Result (List CompiledLibrary) Fault) (left : Paths) → HonestStore base.prelude cache.entry_in store
-        → LibraryTurns cache roots group loaded true loaded [] store flags result left
+        → LibraryTurns cache roots group loaded true loaded [] store (all_turned flags result left)
         → (records : List CompiledLibrary) (f : Found) (r : CompiledLibrary) → IsNextLibrary base group loaded records f
         → expand_behind base records f (library_body f.opened.«data») ≡ Ok r
         → IsAlone cache loaded f → CanBeRead cache (entry_of group roots loaded f r) → HoldsEntry cache roots group loaded left f r

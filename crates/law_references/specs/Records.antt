@@ -74,8 +74,7 @@ module _ (libs : List LibName) (own : LibName) (records : List CompiledLibrary) 
   -- The lines of a record are those of what the first pass took, and their references are right in the last state, whose rows the record has. Its keywords
   -- have the expressions that were expanded in the first pass and in the second, and the references of these are right, each to the end of its expression. Its
   -- exports are what their identifiers stand for.
-  pub record RunIsRight (start : State) (at : TopAt)
-      (exports : List (List ℕ × Tree)) (forms : List Tree) (r : CompiledLibrary) : Type 0 where
+  pub record RunIsRight (start : State) (at : TopAt) (exports : List (List ℕ × Tree)) (forms : List Tree) (r : CompiledLibrary) : Type 0 where
     pub taken : Taken
     pub first : State
     pub bound : List KeywordExpression

@@ -73,12 +73,12 @@ module _ (base : RunBase) (k : CacheInputs) (group : Found → List Source) (loa
       behind_here x h =
           sym ((those_of_runs base).each others f (library_body f.opened.«data»)) ∙ ap (λ (rs : List CompiledLibrary). expand_found base.prelude rs f (library_body f.opened.«data»)) (sym is) ∙ h
 
-      law_turn : (flag : Bool) (r : CompiledLibrary) (left : Paths) → law.LibraryTurn base (cache_of k) k.roots group loaded false others s.store f flag r left
+      law_turn : (flag : Bool) (r : CompiledLibrary) (left : Paths) → law.LibraryTurn base (cache_of k) k.roots group loaded false others s.store f (law.turned flag r left)
           → (expand_behind base others f (library_body f.opened.«data») ≡ Ok r) × entries.HonestStore base.prelude (cache_of k).entry_in left
       law_turn flag r left turn = turn_right base (cache_of k) k.roots group loaded back right others s.store f n (honest_there base k s.store honest) false flag r left turn
 
       put_turn : (r : CompiledLibrary) (asked faults : ℕ) (left : Paths) → expand_found base.prelude s.progress.records f (library_body f.opened.«data») ≡ Ok r
-          → (p : IsPut (place_of k f) (changed s.store asked left faults) (spelled (made k f r))) → PutIsHonest base.prelude p → law.LibraryTurn base (cache_of k) k.roots group loaded false others s.store f false r left
+          → (p : IsPut (place_of k f) (changed s.store asked left faults) (spelled (made k f r))) → PutIsHonest base.prelude p → law.LibraryTurn base (cache_of k) k.roots group loaded false others s.store f (law.turned false r left)
       put_turn r asked faults left made_here p h = law.expanded (λ quiet. absurd (true≢false (sym quiet))) (behind_here (Ok r) made_here) (is_kept r (changed s.store asked left faults) (spelled (made k f r)) refl p h)
 
       -- what was reused is what expansion gives

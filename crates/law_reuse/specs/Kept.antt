@@ -38,11 +38,11 @@ module _ (k : CacheInputs) where
   abbrev pub CanBeKept : Found → CompiledLibrary → Type 0
   CanBeKept f r = (has_spelling (made k f r) ≡ true) × (length (sealed (encode (made k f r))) ≤ entry_limit)
 
--- of each library that has a record, where it is alone in its place and its entry can be kept
-abbrev pub HoldsEntries : CacheInputs → RunBase → Paths → List (List ℕ) → Loading → Paths → Type 0
-HoldsEntries k base files roots s store = (others : List CompiledLibrary) (f : Found) (r : CompiledLibrary)
-    → IsNextLibrary base (group_of files roots) s.done others f
-    → expand_behind base others f (library_body f.opened.«data») ≡ Ok r → IsAlone k s.done f → CanBeKept k f r → HoldsShortEntry k store f r
+  -- of each library that has a record, where it is alone in its place and its entry can be kept
+  abbrev pub HoldsEntries : RunBase → Paths → List (List ℕ) → Loading → Paths → Type 0
+  HoldsEntries base files roots s store = (others : List CompiledLibrary) (f : Found) (r : CompiledLibrary)
+      → IsNextLibrary base (group_of files roots) s.done others f
+      → expand_behind base others f (library_body f.opened.«data») ≡ Ok r → IsAlone s.done f → CanBeKept f r → HoldsShortEntry store f r
 
 -- where no call of the store fails, over an honest store
 pub record EntriesAreKept (base : RunBase) (files : Paths) (roots : List (List ℕ)) (s : Loading) : Type 0 where

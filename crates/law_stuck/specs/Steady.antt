@@ -47,8 +47,7 @@ pub record ImportedHasCode (rs : List CompiledLibrary) (keywords : List (Label �
 module _ (own : LibName) (texts : List CodeNo) (rs : List CompiledLibrary) where
   -- Why the code of a procedure stands on a stage: it is that of a text, it stands in the expression of such a keyword, or in the lines of a library
   -- that was evaluated.
-  pub data HasCode (keywords : List (Label × Keyword))
-      (evaluated : List LibName) (n : CodeNo) : Type 0 where
+  pub data HasCode (keywords : List (Label × Keyword)) (evaluated : List LibName) (n : CodeNo) : Type 0 where
     text : Among texts n → HasCode keywords evaluated n
     ours : OwnHasCode own keywords n → HasCode keywords evaluated n
     imported : ImportedHasCode rs keywords n → HasCode keywords evaluated n
