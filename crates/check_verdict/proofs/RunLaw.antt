@@ -1,6 +1,6 @@
 -- From what is read and what sinks take to how a check ends.
-use Rattle.std.proofs.Common.{◌≡◌, ℕ, ◌<◌, Bool, true, false, List, length, take, Option, Some, None, Result, Ok, Err, refl, sym, ap, ◌∙◌, cond}
-use Rattle.std.specs.Prelude.{nat_lt, IfOk, IfSome, codes}
+use Rattle.std.proofs.Common.{◌≡◌, ℕ, ◌<◌, Bool, true, false, List, length, take, Option, Some, None, Result, Ok, Err, refl, sym, ap, ◌∙◌, cond, inl, inr}
+use Rattle.std.specs.Prelude.{◌⊎◌, nat_lt, IfOk, IfSome, codes}
 use Rattle.check_verdict.specs.declared.run.FileReport.{FileReport}
 use Rattle.check_verdict.specs.declared.run.Unanswered.{Unanswered}
 use Rattle.check_verdict.specs.declared.status.CheckStatus.{CheckStatus}
@@ -8,7 +8,7 @@ use Rattle.check_verdict.specs.declared.status.CheckStatus.TheVariants as status
 use Rattle.check_verdict.specs.declared.verdict.Verdict.{Verdict}
 use Rattle.check_verdict.specs.declared.verdict.Verdict.TheVariants as verdict
 use Rattle.check_verdict.specs.Ended.{told, IsOf, Ended}
-use Rattle.check_verdict.specs.Headline.{Sunk, Untouched, Broke, Puts, Gave, IsAccepted, IsRefused, CheckHeadline, Complete}
+use Rattle.check_verdict.specs.Headline.{Sunk, asked, Untouched, Broke, Puts, Gave, IsAccepted, IsRefused, CheckHeadline, Complete}
 use Rattle.check_verdict.specs.Judged.{Judged, VerdictsAre}
 use Rattle.check_verdict.specs.Lines.{verdict_of}
 use Rattle.check_verdict.specs.Whole.{ToldLine, file_named, most_bytes, usage_line, too_long, of_verdict, of_reading, status_asked, whole_status}
@@ -34,7 +34,7 @@ is_of files path reading (Err u) h e = tt
 
 module _ (files : Option Paths) (words : List (List ℕ)) (faults_before faults_after : ℕ) (out err : Sunk) where
   pub answered : (path : List ℕ) (a : FileReport) (s : CheckStatus) → file_named words ≡ Some path → IsOf files path a → Untouched err → Puts out (told a).line (told a).status s
-      → Ended files words faults_before faults_after out err s
+      → Ended (asked files faults_before faults_after) words out err s
   answered path a s named of same puts = Ended.answered path of.reading named of.gave same (put_as (told a) (of_reading of.reading) of.same puts) where
     put_as : (t u : ToldLine) → t ≡ u → Puts out t.line t.status s → Puts out u.line u.status s
     put_as t u e p = rw (← e) p
@@ -67,41 +67,41 @@ module _ (files : Option Paths) (words : List (List ℕ)) (faults_before faults_
 
   module _ (law : VerdictsAre) (s : CheckStatus) (path : List ℕ) (named : file_named words ≡ Some path) (same : Untouched err) where
     by_verdict : (x : List ℕ) (v : Verdict) → verdict_of x ≡ v → Gave files path (λ z. z ≡ bytes x) → Puts out (of_verdict v).line (of_verdict v).status s
-        → CheckHeadline files words faults_before faults_after out err s
+        → CheckHeadline (asked files faults_before faults_after) words out err s
     by_verdict x verdict.Yes e g p = CheckHeadline.is_core_text path named (gave_as path (bytes x) IsAccepted g (IsAccepted.accepted x ((law x verdict.Yes).0 e))) same p
     by_verdict x (verdict.No w) e g p = CheckHeadline.is_none path w named (gave_as path (bytes x) (IsRefused w) g (IsRefused.refused x ((law x (verdict.No w)).0 e))) same p
 
     by_length : (x : List ℕ) (b : Bool) → nat_lt most_bytes (length x) ≡ b → Gave files path (λ z. z ≡ bytes x) → Puts out (cond b too_long (of_verdict (verdict_of x))).line (cond b too_long (of_verdict (verdict_of x))).status s
-        → CheckHeadline files words faults_before faults_after out err s
+        → CheckHeadline (asked files faults_before faults_after) words out err s
     by_length x true e g p = CheckHeadline.is_longer path named (long_read path x e g) same p
     by_length x false e g p = by_verdict x (verdict_of x) refl g p
 
-    by_reading : (r : Reading) → Gave files path (λ z. z ≡ r) → Puts out (of_reading r).line (of_reading r).status s → CheckHeadline files words faults_before faults_after out err s
+    by_reading : (r : Reading) → Gave files path (λ z. z ≡ r) → Puts out (of_reading r).line (of_reading r).status s → CheckHeadline (asked files faults_before faults_after) words out err s
     by_reading (bytes x) g p = by_length x (nat_lt most_bytes (length x)) refl g p
     by_reading longer g p = CheckHeadline.is_longer path named g same p
     by_reading absent g p = CheckHeadline.is_absent path named g same p
 
   -- how a check ends by its definition is how it ends by the cases of the grammar
-  pub headline : VerdictsAre → (s : CheckStatus) → Ended files words faults_before faults_after out err s → CheckHeadline files words faults_before faults_after out err s
+  pub headline : VerdictsAre → (s : CheckStatus) → Ended (asked files faults_before faults_after) words out err s → CheckHeadline (asked files faults_before faults_after) words out err s
   headline law s (Ended.answered path r named gave same puts) = by_reading law s path named same r gave puts
   headline law s (Ended.wrong_words none same puts) = CheckHeadline.wrong_words none same puts
   headline law s (Ended.read_fault e rose o p) = CheckHeadline.read_fault e rose o p
   headline law s (Ended.no_memory e o p) = CheckHeadline.no_memory e o p
 
   abbrev IsComplete : CheckStatus → Type 0
-  IsComplete s = Complete files words (Rose faults_before faults_after) (Rose out.faults_before out.faults_after) (Rose err.faults_before err.faults_after) s
+  IsComplete s = Complete files words ((Rose faults_before faults_after) ⊎ ((Rose out.faults_before out.faults_after) ⊎ (Rose err.faults_before err.faults_after))) s
 
   excused : (s : CheckStatus) → (¬ Rose faults_before faults_after → ¬ Rose out.faults_before out.faults_after → ¬ Rose err.faults_before err.faults_after → ¬ (s ≡ status.Memory) → ⊥) → IsComplete s
   excused s never = by files where
-    by : (fs : Option Paths) → Complete fs words (Rose faults_before faults_after) (Rose out.faults_before out.faults_after) (Rose err.faults_before err.faults_after) s
+    by : (fs : Option Paths) → Complete fs words ((Rose faults_before faults_after) ⊎ ((Rose out.faults_before out.faults_after) ⊎ (Rose err.faults_before err.faults_after))) s
     by None = tt
-    by (Some fs) = λ p q r m. absurd (never p q r m)
+    by (Some fs) = λ quiet m. absurd (never (λ p. quiet (inl p)) (λ q. quiet (inr (inl q))) (λ r. quiet (inr (inr r))) m)
 
   asked_as : (s : CheckStatus) → IfSome files (λ fs. s ≡ whole_status fs words) → IsComplete s
   asked_as s h = by files h where
-    by : (fs : Option Paths) → IfSome fs (λ f. s ≡ whole_status f words) → Complete fs words (Rose faults_before faults_after) (Rose out.faults_before out.faults_after) (Rose err.faults_before err.faults_after) s
+    by : (fs : Option Paths) → IfSome fs (λ f. s ≡ whole_status f words) → Complete fs words ((Rose faults_before faults_after) ⊎ ((Rose out.faults_before out.faults_after) ⊎ (Rose err.faults_before err.faults_after))) s
     by None h = tt
-    by (Some fs) h = λ p q r m. h
+    by (Some fs) h = λ quiet m. h
 
   answer_status : (path : List ℕ) (r : Reading) → file_named words ≡ Some path → Gave files path (λ z. z ≡ r) → IfSome files (λ fs. (of_reading r).status ≡ whole_status fs words)
   answer_status path r named g = by files g where
@@ -119,7 +119,7 @@ module _ (files : Option Paths) (words : List (List ℕ)) (faults_before faults_
   by_put s _ line sunk rose h (Puts.put w) = h
   by_put _ t line sunk rose h (Puts.broke b) = rose b.rose
 
-  pub complete : (s : CheckStatus) → Ended files words faults_before faults_after out err s → IsComplete s
+  pub complete : (s : CheckStatus) → Ended (asked files faults_before faults_after) words out err s → IsComplete s
   complete s (Ended.answered path r named gave same puts) =
       by_put s (of_reading r).status (of_reading r).line out (λ rose. excused s (λ p q e m. q rose)) (asked_as (of_reading r).status (answer_status path r named gave)) puts
   complete s (Ended.wrong_words none same puts) = by_put s status.Usage usage_line err (λ rose. excused s (λ p q e m. e rose)) (asked_as status.Usage (usage_status none)) puts

@@ -20,6 +20,15 @@ pub record Sunk : Type 0 where
   pub puts_before : ℕ
   pub puts_after : ℕ
 
+-- files before a call and after it: what they held, where it is told, and their count of faults
+pub record FilesAsked : Type 0 where
+  pub told : Option Paths
+  pub faults_before : ℕ
+  pub faults_after : ℕ
+
+abbrev pub asked : Option Paths → ℕ → ℕ → FilesAsked
+asked told faults_before faults_after = record { told = told; faults_before = faults_before; faults_after = faults_after }
+
 -- the sink got this piece by one put, and nothing else
 abbrev pub Wrote : Sunk → List ℕ → Type 0
 Wrote sunk piece = Gains sunk.before sunk.after piece × (sunk.puts_after ≡ raised sunk.puts_before)
@@ -54,25 +63,24 @@ pub data IsRefused (w : Why) : Reading → Type 0 where
   refused : (x : List ℕ) → Judged x (verdict.No w) → IsRefused w (bytes x)
 
 -- what a check wrote, and why it ended as it did
-pub data CheckHeadline (told : Option Paths) (words : List (List ℕ)) (faults_before faults_after : ℕ) (out err : Sunk) (s : CheckStatus) : Type 0 where
+pub data CheckHeadline (files : FilesAsked) (words : List (List ℕ)) (out err : Sunk) (s : CheckStatus) : Type 0 where
   -- the file is a core text
-  is_core_text : (path : List ℕ) → file_named words ≡ Some path → Gave told path IsAccepted → Untouched err → Puts out (codes "yes\n") status.Yes s
-      → CheckHeadline told words faults_before faults_after out err s
+  is_core_text : (path : List ℕ) → file_named words ≡ Some path → Gave files.told path IsAccepted → Untouched err → Puts out (codes "yes\n") status.Yes s
+      → CheckHeadline files words out err s
   -- it is none
-  is_none : (path : List ℕ) (w : Why) → file_named words ≡ Some path → Gave told path (IsRefused w) → Untouched err → Puts out (why_text w) status.No s
-      → CheckHeadline told words faults_before faults_after out err s
+  is_none : (path : List ℕ) (w : Why) → file_named words ≡ Some path → Gave files.told path (IsRefused w) → Untouched err → Puts out (why_text w) status.No s
+      → CheckHeadline files words out err s
   -- it is too long
-  is_longer : (path : List ℕ) → file_named words ≡ Some path → Gave told path (λ r. r ≡ longer) → Untouched err → Puts out (codes "no: longer\n") status.No s
-      → CheckHeadline told words faults_before faults_after out err s
+  is_longer : (path : List ℕ) → file_named words ≡ Some path → Gave files.told path (λ r. r ≡ longer) → Untouched err → Puts out (codes "no: longer\n") status.No s
+      → CheckHeadline files words out err s
   -- it isn't there
-  is_absent : (path : List ℕ) → file_named words ≡ Some path → Gave told path (λ r. r ≡ absent) → Untouched err → Puts out (codes "no: absent\n") status.No s
-      → CheckHeadline told words faults_before faults_after out err s
-  wrong_words : file_named words ≡ None → Untouched out → Puts err usage_line status.Usage s → CheckHeadline told words faults_before faults_after out err s
-  read_fault : s ≡ status.ReadFault → Rose faults_before faults_after → Untouched out → Untouched err
-      → CheckHeadline told words faults_before faults_after out err s
-  no_memory : s ≡ status.Memory → Untouched out → Untouched err → CheckHeadline told words faults_before faults_after out err s
+  is_absent : (path : List ℕ) → file_named words ≡ Some path → Gave files.told path (λ r. r ≡ absent) → Untouched err → Puts out (codes "no: absent\n") status.No s
+      → CheckHeadline files words out err s
+  wrong_words : file_named words ≡ None → Untouched out → Puts err usage_line status.Usage s → CheckHeadline files words out err s
+  read_fault : s ≡ status.ReadFault → Rose files.faults_before files.faults_after → Untouched out → Untouched err
+      → CheckHeadline files words out err s
+  no_memory : s ≡ status.Memory → Untouched out → Untouched err → CheckHeadline files words out err s
 
--- where no count rose, the status is the definition's, unless memory ran out
-abbrev pub Complete : Option Paths → List (List ℕ) → (files_rose out_rose err_rose : Type 0) → CheckStatus → Type 0
-Complete told words files_rose out_rose err_rose s =
-    IfSome told (λ files. ¬ files_rose → ¬ out_rose → ¬ err_rose → ¬ (s ≡ status.Memory) → s ≡ whole_status files words)
+-- where files are told and no count rose, the status is the definition's, unless memory ran out
+abbrev pub Complete : Option Paths → List (List ℕ) → (rose : Type 0) → CheckStatus → Type 0
+Complete told words rose s = IfSome told (λ files. ¬ rose → ¬ (s ≡ status.Memory) → s ≡ whole_status files words)

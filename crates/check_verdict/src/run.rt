@@ -1,7 +1,7 @@
 //! All that the program does, over any files and sinks.
 
-ghost use Rattle.std.specs.Prelude.{◌≡◌, ◌≢◌, ◌<◌, ◌^◌, IfOk, Err, length, option_map};
-ghost use Rattle.check_verdict.specs.Headline.{Sunk, Puts, CheckHeadline, Complete};
+ghost use Rattle.std.specs.Prelude.{◌≡◌, ◌≢◌, ◌⊎◌, ◌<◌, ◌^◌, IfOk, Err, length, option_map};
+ghost use Rattle.check_verdict.specs.Headline.{Sunk, asked, Puts, CheckHeadline, Complete};
 ghost use Rattle.check_verdict.specs.Lines.{verdict_of};
 ghost use Rattle.check_verdict.specs.Whole.{texts, file_named, if_file, status_of, told_no, of_verdict, of_reading};
 ghost use Rattle.check_verdict.specs.Ended.{told, IsOf, Ended};
@@ -166,7 +166,7 @@ pub fn check_run<F: Files, O: Sink, E: Sink>(
     out: &mut O,
     err: &mut E,
 ) -> CheckStatus
-    ensures headline { CheckHeadline (F.told files.old) (texts words.now) (F.faults files.old) (F.faults files.new)
+    ensures headline { CheckHeadline (asked (F.told files.old) (F.faults files.old) (F.faults files.new)) (texts words.now)
         (record {
           before = O.told out.old;
           after = O.told out.new;
@@ -183,8 +183,9 @@ pub fn check_run<F: Files, O: Sink, E: Sink>(
           puts_before = E.puts err.old;
           puts_after = E.puts err.new;
         }) result }
-    ensures complete { Complete (F.told files.old) (texts words.now) (Rose (F.faults files.old) (F.faults files.new))
-        (Rose (O.faults out.old) (O.faults out.new)) (Rose (E.faults err.old) (E.faults err.new)) result }
+    ensures complete { Complete (F.told files.old) (texts words.now)
+        (Rose (F.faults files.old) (F.faults files.new) ⊎ (Rose (O.faults out.old) (O.faults out.new) ⊎ Rose (E.faults err.old) (E.faults err.new)))
+        result }
 {
     verdicts_are_by_cases();
     run_words(alloc, words, files, out, err)
@@ -197,7 +198,7 @@ fn run_words<F: Files, O: Sink, E: Sink>(
     out: &mut O,
     err: &mut E,
 ) -> CheckStatus
-    ensures { Ended (F.told files.old) (texts words.now) (F.faults files.old) (F.faults files.new)
+    ensures { Ended (asked (F.told files.old) (F.faults files.old) (F.faults files.new)) (texts words.now)
         (record {
           before = O.told out.old;
           after = O.told out.new;

@@ -65,7 +65,7 @@ module _ (own : LibName) (K : ℕ → Mark → Type 0) (J : ℕ → FrameNo → 
   -- In a use with the mark of the name of number m.
 
   abbrev pub In : ℕ → ℕ → LeafContext → Type 0
-  In m n c = InUse own J P m n c
+  In m n c = InUse J P (mark_named own m) n c
 
   in-later : (m a b : ℕ) (c : LeafContext) → a ≤ b → In m a c → In m b c
   in-later m a b c le h = λ k low lt. h k (omega (arith, le, low)) lt

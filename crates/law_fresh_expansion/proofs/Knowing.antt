@@ -71,10 +71,10 @@ module _ (libs : List LibName) (own : LibName) where
     its-mark : (m n : ℕ) → m < n → K n (mark_named own m)
     its-mark m n lt = inr (refl, lt)
 
-    left-later : (m n : ℕ) (c : LeafContext) → Q n c → InUse own J Q m n c
+    left-later : (m n : ℕ) (c : LeafContext) → Q n c → InUse J Q (mark_named own m) n c
     left-later m n c h = λ k low lt. let at : Q k c = later n k c low h in (at, λ f j. changed k (change.Leave (mark_named own m) f) c (its-mark m k lt, j) at)
 
-    entered-later : (m : ℕ) (c : LeafContext) → Q m c → InUse own J Q m m (entered (mark_named own m) c)
+    entered-later : (m : ℕ) (c : LeafContext) → Q m c → InUse J Q (mark_named own m) m (entered (mark_named own m) c)
     entered-later m c h = λ k low lt.
         let at : Q k (entered (mark_named own m) c) = changed k (change.Enter (mark_named own m)) c (its-mark m k lt) (later m k c low h) in
         (at, λ f j. changed k (change.Leave (mark_named own m) f) (entered (mark_named own m) c) (its-mark m k lt, j) at)

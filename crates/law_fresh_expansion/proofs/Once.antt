@@ -106,10 +106,10 @@ module _ (libs : List LibName) (own : LibName) where
     brought-in : (m k : ℕ) (f : Option FrameNo) (c : LeafContext) → m < k → OptionHolds (J k) f → P k c → has_mark (M m) c.marks ≡ false → P k (left (M m) f c)
     brought-in m k f c lt j h lacking = one-more (K k) (J k) (introduced (M m) f) c h (inr (refl, lt), j) lacking
 
-    there-at : (m : ℕ) (c : LeafContext) → P m c → InUse own J P m m c
+    there-at : (m : ℕ) (c : LeafContext) → P m c → InUse J P (mark_named own m) m c
     there-at m c h = λ k low lt. (later m k c low h, λ f j. brought-in m k f c lt j (later m k c low h) (lacks m c h))
 
-    entered-at : (m : ℕ) (c : LeafContext) → P m c → InUse own J P m m (entered (M m) c)
+    entered-at : (m : ℕ) (c : LeafContext) → P m c → InUse J P (mark_named own m) m (entered (M m) c)
     entered-at m c h = λ k low lt.
         let at : P k c = later m k c low h in (
           subst (P k) (left_introduced (M m) None c (lacks_first (M m) c.marks (lacks m c h))) (brought-in m k None c lt tt at (lacks m c h)),
@@ -119,7 +119,7 @@ module _ (libs : List LibName) (own : LibName) where
     other-name : (m n : ℕ) → m < n → M n ≢ M m
     other-name m n lt e = let same : n ≡ m = ap (λ (x : Mark). x.0.number) e in omega (arith, lt, same)
 
-    temporary-in : (m n : ℕ) → m < n → InUse own J P m (suc n) (temporary_context own n)
+    temporary-in : (m n : ℕ) → m < n → InUse J P (mark_named own m) (suc n) (temporary_context own n)
     temporary-in m n lt = λ k low more. (
       temporary-at n k (omega (arith, low)),
       λ f j. brought-in m k f (temporary_context own n) more j (temporary-at n k (omega (arith, low))) (ap (λ b. cond b true false) (same_mark-differs (M n) (M m) (other-name m n lt))),

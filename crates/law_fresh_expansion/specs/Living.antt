@@ -21,10 +21,10 @@ IsChangeOf K J (change.Enter m) = K m
 IsChangeOf K J (change.Leave m f) = K m × OptionHolds J f
 IsChangeOf K J (change.Stamp f) = J f
 
--- What may be met while the transformer of a use runs, whose mark is that of the name of number m: it may be met later, and so may what it becomes
--- when the output is left with this mark.
-abbrev pub InUse : LibName → (ℕ → FrameNo → Type 0) → (ℕ → LeafContext → Type 0) → ℕ → ℕ → LeafContext → Type 0
-InUse own J P m n c = (k : ℕ) → n ≤ k → m < k → P k c × ((f : Option FrameNo) → OptionHolds (J k) f → P k (context.left (mark_named own m) f c))
+-- What may be met while the transformer of the use with this mark runs: it may be met later, and so may what it becomes when the output is left with
+-- the mark.
+abbrev pub InUse : (ℕ → FrameNo → Type 0) → (ℕ → LeafContext → Type 0) → Mark → ℕ → LeafContext → Type 0
+InUse J P m n c = (k : ℕ) → n ≤ k → m.0.number < k → P k c × ((f : Option FrameNo) → OptionHolds (J k) f → P k (context.left m f c))
 
 -- K says which marks may be met before the name of this number is taken, J so of frames, and P of what is on leaves: what could be met before, the
 -- marks and frames of names that were taken, leaves as they are read, those of the implementation, and what these become by stamps and by uses.
@@ -37,9 +37,9 @@ pub record Lives (own : LibName) (K : ℕ → Mark → Type 0) (J : ℕ → Fram
   pub introduced : J 0 core_frame
   pub stamped : (n : ℕ) (f : FrameNo) (c : LeafContext) → J n f → P n c → P n (context.stamped f c)
   -- in a use there are leaves that were there, those that come in, which are entered with its mark, and temporaries of its transformer
-  pub there : (m : ℕ) (c : LeafContext) → P m c → InUse own J P m m c
-  pub entered : (m : ℕ) (c : LeafContext) → P m c → InUse own J P m m (context.entered (mark_named own m) c)
-  pub temporary : (m n : ℕ) → m < n → InUse own J P m (suc n) (temporary_context own n)
+  pub there : (m : ℕ) (c : LeafContext) → P m c → InUse J P (mark_named own m) m c
+  pub entered : (m : ℕ) (c : LeafContext) → P m c → InUse J P (mark_named own m) m (context.entered (mark_named own m) c)
+  pub temporary : (m n : ℕ) → m < n → InUse J P (mark_named own m) (suc n) (temporary_context own n)
   pub read : P 0 blank
   pub core : (k : ℕ) → P 0 (record { marks = core_mark k ∷ []; stamps = [] })
   pub marks : (n : ℕ) (c : LeafContext) → P n c → Each (K n) c.marks
