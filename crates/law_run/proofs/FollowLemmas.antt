@@ -30,7 +30,7 @@ use Rattle.law_load.proofs.LoadLemmas.{IsWhole, loads_all}
 use Rattle.law_load.proofs.RowLemmas.{at_first, at_end}
 use Rattle.law_run.proofs.Runs.{names-once}
 use Rattle.base_outside.specs.Contents.{Paths}
-use Rattle.law_run.specs.Run.{IsRun, AllStand}
+use Rattle.law_run.specs.Run.{run_inputs, IsRun, AllStand}
 use Rattle.law_run.proofs.MadeLemmas.{IsMade, all_made}
 use Rattle.law_run.proofs.NameLemmas.{named_among, name_among}
 use Rattle.law_run.proofs.PlaceLemmas.{marked_from, first_records, low_behind}
@@ -134,7 +134,7 @@ user_no_prelude : (n : LibName) → IsUser n → n ≡ library.Prelude → ⊥
 user_no_prelude n u e = subst IsUser e u
 
 module _ (prelude : Result Codes Fault) (files : Paths) (roots : List (List ℕ)) (path : List ℕ) (found : Found) (s : Loading)
-    (records : List CompiledLibrary) (program : CompiledLibrary) (run : IsRun prelude files roots path found s records program) (m : IsMade prelude s.done records) (stand : AllStand found s records program) where
+    (records : List CompiledLibrary) (program : CompiledLibrary) (run : IsRun (run_inputs prelude files roots path) found s records program) (m : IsMade prelude s.done records) (stand : AllStand found s records program) where
   -- the record of the derived library, and those of the others
   abbrev d : CompiledLibrary
   d = m.derived

@@ -60,6 +60,7 @@ use Rattle.eval_value.specs.Cells.{FitsIn, is_found, transformer_in}
 use Rattle.eval_value.specs.declared.cell.Cell.{Cell}
 use Rattle.eval_value.specs.declared.value.Value.{Value}
 use Rattle.eval_value.specs.declared.value.Value.TheVariants as value
+use Rattle.law_run.specs.Run.{run_inputs}
 use Rattle.law_run.specs.Transformers.{HasProcedure, WholeStatesHaveProcedures, UsesFindProcedures, MissingIsStuck, StaysWhole, FormsStayWhole, BodiesStayWhole}
 use Rattle.law_run.specs.Transformers.{numbers_in, StartsAreWhole, StartsWhole, PartsStartWhole, ProgramsStartWhole, DerivedStartsWhole}
 use Rattle.law_run.proofs.BehindLemmas.{IsNew}
@@ -190,7 +191,7 @@ module _ (prelude : Result Codes Fault) (read : AreRead prelude) where
         same = ap (λ (rs : List CompiledLibrary). needed_records rs (true ∷ f.needs)) p.so.parts ∙ with_first p.derived p.so.others f.needs
 
   part-starts : (files : Paths) (roots : List (List ℕ)) (path : List ℕ) (s : Loading) (first : List (List ℕ × Found)) (file : List ℕ) (f : Found) (left : List (List ℕ × Found)) (records : List CompiledLibrary)
-      → IsPartOfRun prelude files roots path s first ((file, f) ∷ left) records → StartsWhole prelude (needed_records records (true ∷ f.needs)) f.opened.form.name
+      → IsPartOfRun (run_inputs prelude files roots path) s first ((file, f) ∷ left) records → StartsWhole prelude (needed_records records (true ∷ f.needs)) f.opened.form.name
   part-starts files roots path s first file f left records part =
       let l : IsLoaded s = subst IsLoaded part.loaded (loaded-is files roots path) in
       let p = parts-are s l.sound l.users prelude first ((file, f) ∷ left) records part.parts part.recorded in

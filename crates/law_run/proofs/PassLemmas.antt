@@ -28,7 +28,7 @@ use Rattle.run_reuse.specs.Entries.{earlier, suits}
 use Rattle.law_reuse.proofs.Due.{due_loaded}
 use Rattle.law_reuse.proofs.Turned.{at_length}
 use Rattle.law_run.specs.Following.{DoFollow}
-use Rattle.law_run.specs.Run.{IsRun, AllStand}
+use Rattle.law_run.specs.Run.{run_inputs, IsRun, AllStand}
 use Rattle.law_run.proofs.FollowLemmas.{records_follow_in_runs}
 use Rattle.law_run.proofs.RunLemmas.{all_records_stand}
 use Rattle.expand_standing.specs.Start.{records_at}
@@ -57,7 +57,7 @@ module _ (base : RunBase) where
       by (Ok r) rest h = let m = rest (done ++ r ∷ []) h in (r ∷ m.0, m.1 ∙ append_assoc done (r ∷ []) m.0)
       by (Err f) rest h = absurd (cc)
 
-  module _ (files : Paths) (roots : List (List ℕ)) (path : List ℕ) (found : Found) (s : Loading) (records : List CompiledLibrary) (program : CompiledLibrary) (run : IsRun base.prelude files roots path found s records program) where
+  module _ (files : Paths) (roots : List (List ℕ)) (path : List ℕ) (found : Found) (s : Loading) (records : List CompiledLibrary) (program : CompiledLibrary) (run : IsRun (run_inputs base.prelude files roots path) found s records program) where
     loaded : AreLoaded s.done
     loaded = are_loaded s (loads_all files roots path found s run.loaded).sound
 

@@ -54,6 +54,7 @@ use Rattle.law_text.specs.Text.{text_of}
 use Rattle.law_text.proofs.Closed.{text-known}
 use Rattle.stx_tree.specs.Tree.{Tree}
 use Rattle.law_run.specs.Readable.{IsReadablePrelude, RunsAreReadable, ConstantsAreRead, TextsAreReadBack, TextsTellTheirLines}
+use Rattle.law_run.specs.Run.{run_inputs}
 use Rattle.law_run.specs.Spelled.{run_lines, GivesText, CanAllBeRead}
 use Rattle.law_run.proofs.ClosedLemmas.{all_standing}
 use Rattle.law_run.proofs.ReadableData.{Ds, text-data, library-body, program-body, trees-hold}
@@ -265,7 +266,7 @@ constants-read files roots path found s records program run =
     all-can (run_lines records program) lines
 
 is-text : (files : Paths) (roots : List (List ℕ)) (path : List ℕ) (found : Found) (s : Loading) (records : List CompiledLibrary) (program : CompiledLibrary) (text : List ℕ)
-    → GivesText prelude_table files roots path found s records program text → IsWrittenCoreText records (plan_of records program) program text
+    → GivesText (run_inputs prelude_table files roots path) found s records program text → IsWrittenCoreText records (plan_of records program) program text
 is-text files roots path found s records program text h = core-text prelude_table files roots path found s records program text h (constants-read files roots path found s records program h.run)
 
 pub texts-back : CoreTextIsReadBack → TextsAreReadBack

@@ -35,7 +35,7 @@ use Rattle.law_nesting.specs.Heights.{in_text, height_with}
 use Rattle.law_nesting.specs.Nesting.{deepest}
 use Rattle.base_outside.specs.Contents.{Paths}
 use Rattle.run_prelude.specs.Prelude.{prelude_table}
-use Rattle.law_run.specs.Run.{IsRun}
+use Rattle.law_run.specs.Run.{run_inputs, IsRun}
 use Rattle.law_run.proofs.Texts.{IsShallow, at-most-text, trees-fit, prelude-fits, derived-shallow}
 use Rattle.law_run.specs.Limits.{RunsStayWithin}
 use Rattle.law_run.specs.Nesting.{RunsNest}
@@ -101,7 +101,7 @@ module _ (prelude : Result Codes Fault) (given : (table : Codes) → prelude ≡
       by (Ok d) i e = turns-shallow (d ∷ []) rows records (derived-shallow d prelude given i, tt) e
       by (Err f) i e = absurd (cc)
 
-module _ (files : Paths) (roots : List (List ℕ)) (path : List ℕ) (found : Found) (s : Loading) (records : List CompiledLibrary) (program : CompiledLibrary) (run : IsRun prelude_table files roots path found s records program) where
+module _ (files : Paths) (roots : List (List ℕ)) (path : List ℕ) (found : Found) (s : Loading) (records : List CompiledLibrary) (program : CompiledLibrary) (run : IsRun (run_inputs prelude_table files roots path) found s records program) where
   all-shallow : Rs (records ++ program ∷ [])
   all-shallow =
       let before = records-shallow prelude_table prelude-fits s.done records run.recorded in
@@ -112,7 +112,7 @@ in-words P Q f [] h = tt
 in-words P Q f (x ∷ xs) h = (f x h.0, in-words P Q f xs h.1)
 
 pub runs-shallow : (files : Paths) (roots : List (List ℕ)) (path : List ℕ) (found : Found) (s : Loading) (records : List CompiledLibrary) (program : CompiledLibrary)
-    → IsRun prelude_table files roots path found s records program → elements.Each IsShallow (records ++ program ∷ [])
+    → IsRun (run_inputs prelude_table files roots path) found s records program → elements.Each IsShallow (records ++ program ∷ [])
 runs-shallow files roots path found s records program run = in-words IsShallow IsShallow (λ r h. h) (records ++ program ∷ []) (all-shallow files roots path found s records program run)
 
 pub runs-within : RunsStayWithin

@@ -22,7 +22,7 @@ use Rattle.law_load.proofs.LoadLemmas.{IsWhole, loads_all}
 use Rattle.law_load.proofs.RowLemmas.{at_cases}
 use Rattle.base_outside.specs.Contents.{Paths}
 use Rattle.expand_standing.specs.Start.{or_skip, records_at}
-use Rattle.law_run.specs.Run.{IsRun, Stands, AllStand, RecordsStand}
+use Rattle.law_run.specs.Run.{run_inputs, IsRun, Stands, AllStand, RecordsStand}
 use Rattle.law_run.proofs.NameLemmas.{names_first, names_second, IsNamed, named_among, named_at, once_named}
 use Rattle.law_run.proofs.UserLemmas.{IsUser, program_name, user_at}
 use Rattle.law_run.proofs.PlaceLemmas.{marked_from, first_records, low_behind}
@@ -44,7 +44,7 @@ user_no_derived : (n : LibName) → IsUser n → n ≡ library.Derived → ⊥
 user_no_derived n u e = subst IsUser e u
 
 module _ (prelude : Result Codes Fault) (files : Paths) (roots : List (List ℕ)) (path : List ℕ) (found : Found) (s : Loading)
-    (records : List CompiledLibrary) (program : CompiledLibrary) (run : IsRun prelude files roots path found s records program) (m : IsMade prelude s.done records) where
+    (records : List CompiledLibrary) (program : CompiledLibrary) (run : IsRun (run_inputs prelude files roots path) found s records program) (m : IsMade prelude s.done records) where
   -- the record of the derived library, and those of the others
   abbrev d : CompiledLibrary
   d = m.derived

@@ -34,7 +34,7 @@ use Rattle.load_files.specs.declared.found.Loading.{Loading}
 use Rattle.law_load.specs.Laws.{IsAt}
 use Rattle.base_outside.specs.Contents.{Paths}
 use Rattle.expand_standing.specs.Start.{or_skip, records_at}
-use Rattle.law_run.specs.Run.{IsRun, Stands, AllStand}
+use Rattle.law_run.specs.Run.{run_inputs, IsRun, Stands, AllStand}
 use Rattle.law_run.proofs.ImportLemmas.{turns_keep}
 use Rattle.law_run.proofs.MadeLemmas.{IsMade, all_made}
 use Rattle.law_run.proofs.RunLemmas.{all_records_stand}
@@ -170,7 +170,7 @@ parts-same : (x y : CompiledLibrary) (xs ys : List CompiledLibrary) → x ∷ xs
 parts-same x y xs ys e = (cc, cc)
 
 module _ (prelude : Result Codes Fault) (files : Paths) (roots : List (List ℕ)) (path : List ℕ) (found : Found) (s : Loading) (records : List CompiledLibrary) (program : CompiledLibrary)
-    (run : IsRun prelude files roots path found s records program) (all : AllStand found s records program) (made : IsMade prelude s.done records) where
+    (run : IsRun (run_inputs prelude files roots path) found s records program) (all : AllStand found s records program) (made : IsMade prelude s.done records) where
   -- the library of a record
   record IsOf (r : CompiledLibrary) : Type 0 where
     pub name : LibName

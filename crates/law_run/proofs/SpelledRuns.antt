@@ -32,7 +32,7 @@ use Rattle.load_files.specs.declared.found.Found.{Found}
 use Rattle.load_files.specs.declared.found.Loading.{Loading}
 use Rattle.base_outside.specs.Contents.{Paths}
 use Rattle.core_plan.specs.Planned.{plan_of}
-use Rattle.law_run.specs.Run.{AllStand}
+use Rattle.law_run.specs.Run.{run_inputs, AllStand}
 use Rattle.law_run.proofs.ClosedLemmas.{each_place, all_standing, runs_are_closed_once}
 use Rattle.law_run.proofs.RunLemmas.{all_records_stand}
 use Rattle.law_run.proofs.UserLemmas.{user_at}
@@ -139,7 +139,7 @@ runs-spelled prelude files roots path found s records program text h =
 
 -- it is core text
 pub core-text : (prelude : Result Codes Fault) (files : Paths) (roots : List (List ℕ)) (path : List ℕ) (found : Found) (s : Loading) (records : List CompiledLibrary) (program : CompiledLibrary) (text : List ℕ)
-    → GivesText prelude files roots path found s records program text → CanAllBeRead (run_lines records program) → IsWrittenCoreText records (plan_of records program) program text
+    → GivesText (run_inputs prelude files roots path) found s records program text → CanAllBeRead (run_lines records program) → IsWrittenCoreText records (plan_of records program) program text
 core-text prelude files roots path found s records program text h readable =
     let k = runs-spelled prelude files roots path found s records program text h in
     record { given = h.given; generated = k.generated; spellable = k.spellable; readable = readable }

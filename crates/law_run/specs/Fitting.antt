@@ -17,7 +17,7 @@ use Rattle.load_files.specs.declared.found.Loading.{Loading}
 use Rattle.law_load.specs.Laws.{IsAt}
 use Rattle.base_outside.specs.Contents.{Paths}
 use Rattle.core_records.specs.Frame.{record_frame}
-use Rattle.law_run.specs.Run.{IsRun}
+use Rattle.law_run.specs.Run.{run_inputs, IsRun}
 use Rattle.expand_standing.specs.Start.{rows_of, first_frame, import_row}
 use Rattle.law_run.specs.Bound.{AreBound}
 
@@ -38,7 +38,7 @@ AllFit earlier (r ∷ rs) = Fits earlier r × AllFit (earlier ++ r ∷ []) rs
 abbrev pub RecordsFit : Type 0
 RecordsFit = (prelude : Result Codes Fault) (files : Paths) (roots : List (List ℕ)) (path : List ℕ) (found : Found) (s : Loading)
     (records : List CompiledLibrary) (program : CompiledLibrary)
-    → IsRun prelude files roots path found s records program → AllFit [] records
+    → IsRun (run_inputs prelude files roots path) found s records program → AllFit [] records
 
 -- The expansion of a library behind these records, with these names: none of them has its name; the frame of what record forms introduce, and
 -- its own, are none of theirs; and no two of the names are one.
@@ -60,4 +60,4 @@ pub record AllBegin (found : Found) (s : Loading) (records : List CompiledLibrar
 abbrev pub ExpansionsBegin : Type 0
 ExpansionsBegin = (prelude : Result Codes Fault) (files : Paths) (roots : List (List ℕ)) (path : List ℕ) (found : Found) (s : Loading)
     (records : List CompiledLibrary) (program : CompiledLibrary)
-    → IsRun prelude files roots path found s records program → AllBegin found s records
+    → IsRun (run_inputs prelude files roots path) found s records program → AllBegin found s records

@@ -11,7 +11,7 @@ use Rattle.load_files.specs.declared.found.Found.{Found}
 use Rattle.load_files.specs.declared.found.Loading.{Loading}
 use Rattle.law_load.specs.Laws.{IsAt}
 use Rattle.base_outside.specs.Contents.{Paths}
-use Rattle.law_run.specs.Run.{IsRun}
+use Rattle.law_run.specs.Run.{run_inputs, IsRun}
 use Rattle.expand_standing.specs.Start.{records_at}
 use Rattle.law_run.specs.Known.{MentionsTheKnown}
 use Rattle.law_run.specs.Once.{NameOnce}
@@ -35,16 +35,16 @@ pub record DoFollow (found : Found) (s : Loading) (records : List CompiledLibrar
 abbrev pub RecordsFollowInRuns : Type 0
 RecordsFollowInRuns = (prelude : Result Codes Fault) (files : Paths) (roots : List (List ℕ)) (path : List ℕ) (found : Found) (s : Loading)
     (records : List CompiledLibrary) (program : CompiledLibrary)
-    → IsRun prelude files roots path found s records program → DoFollow found s records program
+    → IsRun (run_inputs prelude files roots path) found s records program → DoFollow found s records program
 
 -- all that its records make has a name of its own
 abbrev pub RunsNameOnce : Type 0
 RunsNameOnce = (prelude : Result Codes Fault) (files : Paths) (roots : List (List ℕ)) (path : List ℕ) (found : Found) (s : Loading)
     (records : List CompiledLibrary) (program : CompiledLibrary)
-    → IsRun prelude files roots path found s records program → NameOnce (records ++ program ∷ [])
+    → IsRun (run_inputs prelude files roots path) found s records program → NameOnce (records ++ program ∷ [])
 
 -- and all that they mention is known
 abbrev pub RunsMentionTheKnown : Type 0
 RunsMentionTheKnown = (prelude : Result Codes Fault) (files : Paths) (roots : List (List ℕ)) (path : List ℕ) (found : Found) (s : Loading)
     (records : List CompiledLibrary) (program : CompiledLibrary)
-    → IsRun prelude files roots path found s records program → Each (MentionsTheKnown (records ++ program ∷ [])) (records ++ program ∷ [])
+    → IsRun (run_inputs prelude files roots path) found s records program → Each (MentionsTheKnown (records ++ program ∷ [])) (records ++ program ∷ [])

@@ -31,7 +31,7 @@ use Rattle.expand_standing.specs.Start.{started, records_at}
 use Rattle.stx_tree.specs.Context.{LeafContext}
 use Rattle.stx_tree.specs.Tree.{Tree}
 use Rattle.law_run.specs.Parts.{IsPartOfRun}
-use Rattle.law_run.specs.Run.{IsRun}
+use Rattle.law_run.specs.Run.{run_inputs, IsRun}
 
 -- there is no leaf of which this holds
 abbrev pub IsNoLeaf : LeafContext → Type 0
@@ -45,56 +45,55 @@ CodesHaveNoLeaves = (table : Codes) → prelude_table ≡ Ok table → CodesHold
 abbrev pub FormsWereRead : Type 0
 FormsWereRead = (place : Span) (body : List PlainDatum) (forms : List Tree) → trees_at place [] body ≡ Ok forms → Each WasRead forms
 
--- A library is expanded behind these records: what its imports name is known, the forms of its body are trees; and the references of its record
--- are those of identifiers of this expansion, each of which names what it stood for, and both sentences of hygiene hold of it.
-pub record IsHygienicBehind (prelude : Result Codes Fault) (records : List CompiledLibrary) (path : List ℕ) (form : LibraryForm)
-    (body : List PlainDatum) (r : CompiledLibrary) : Type 0 where
-  pub names : Labelled
-  pub named : form_names records form.imports ≡ Ok names
-  pub forms : List Tree
-  pub read : trees_at form.name_span [] body ≡ Ok forms
-  pub table : Codes
-  pub given : prelude ≡ Ok table
-  pub right : RunIsRight (libraries_of records) form.name records (started form.name records names table)
-      (body_of (ready form.name path records names table) form.version form.name_span) (map export_tree form.exports) forms r
+module _ (prelude : Result Codes Fault) where
+  -- A library is expanded behind these records: what its imports name is known, the forms of its body are trees; and the references of its record
+  -- are those of identifiers of this expansion, each of which names what it stood for, and both sentences of hygiene hold of it.
+  pub record IsHygienicBehind (records : List CompiledLibrary) (path : List ℕ) (form : LibraryForm) (body : List PlainDatum) (r : CompiledLibrary) : Type 0 where
+    pub names : Labelled
+    pub named : form_names records form.imports ≡ Ok names
+    pub forms : List Tree
+    pub read : trees_at form.name_span [] body ≡ Ok forms
+    pub table : Codes
+    pub given : prelude ≡ Ok table
+    pub right : RunIsRight (libraries_of records) form.name records (started form.name records names table)
+        (body_of (ready form.name path records names table) form.version form.name_span) (map export_tree form.exports) forms r
 
--- so is the derived library, behind none
-pub record IsHygienicDerived (prelude : Result Codes Fault) (r : CompiledLibrary) : Type 0 where
-  pub forms : List Tree
-  pub read : forms_of DERIVED_SOURCE.now ≡ Ok forms
-  pub table : Codes
-  pub given : prelude ≡ Ok table
-  pub right : RunIsRight (libraries_of []) library.Derived [] (started library.Derived [] derived_names.names table)
-      (body_of (ready library.Derived derived_names.path [] derived_names.names table) [] derived_names.start) (derived_names.exports_of derived) forms r
+  -- so is the derived library, behind none
+  pub record IsHygienicDerived (r : CompiledLibrary) : Type 0 where
+    pub forms : List Tree
+    pub read : forms_of DERIVED_SOURCE.now ≡ Ok forms
+    pub table : Codes
+    pub given : prelude ≡ Ok table
+    pub right : RunIsRight (libraries_of []) library.Derived [] (started library.Derived [] derived_names.names table)
+        (body_of (ready library.Derived derived_names.path [] derived_names.names table) [] derived_names.start) (derived_names.exports_of derived) forms r
 
--- The records of the derived library and of libraries, each behind those that it needs.
-pub record AllHygienic (prelude : Result Codes Fault) (rows : List (List ℕ × Found)) (derived : CompiledLibrary) (others : List CompiledLibrary) : Type 0 where
-  pub first : IsHygienicDerived prelude derived
-  pub each : (i : ℕ) (file : List ℕ) (f : Found) (r : CompiledLibrary) → IsAt rows i file f → slice_get others i ≡ Some r
-      → IsHygienicBehind prelude (derived ∷ records_at others (needed f)) f.opened.path f.opened.form (library_body f.opened.«data») r
+  -- The records of the derived library and of libraries, each behind those that it needs.
+  pub record AllHygienic (rows : List (List ℕ × Found)) (derived : CompiledLibrary) (others : List CompiledLibrary) : Type 0 where
+    pub first : IsHygienicDerived derived
+    pub each : (i : ℕ) (file : List ℕ) (f : Found) (r : CompiledLibrary) → IsAt rows i file f → slice_get others i ≡ Some r
+        → IsHygienicBehind (derived ∷ records_at others (needed f)) f.opened.path f.opened.form (library_body f.opened.«data») r
 
--- those of a part of a run
-pub record PartIsHygienic (prelude : Result Codes Fault) (rows : List (List ℕ × Found)) (records : List CompiledLibrary) : Type 0 where
-  pub derived : CompiledLibrary
-  pub others : List CompiledLibrary
-  pub parts : records ≡ derived ∷ others
-  pub as_many : length others ≡ length rows
-  pub all : AllHygienic prelude rows derived others
+  -- those of a part of a run
+  pub record PartIsHygienic (rows : List (List ℕ × Found)) (records : List CompiledLibrary) : Type 0 where
+    pub derived : CompiledLibrary
+    pub others : List CompiledLibrary
+    pub parts : records ≡ derived ∷ others
+    pub as_many : length others ≡ length rows
+    pub all : AllHygienic rows derived others
 
--- and those of a run, with that of the program
-pub record RunIsHygienic (prelude : Result Codes Fault) (found : Found) (s : Loading) (records : List CompiledLibrary)
-    (program : CompiledLibrary) : Type 0 where
-  pub libraries : PartIsHygienic prelude s.done records
-  pub last : IsHygienicBehind prelude (libraries.derived ∷ records_at libraries.others (needed found)) found.opened.path found.opened.form
-      (program_body found.opened.«data») program
+  -- and those of a run, with that of the program
+  pub record RunIsHygienic (found : Found) (s : Loading) (records : List CompiledLibrary) (program : CompiledLibrary) : Type 0 where
+    pub libraries : PartIsHygienic s.done records
+    pub last : IsHygienicBehind (libraries.derived ∷ records_at libraries.others (needed found)) found.opened.path found.opened.form
+        (program_body found.opened.«data») program
 
 -- So it is in every part of a run, also where a later library is at fault.
 abbrev pub PartsAreHygienic : Type 0
 PartsAreHygienic = (files : Paths) (roots : List (List ℕ)) (path : List ℕ) (s : Loading) (first left : List (List ℕ × Found)) (records : List CompiledLibrary)
-    → IsPartOfRun prelude_table files roots path s first left records → PartIsHygienic prelude_table first records
+    → IsPartOfRun (run_inputs prelude_table files roots path) s first left records → PartIsHygienic prelude_table first records
 
 -- So it is in every run.
 abbrev pub RunsAreHygienic : Type 0
 RunsAreHygienic = (files : Paths) (roots : List (List ℕ)) (path : List ℕ) (found : Found) (s : Loading) (records : List CompiledLibrary)
     (program : CompiledLibrary)
-    → IsRun prelude_table files roots path found s records program → RunIsHygienic prelude_table found s records program
+    → IsRun (run_inputs prelude_table files roots path) found s records program → RunIsHygienic prelude_table found s records program

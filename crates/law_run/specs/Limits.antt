@@ -9,7 +9,7 @@ use Rattle.load_files.specs.declared.found.Found.{Found}
 use Rattle.load_files.specs.declared.found.Loading.{Loading}
 use Rattle.base_outside.specs.Contents.{Paths}
 use Rattle.run_prelude.specs.Prelude.{prelude_table}
-use Rattle.law_run.specs.Run.{IsRun}
+use Rattle.law_run.specs.Run.{run_inputs, IsRun}
 use Rattle.stx_tree.specs.Measures.{Fits}
 
 -- those in the codes of the texts that this implementation has
@@ -20,4 +20,4 @@ PreludeStaysWithin = (codes : Codes) → prelude_table ≡ Ok codes → CodesHol
 abbrev pub RunsStayWithin : Type 0
 RunsStayWithin = (files : Paths) (roots : List (List ℕ)) (path : List ℕ) (found : Found) (s : Loading) (records : List CompiledLibrary)
     (program : CompiledLibrary)
-    → IsRun prelude_table files roots path found s records program → Each (RecordHolds Fits) (records ++ program ∷ [])
+    → IsRun (run_inputs prelude_table files roots path) found s records program → Each (RecordHolds Fits) (records ++ program ∷ [])

@@ -13,14 +13,14 @@ use Rattle.law_nesting.specs.Texts.{nested}
 use Rattle.base_outside.specs.Contents.{Paths}
 use Rattle.run_prelude.specs.Prelude.{prelude_table}
 use Rattle.law_round.specs.Readable.{IsReadable}
-use Rattle.law_run.specs.Run.{IsRun}
+use Rattle.law_run.specs.Run.{run_inputs, IsRun}
 use Rattle.law_run.specs.Spelled.{run_names, run_lines, GivesText}
 use Rattle.stx_tree.specs.Measures.{max_height}
 
 -- each line of each record, constants aside
 abbrev pub RunsNest : Type 0
 RunsNest = (files : Paths) (roots : List (List ℕ)) (path : List ℕ) (found : Found) (s : Loading) (records : List CompiledLibrary) (program : CompiledLibrary)
-    → IsRun prelude_table files roots path found s records program
+    → IsRun (run_inputs prelude_table files roots path) found s records program
     → Each (λ r. Each (λ l. height_with in_text (line_core l) ≤ deepest) r.run) (records ++ program ∷ [])
 
 -- A constant is the datum of a tree, which is at most 1,000 high; and a `define` is one list more.
@@ -35,5 +35,5 @@ pub record IsLow (d : PlainDatum) : Type 0 where
 abbrev pub TextsNest : Type 0
 TextsNest = (files : Paths) (roots : List (List ℕ)) (path : List ℕ) (found : Found) (s : Loading) (records : List CompiledLibrary)
     (program : CompiledLibrary) (text : List ℕ) (ds : List PlainDatum)
-    → GivesText prelude_table files roots path found s records program text
+    → GivesText (run_inputs prelude_table files roots path) found s records program text
     → SpellLines (run_names records program) (run_lines records program) ds → Each IsLow ds

@@ -15,27 +15,27 @@ use Rattle.load_files.specs.declared.found.Loading.{Loading}
 use Rattle.base_outside.specs.Contents.{Paths}
 use Rattle.run_top.specs.Whole.{loading_of}
 use Rattle.law_run.specs.Fitting.{AllFit, BeginsApart}
+use Rattle.law_run.specs.Run.{RunInputs, run_inputs}
 
 -- A part of a run: loading came so far, to its end or to a fault; of the libraries that it loaded the first were expanded, and have these
 -- records. Nothing is said of those that are left.
-pub record IsPartOfRun (prelude : Result Codes Fault) (files : Paths) (roots : List (List ℕ)) (path : List ℕ) (s : Loading)
-    (first left : List (List ℕ × Found)) (records : List CompiledLibrary) : Type 0 where
-  pub loaded : loading_of (load files roots path) ≡ s
+pub record IsPartOfRun (inputs : RunInputs) (s : Loading) (first left : List (List ℕ × Found)) (records : List CompiledLibrary) : Type 0 where
+  pub loaded : loading_of (load inputs.files inputs.roots inputs.path) ≡ s
   pub parts : s.done ≡ first ++ left
-  pub recorded : all_records prelude first ≡ Ok records
+  pub recorded : all_records inputs.prelude first ≡ Ok records
 
 -- its records fit
 abbrev pub PartsFit : Type 0
 PartsFit = (prelude : Result Codes Fault) (files : Paths) (roots : List (List ℕ)) (path : List ℕ) (s : Loading)
     (first left : List (List ℕ × Found)) (records : List CompiledLibrary)
-    → IsPartOfRun prelude files roots path s first left records → AllFit [] records
+    → IsPartOfRun (run_inputs prelude files roots path) s first left records → AllFit [] records
 
 -- the expansion of the library that comes next begins so, whatever comes of it
 abbrev pub PartsBegin : Type 0
 PartsBegin = (prelude : Result Codes Fault) (files : Paths) (roots : List (List ℕ)) (path : List ℕ) (s : Loading)
     (first : List (List ℕ × Found)) (file : List ℕ) (f : Found)
     (left : List (List ℕ × Found)) (records : List CompiledLibrary) (names : Labelled)
-    → IsPartOfRun prelude files roots path s first ((file, f) ∷ left) records
+    → IsPartOfRun (run_inputs prelude files roots path) s first ((file, f) ∷ left) records
     → form_names (needed_records records (true ∷ f.needs)) f.opened.form.imports ≡ Ok names
     → BeginsApart (needed_records records (true ∷ f.needs)) f.opened.form.name names
 

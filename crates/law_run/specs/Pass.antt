@@ -7,10 +7,11 @@ use Rattle.load_files.specs.declared.found.Found.{Found}
 use Rattle.load_files.specs.declared.found.Loading.{Loading}
 use Rattle.base_outside.specs.Contents.{Paths}
 use Rattle.run_prelude.specs.Prelude.{prelude_table}
+use Rattle.law_run.specs.Run.{run_inputs}
 use Rattle.law_run.specs.Spelled.{GivesText}
 
 -- The text of each run is a core text, by the cases of the checker's grammar.
 abbrev pub TextsPass : Type 0
 TextsPass = (files : Paths) (roots : List (List ℕ)) (path : List ℕ) (found : Found) (s : Loading) (records : List CompiledLibrary)
     (program : CompiledLibrary) (text : List ℕ)
-    → GivesText prelude_table files roots path found s records program text → Judged text verdict.Yes
+    → GivesText (run_inputs prelude_table files roots path) found s records program text → Judged text verdict.Yes

@@ -13,7 +13,7 @@ use Rattle.run_reuse.specs.declared.groups.Group.{Group}
 use Rattle.law_reuse.specs.Due.{HoldsFitting, MakesWhatSuits}
 use Rattle.law_reuse.specs.Runs.{kept}
 use Rattle.law_reuse.specs.Sound.{IsHonest}
-use Rattle.law_run.specs.Run.{IsRun}
+use Rattle.law_run.specs.Run.{run_inputs, IsRun}
 
 module _ (base : RunBase) (files : Paths) (roots : List (List ℕ)) (s : Loading) where
   -- each library is expanded to a record that can stand for it
@@ -30,4 +30,4 @@ module _ (base : RunBase) (files : Paths) (roots : List (List ℕ)) (s : Loading
 abbrev pub RunsPass : Type 0
 RunsPass = (base : RunBase) (files : Paths) (roots : List (List ℕ)) (path : List ℕ) (found : Found) (s : Loading)
     (records : List CompiledLibrary) (program : CompiledLibrary)
-    → IsRun base.prelude files roots path found s records program → RecordsPass base files roots s × EntriesPass base files roots s
+    → IsRun (run_inputs base.prelude files roots path) found s records program → RecordsPass base files roots s × EntriesPass base files roots s

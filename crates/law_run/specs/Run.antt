@@ -23,13 +23,21 @@ use Rattle.base_outside.specs.Contents.{Paths}
 use Rattle.expand_standing.specs.Start.{records_at}
 use Rattle.law_text.specs.Text.{text_of, IsClosedOnce}
 
--- a program is loaded with all that it imports, directly or not; each library is expanded, and then the program. What procedures mean that
--- are texts is given.
-pub record IsRun (prelude : Result Codes Fault) (files : Paths) (roots : List (List ℕ)) (path : List ℕ) (found : Found) (s : Loading)
-    (records : List CompiledLibrary) (program : CompiledLibrary) : Type 0 where
-  pub loaded : load files roots path ≡ Ok (found, s)
-  pub recorded : all_records prelude s.done ≡ Ok records
-  pub expanded : expand_found prelude records found (program_body found.opened.«data») ≡ Ok program
+-- what a run is given: the codes of the texts of this implementation, the files, the roots of libraries, and the path of the program
+pub record RunInputs : Type 0 where
+  pub prelude : Result Codes Fault
+  pub files : Paths
+  pub roots : List (List ℕ)
+  pub path : List ℕ
+
+abbrev pub run_inputs : Result Codes Fault → Paths → List (List ℕ) → List ℕ → RunInputs
+run_inputs prelude files roots path = record { prelude = prelude; files = files; roots = roots; path = path }
+
+-- a program is loaded with all that it imports, directly or not; each library is expanded, and then the program
+pub record IsRun (inputs : RunInputs) (found : Found) (s : Loading) (records : List CompiledLibrary) (program : CompiledLibrary) : Type 0 where
+  pub loaded : load inputs.files inputs.roots inputs.path ≡ Ok (found, s)
+  pub recorded : all_records inputs.prelude s.done ≡ Ok records
+  pub expanded : expand_found inputs.prelude records found (program_body found.opened.«data») ≡ Ok program
 
 -- The record of a library, behind those that it needs: what expansion promises of it holds.
 pub record Stands (earlier : List CompiledLibrary) (name : LibName) (r : CompiledLibrary) : Type 0 where
@@ -59,10 +67,10 @@ pub record AllStand (found : Found) (s : Loading) (records : List CompiledLibrar
 abbrev pub RecordsStand : Type 0
 RecordsStand = (prelude : Result Codes Fault) (files : Paths) (roots : List (List ℕ)) (path : List ℕ) (found : Found) (s : Loading)
     (records : List CompiledLibrary) (program : CompiledLibrary)
-    → IsRun prelude files roots path found s records program → AllStand found s records program
+    → IsRun (run_inputs prelude files roots path) found s records program → AllStand found s records program
 
 -- and the text of every run is closed, and bound once
 abbrev pub RunsAreClosedOnce : Type 0
 RunsAreClosedOnce = (prelude : Result Codes Fault) (files : Paths) (roots : List (List ℕ)) (path : List ℕ) (found : Found) (s : Loading)
     (records : List CompiledLibrary) (program : CompiledLibrary)
-    → IsRun prelude files roots path found s records program → IsClosedOnce (text_of records program)
+    → IsRun (run_inputs prelude files roots path) found s records program → IsClosedOnce (text_of records program)

@@ -40,6 +40,7 @@ use Rattle.law_stuck.specs.Kinds.{NotStuck}
 use Rattle.eval_value.specs.declared.cell.Cell.{Cell}
 use Rattle.eval_value.specs.declared.value.Value.{Value}
 use Rattle.law_run.specs.Parts.{IsPartOfRun}
+use Rattle.law_run.specs.Run.{run_inputs}
 
 -- there is the procedure of a value, which for a variable transformer lies in its cell
 abbrev pub HasProcedure : List Cell → Value → Type 0
@@ -104,7 +105,7 @@ StartsWhole prelude behind name = (table : Codes) (imports : Labelled) → prelu
 abbrev pub PartsStartWhole : Type 0
 PartsStartWhole = (files : Paths) (roots : List (List ℕ)) (path : List ℕ) (s : Loading) (first : List (List ℕ × Found)) (file : List ℕ)
     (f : Found) (left : List (List ℕ × Found)) (records : List CompiledLibrary)
-    → IsPartOfRun prelude_table files roots path s first ((file, f) ∷ left) records
+    → IsPartOfRun (run_inputs prelude_table files roots path) s first ((file, f) ∷ left) records
     → StartsWhole prelude_table (needed_records records (true ∷ f.needs)) f.opened.form.name
 
 -- with the program, where loading came to its end and each library was expanded

@@ -8,7 +8,7 @@ use Rattle.load_files.specs.declared.found.Found.{Found}
 use Rattle.load_files.specs.declared.found.Loading.{Loading}
 use Rattle.base_outside.specs.Contents.{Paths}
 use Rattle.core_plan.specs.Planned.{plan_of}
-use Rattle.law_run.specs.Run.{IsRun}
+use Rattle.law_run.specs.Run.{run_inputs, IsRun}
 use Rattle.law_text.specs.Text.{text_of}
 use Rattle.law_run.specs.Names.{IsWrittenOnce}
 
@@ -16,5 +16,5 @@ use Rattle.law_run.specs.Names.{IsWrittenOnce}
 abbrev pub RunsAreWrittenOnce : Type 0
 RunsAreWrittenOnce = (prelude : Result Codes Fault) (files : Paths) (roots : List (List ℕ)) (path : List ℕ) (found : Found) (s : Loading)
     (records : List CompiledLibrary) (program : CompiledLibrary) (text : List ℕ)
-    → IsRun prelude files roots path found s records program → core_text records (plan_of records program) program ≡ Ok text
+    → IsRun (run_inputs prelude files roots path) found s records program → core_text records (plan_of records program) program ≡ Ok text
     → IsWrittenOnce (all_names records (plan_of records program) program) (text_of records program)
