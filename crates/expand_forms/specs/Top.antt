@@ -7,6 +7,7 @@ use Rattle.base_data.specs.declared.fault.FaultKind.TheVariants as kind
 use Rattle.base_data.specs.declared.imported_name.ImportedName.{ImportedName}
 use Rattle.base_data.specs.declared.library.LibName.{LibName}
 use Rattle.base_data.specs.declared.library.LibName.TheVariants as library
+use Rattle.base_data.specs.declared.name.FrameNo.{FrameNo}
 use Rattle.base_data.specs.declared.name.Label.{Label}
 use Rattle.base_data.specs.declared.span.Span.{Span}
 use Rattle.stx_tree.specs.Tree.{Tree}
@@ -28,6 +29,7 @@ use Rattle.expand_heads.specs.declared.taken.BodyKind.TheVariants as body_kind
 use Rattle.expand_heads.specs.declared.taken.Taken.{Taken}
 use Rattle.expand_forms.specs.Inside.{Inside}
 use Rattle.expand_forms.specs.Body.{splice, finish_all}
+use Rattle.expand_forms.specs.declared.top.LibraryBody.{LibraryBody}
 use Rattle.expand_forms.specs.declared.top.Linked.{Linked}
 use Rattle.expand_forms.specs.declared.top.TopAt.{TopAt}
 
@@ -106,6 +108,10 @@ kind_of library.Derived = body_kind.Library
 kind_of library.Prelude = body_kind.Library
 kind_of library.Program = body_kind.Program
 kind_of (library.User parts) = body_kind.Library
+
+-- a body, expanded in this frame
+abbrev pub top_at : FrameNo → LibraryBody → TopAt
+top_at frame body = record { path = body.path; version = body.version; frame = frame; place = body.place }
 
 abbrev pub body_at : TopAt → LibName → BodyAt
 body_at at own = record { frame = at.frame; place = at.place; level = 0; kind = kind_of own }

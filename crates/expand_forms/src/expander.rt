@@ -14,15 +14,12 @@ use crate::expression::expression;
 use crate::inside::ROOM;
 use crate::site::Site;
 use crate::tally::Tally;
-use crate::top::{Linked, TopAt, TopBody, top};
+use crate::top::{LibraryBody, Linked, top};
 use base_data::atom::Atom;
 use base_data::fault::Stop;
-use base_data::items::Items;
 use base_data::library::LibName;
 use base_data::memory::Memory;
 use base_data::name::FrameNo;
-use base_data::span::Span;
-use base_data::symbol::Symbol;
 use base_fuel::fuel::Fuel;
 use core_language::code::Core;
 use core_language::record::CompiledLibrary;
@@ -34,26 +31,12 @@ use std::marker::Model;
 use std::sync::ledger::Ledger;
 use stx_object::syn::Syn;
 
-/// The body of a library or program that is to be expanded, where it stands, and its exports and version.
-#[derive(Drop)]
-pub struct LibraryBody<'a> {
-    pub forms: Items<Syn>,
-    /// Where a form without a span stands.
-    pub place: &'a Span,
-    /// External names, each with the identifier that it stands for.
-    pub exports: &'a [(Symbol, Syn)],
-    /// The numbers of its version (R6RS 7.1), from left to right; there may be none.
-    pub version: Items<u64>,
-}
-
 /// The state of one library's expansion, and whether a call was refused. After a refusal it is of no use.
 pub struct Expander<L: Ledger> {
     /// In a box: what owns an expander moves and drops a pointer.
     state: Box<Expansion<L>>,
     /// The frame of imports and definitions.
     frame: FrameNo,
-    /// The path of the library's file.
-    path: Symbol,
     failed: bool,
 }
 
@@ -63,7 +46,6 @@ impl<L: Ledger> Drop for Expander<L> {
         let Expander {
             state: _,
             frame: _,
-            path: _,
             failed: _,
         } = self;
     }
@@ -76,22 +58,21 @@ impl<L: Ledger> Model for Expander<L> {
 
     ghost coded = { expanding_code };
 
-    ghost view = { λ e. record { state = e.state.value; frame = e.frame; path = e.path; failed = e.failed } };
+    ghost view = { λ e. record { state = e.state.value; frame = e.frame; failed = e.failed } };
 }
 
 impl<L: Ledger> Expander<L> {
-    /// An expander for the library of this name, whose file has this path, in its environment. Two imports of one name are refused as want of memory is.
+    /// An expander for the library of this name, in its environment. Two imports of one name are refused as want of memory is.
     pub fn new(
         alloc: Global,
         name: LibName,
-        path: Symbol,
         environment: &Environment,
         supplies: Supplies<L>,
     ) -> Result<Expander<L>, Stop>
-        ensures { Gives (λ e. e) result (Ok (ready name path
+        ensures { Gives (λ e. e) result (Ok (ready name
             (needed_records environment.now.needs.now environment.now.earlier.now) environment.now.imports.now (table.seen supplies.codes.entries))) }
     {
-        match begun(alloc, name, path, environment, supplies) {
+        match begun(alloc, name, environment, supplies) {
             Ok(expander) => Ok(expander),
             Err(memory) => Err(Stop::from(memory)),
         }
@@ -117,7 +98,6 @@ impl<L: Ledger> Expander<L> {
         ensures ok { OnOk result (self.new.failed ≡ false) }
         ensures err { OnErr result (self.new.failed ≡ true) }
         ensures frame { self.new.frame ≡ self.old.frame }
-        ensures path { self.new.path ≡ self.old.path }
     {
         let at = FormAt {
             site,
@@ -146,7 +126,6 @@ impl<L: Ledger> Expander<L> {
         ensures ok { OnOk result (self.new.failed ≡ false) }
         ensures err { OnErr result (self.new.failed ≡ true) }
         ensures frame { self.new.frame ≡ self.old.frame }
-        ensures path { self.new.path ≡ self.old.path }
     {
         match lambda_body(&mut *self.state, forms, site, means, counts) {
             Ok(core) => Ok(core),
@@ -165,10 +144,8 @@ impl<L: Ledger> Expander<L> {
         tally: &mut Tally<N, L>,
     ) -> Result<CompiledLibrary, Stop>
         requires { self.failed ≡ false }
-        ensures record { Gives (λ r. r) result (library_record self
-            (earlier_in means.now.earlier) body.entry.version body.entry.place.now body.entry.exports.now body.entry.forms) }
-        ensures fuel { OnOk result (tally.new.fuel ≡ tally.old.fuel + library_spent self
-            (earlier_in means.now.earlier) body.entry.version body.entry.place.now body.entry.exports.now body.entry.forms) }
+        ensures record { Gives (λ r. r) result (library_record self (earlier_in means.now.earlier) body) }
+        ensures fuel { OnOk result (tally.new.fuel ≡ tally.old.fuel + library_spent self (earlier_in means.now.earlier) body) }
     {
         let mut expander = self;
         let library = library_record(&mut expander, body, means, &mut tally.counts)?;
@@ -185,10 +162,8 @@ impl<L: Ledger> Expander<L> {
         tally: &mut Tally<N, L>,
     ) -> Result<Linked, Stop>
         requires { self.failed ≡ false }
-        ensures linked { Gives (λ r. r) result (library_linked self
-            (earlier_in means.now.earlier) body.entry.version body.entry.place.now body.entry.exports.now body.entry.forms) }
-        ensures fuel { OnOk result (tally.new.fuel ≡ tally.old.fuel + library_spent self
-            (earlier_in means.now.earlier) body.entry.version body.entry.place.now body.entry.exports.now body.entry.forms) }
+        ensures linked { Gives (λ r. r) result (library_linked self (earlier_in means.now.earlier) body) }
+        ensures fuel { OnOk result (tally.new.fuel ≡ tally.old.fuel + library_spent self (earlier_in means.now.earlier) body) }
     {
         let mut expander = self;
         let linked = library_linked(&mut expander, body, means, &mut tally.counts)?;
@@ -208,11 +183,10 @@ impl<L: Ledger> Expander<L> {
 fn begun<L: Ledger>(
     alloc: Global,
     name: LibName,
-    path: Symbol,
     environment: &Environment,
     supplies: Supplies<L>,
 ) -> Result<Expander<L>, Memory>
-    ensures { IfOk result (λ e. e ≡ ready name path (needed_records environment.now.needs.now environment.now.earlier.now)
+    ensures { IfOk result (λ e. e ≡ ready name (needed_records environment.now.needs.now environment.now.earlier.now)
         environment.now.imports.now (table.seen supplies.codes.entries)) }
 {
     let state = Expansion::start(alloc, name, environment, supplies)?;
@@ -221,27 +195,7 @@ fn begun<L: Ledger>(
     Ok(Expander {
         state,
         frame,
-        path,
         failed: false,
-    })
-}
-
-fn body_of(
-    path: &Symbol,
-    version: Items<u64>,
-    frame: &FrameNo,
-    place: &Span,
-) -> Result<TopAt, Memory>
-    ensures { IfOk result (λ at. at ≡ record { path = path.now; version = version; frame = frame.now; place = place.now }) }
-{
-    let path = path.share()?;
-    let frame = frame.share()?;
-    let place = place.share()?;
-    Ok(TopAt {
-        path,
-        version,
-        frame,
-        place,
     })
 }
 
@@ -253,10 +207,8 @@ fn library_record<N: Ledger, L: Ledger>(
     means: &Means,
     counts: &mut Counts<N, L>,
 ) -> Result<CompiledLibrary, Stop>
-    ensures record { Gives (λ r. r) result (library_record expander.old
-        (earlier_in means.now.earlier) body.entry.version body.entry.place.now body.entry.exports.now body.entry.forms) }
-    ensures spent { OnOk result (expander.new.state.spent
-        ≡ library_spent expander.old (earlier_in means.now.earlier) body.entry.version body.entry.place.now body.entry.exports.now body.entry.forms) }
+    ensures record { Gives (λ r. r) result (library_record expander.old (earlier_in means.now.earlier) body) }
+    ensures spent { OnOk result (expander.new.state.spent ≡ library_spent expander.old (earlier_in means.now.earlier) body) }
 {
     match library_linked(expander, body, means, counts) {
         Ok(linked) => {
@@ -274,20 +226,11 @@ fn library_linked<N: Ledger, L: Ledger>(
     means: &Means,
     counts: &mut Counts<N, L>,
 ) -> Result<Linked, Stop>
-    ensures linked { Gives (λ r. r) result (library_linked expander.old
-        (earlier_in means.now.earlier) body.entry.version body.entry.place.now body.entry.exports.now body.entry.forms) }
-    ensures spent { OnOk result (expander.new.state.spent
-        ≡ library_spent expander.old (earlier_in means.now.earlier) body.entry.version body.entry.place.now body.entry.exports.now body.entry.forms) }
+    ensures linked { Gives (λ r. r) result (library_linked expander.old (earlier_in means.now.earlier) body) }
+    ensures spent { OnOk result (expander.new.state.spent ≡ library_spent expander.old (earlier_in means.now.earlier) body) }
 {
-    let LibraryBody {
-        forms,
-        place,
-        exports,
-        version,
-    } = body;
-    let at = body_of(&expander.path, version, &expander.frame, place)?;
-    let body = TopBody { at, exports };
-    top(&mut *expander.state, body, forms, means, counts)
+    let frame = expander.frame.share()?;
+    top(&mut *expander.state, frame, body, means, counts)
 }
 
 fn lambda_body<N: Ledger, L: Ledger>(

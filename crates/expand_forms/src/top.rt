@@ -6,7 +6,7 @@ ghost use Rattle.base_data.specs.Gives.{Gives};
 ghost use Rattle.eval_stage.specs.Libraries.{earlier_in};
 ghost use Rattle.expand_forms.specs.Body.{finish_one, finish_all, splice};
 ghost use Rattle.expand_forms.specs.Expression.{inside, full_room};
-ghost use Rattle.expand_forms.specs.Top.{export, all_exports, exports, with_label_of, with_labels_of, code_of, with_lines_of, refs_of, record_of, linked_in, spent_in, kind_of, body_at, first_pass, second_pass, top};
+ghost use Rattle.expand_forms.specs.Top.{export, all_exports, exports, with_label_of, with_labels_of, code_of, with_lines_of, refs_of, record_of, linked_in, spent_in, kind_of, top_at, body_at, first_pass, second_pass, top};
 
 use crate::at::{FormAt, ItemAt};
 use crate::body::{begun, finish_one, item};
@@ -35,25 +35,28 @@ use std::alloc::Global;
 use std::sync::ledger::Ledger;
 use stx_object::syn::Syn;
 
-/// What the body of a library or program has besides its exports and its forms.
+/// The body of a library or program (R6RS 7.1 and 8), with what its record has of its form.
 #[derive(Drop)]
-pub struct TopAt {
+pub struct LibraryBody {
     /// The path of the file.
     pub path: Symbol,
     /// The numbers of its version (R6RS 7.1), from left to right; there may be none.
     pub version: Items<u64>,
-    /// The frame of imports and definitions.
-    pub frame: FrameNo,
     /// Where a form without a span stands.
     pub place: Span,
+    /// External names, each with the identifier that it stands for.
+    pub exports: Items<(Symbol, Syn)>,
+    pub forms: Items<Syn>,
 }
 
-/// What the body of a library or program has besides its forms.
+/// What a body has besides its exports and its forms, and the frame in which it is expanded.
 #[derive(Drop)]
-pub struct TopBody<'a> {
-    pub at: TopAt,
-    /// External names, each with the identifier that it stands for.
-    pub exports: &'a [(Symbol, Syn)],
+pub struct TopAt {
+    pub path: Symbol,
+    pub version: Items<u64>,
+    /// The frame of imports and definitions.
+    pub frame: FrameNo,
+    pub place: Span,
 }
 
 /// The record of a library or program, and its links in the order in which they were noted.
@@ -237,26 +240,21 @@ fn finish_each<N: Ledger, L: Ledger>(
     Ok(lines)
 }
 
-/// What comes after the first pass.
-#[tactic(auto, unfolding(crate::specs::Top::second_pass))]
-fn second_pass<N: Ledger, L: Ledger>(
+/// The second pass, over what has waited since the first.
+fn finish_taken<N: Ledger, L: Ledger>(
     state: &mut Expansion<L>,
-    body: TopBody,
+    place: &Span,
     taken: Taken,
     means: &Means,
     counts: &mut Counts<N, L>,
-) -> Result<Linked, Stop>
-    ensures linked { Gives (λ r. r) result (linked_in (second_pass
-        (inside (earlier_in means.now.earlier) full_room) body.entry.at body.entry.exports.now taken state.old)) }
-    ensures spent { OnOk result (state.new.spent ≡ spent_in
-        (second_pass (inside (earlier_in means.now.earlier) full_room) body.entry.at body.entry.exports.now taken state.old)) }
+) -> Result<Vec<Line>, Stop>
+    ensures { GivesAfter (λ v. v.items) result state.new
+        (finish_all (inside (earlier_in means.now.earlier) full_room) 0 taken.waiting state.old) }
 {
-    let TopBody { at, exports: list } = body;
-    let exports = exports(state, &at, list, counts.nodes)?;
     let Taken { waiting, kept, .. } = taken;
     drop(kept);
     let site = Site {
-        place: &at.place,
+        place,
         level: 0,
         depth: 0,
     };
@@ -265,10 +263,7 @@ fn second_pass<N: Ledger, L: Ledger>(
         room: ROOM,
         means,
     };
-    let lines = finish_each(state, waiting, &second, counts)?;
-    let library = record_of(state, at, exports, lines)?;
-    let links = state.take_links();
-    Ok(Linked { library, links })
+    finish_each(state, waiting, &second, counts)
 }
 
 fn body_at<L: Ledger>(state: &Expansion<L>, at: &TopAt) -> Result<BodyAt, Memory>
@@ -330,20 +325,38 @@ fn first_pass<N: Ledger, L: Ledger>(
     Ok(taken)
 }
 
-/// The body of a library or program: its record and links. Of the state that is left its fuel is known alone.
-#[tactic(auto, unfolding(crate::specs::Top::top))]
+/// The body of a library or program, whose frame of imports and definitions this is: its record and links. Of the
+/// state that is left its fuel is known alone.
+#[tactic(auto, unfolding(crate::specs::Top::top, crate::specs::Top::second_pass))]
 pub fn top<N: Ledger, L: Ledger>(
     state: &mut Expansion<L>,
-    body: TopBody,
-    forms: Items<Syn>,
+    frame: FrameNo,
+    body: LibraryBody,
     means: &Means,
     counts: &mut Counts<N, L>,
 ) -> Result<Linked, Stop>
     ensures linked { Gives (λ r. r) result (linked_in (top
-        (inside (earlier_in means.now.earlier) full_room) body.entry.at body.entry.exports.now forms state.old)) }
+        (inside (earlier_in means.now.earlier) full_room) (top_at frame body) body.exports body.forms state.old)) }
     ensures spent { OnOk result (state.new.spent ≡ spent_in
-        (top (inside (earlier_in means.now.earlier) full_room) body.entry.at body.entry.exports.now forms state.old)) }
+        (top (inside (earlier_in means.now.earlier) full_room) (top_at frame body) body.exports body.forms state.old)) }
 {
-    let taken = first_pass(state, &body.at, forms, means, counts)?;
-    second_pass(state, body, taken, means, counts)
+    let LibraryBody {
+        path,
+        version,
+        place,
+        exports: list,
+        forms,
+    } = body;
+    let at = TopAt {
+        path,
+        version,
+        frame,
+        place,
+    };
+    let taken = first_pass(state, &at, forms, means, counts)?;
+    let exports = exports(state, &at, list.as_slice(), counts.nodes)?;
+    let lines = finish_taken(state, &at.place, taken, means, counts)?;
+    let library = record_of(state, at, exports, lines)?;
+    let links = state.take_links();
+    Ok(Linked { library, links })
 }

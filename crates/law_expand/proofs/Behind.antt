@@ -14,7 +14,6 @@ use Rattle.base_data.specs.declared.library.LibName.TheVariants as library
 use Rattle.base_data.specs.declared.name.FrameNo.{FrameNo}
 use Rattle.base_data.specs.declared.name.Label.{Label}
 use Rattle.base_data.specs.declared.name.Mark.{Mark}
-use Rattle.base_data.specs.declared.span.Span.{Span}
 use Rattle.stx_tree.specs.Changes.{stamp}
 use Rattle.stx_tree.specs.Tree.{Tree}
 use Rattle.stx_tree.specs.declared.frame_row.FrameRow.{FrameRow}
@@ -44,10 +43,11 @@ use Rattle.expand_standing.specs.Own.{completed}
 use Rattle.expand_standing.specs.Start.{rows_of, first_frame, import_row, started}
 use Rattle.expand_standing.specs.State.{State}
 use Rattle.expand_forms.specs.Body.{finish_all}
-use Rattle.expand_forms.specs.Expanding.{ready, body_of, library_record}
+use Rattle.expand_forms.specs.Expanding.{ready, library_record}
 use Rattle.expand_forms.specs.Expression.{inside, full_room}
 use Rattle.expand_forms.specs.Inside.{Inside}
-use Rattle.expand_forms.specs.Top.{stands_for, export, all_exports, exports, give_record, record_in, second_pass, first_pass, top}
+use Rattle.expand_forms.specs.Top.{stands_for, export, all_exports, exports, give_record, record_in, second_pass, first_pass, top, top_at}
+use Rattle.expand_forms.specs.declared.top.LibraryBody.{LibraryBody}
 use Rattle.expand_forms.specs.declared.top.TopAt.{TopAt}
 use Rattle.law_expand.specs.Behind.{IsKnownBefore, IsFollower, RecordsFollow}
 use Rattle.law_expand.specs.Ready.{IsReady}
@@ -112,14 +112,14 @@ top-named go at es forms s =
     (λ d t k. gave-after (λ xs u. map external xs ≡ map asked es) (λ r v. export_names r ≡ map asked es) (exports at es t) (λ ls u. after (finish_all go 0 d.waiting u) (λ lines. give_record at ls lines)) (exports-named at es t)
     (λ xs u j. gave-after (λ ys v. Unit {0}) (λ r v. export_names r ≡ map asked es) (finish_all go 0 d.waiting u) (λ lines. give_record at xs lines) (gave-any (λ ys v. Unit {0}) (finish_all go 0 d.waiting u) (λ ys v. tt)) (λ ys v i. j)))
 
-pub record-named : (own : LibName) (path : List ℕ) (records : List CompiledLibrary) (imports : List ImportedName) (version : List ℕ) (place : Span) (es : List (List ℕ × Tree)) (forms : List Tree) (codes : Codes) (r : CompiledLibrary)
-    → library_record (ready own path records imports codes) records version place es forms ≡ Ok r → export_names r ≡ map asked es
-record-named own path records imports version place es forms codes r e =
-    by (top (inside records full_room) (body_of (ready own path records imports codes) version place) es forms (started own records imports codes))
-    (top-named (inside records full_room) (body_of (ready own path records imports codes) version place) es forms (started own records imports codes)) e
+pub record-named : (own : LibName) (records : List CompiledLibrary) (imports : List ImportedName) (body : LibraryBody) (codes : Codes) (r : CompiledLibrary)
+    → library_record (ready own records imports codes) records body ≡ Ok r → export_names r ≡ map asked body.exports
+record-named own records imports body codes r e =
+    by (top (inside records full_room) (top_at (first_frame own) body) body.exports body.forms (started own records imports codes))
+    (top-named (inside records full_room) (top_at (first_frame own) body) body.exports body.forms (started own records imports codes)) e
   where
-    by : (x : Result (CompiledLibrary × State) Fault) → Gave (λ q v. export_names q ≡ map asked es) x → record_in x ≡ Ok r → export_names r ≡ map asked es
-    by (Ok p) h k = let is : p.0 ≡ r = cc in subst (λ (q : CompiledLibrary). export_names q ≡ map asked es) is h
+    by : (x : Result (CompiledLibrary × State) Fault) → Gave (λ q v. export_names q ≡ map asked body.exports) x → record_in x ≡ Ok r → export_names r ≡ map asked body.exports
+    by (Ok p) h k = let is : p.0 ≡ r = cc in subst (λ (q : CompiledLibrary). export_names q ≡ map asked body.exports) is h
     by (Err f) h k = absurd (cc)
 
 -- Rows of one library, each once.
@@ -299,13 +299,13 @@ ellipsis-given = (refl, (omega arith, refl))
 
 -- The record.
 
-module _ (own : LibName) (path : List ℕ) (records : List CompiledLibrary) (imports : List ImportedName) (version : List ℕ) (place : Span) (es : List (List ℕ × Tree)) (forms : List Tree) (codes : Codes) (r : CompiledLibrary)
-    (h : IsFollower own records imports es) (e : library_record (ready own path records imports codes) records version place es forms ≡ Ok r) where
+module _ (own : LibName) (records : List CompiledLibrary) (imports : List ImportedName) (body : LibraryBody) (codes : Codes) (r : CompiledLibrary)
+    (h : IsFollower own records imports body.exports) (e : library_record (ready own records imports codes) records body ≡ Ok r) where
   is-ready : IsReady own records
   is-ready = record { new = h.new; earlier = followers-serve records h.earlier }
 
   runs : Runs own (flat_map defined records) (started own records imports codes) r
-  runs = record-runs own path records imports version place es forms codes r is-ready e
+  runs = record-runs own records imports body codes r is-ready e
 
   numbered : IsNumbered own runs.ended
   numbered = runs.grows.numbered (started-sound own records imports codes is-ready).numbered
@@ -352,11 +352,11 @@ module _ (own : LibName) (path : List ℕ) (records : List CompiledLibrary) (imp
 
   record-follows : Follows r records
   record-follows =
-      let good = records-good own path records imports version place es forms codes r is-ready e in
-      let kept = keywords-good own path records imports version place es forms codes r is-ready e in
+      let good = records-good own records imports body codes r is-ready e in
+      let kept = keywords-good own records imports body codes r is-ready e in
       let there = each-map (λ (x : ImportedName). IsKnownBefore records x.label) (λ (x : ImportedName). IsThere records x.label.0.library) imports h.known (λ x k. known-there records h.earlier x.label k) in
-      let serves = records-serve own path records imports version place es forms codes r is-ready there e in
-      let variables = variables-indexed own path records imports version place es forms codes r is-ready e in
+      let serves = records-serve own records imports body codes r is-ready there e in
+      let variables = variables-indexed own records imports body codes r is-ready e in
       let mine : (l : Label) → Among (run_binders r) l → l.0.library ≡ r.name = λ l a. each-at (λ (m : Label). m.0.library ≡ r.name) (run_binders r) l good.0.bound_here a in
       let frames : Each (λ (x : FrameRow). IsOwn own x.frame.0) (rows_in own runs.ended.frames) = subst (λ (k : LibName). Each (λ (x : FrameRow). IsOwn own x.frame.0) (rows_in k runs.ended.frames)) runs.name
       (subst (Each (λ (x : FrameRow). IsOwn own x.frame.0)) runs.frames (each-map (λ (x : FrameRow). x.frame.0.library ≡ r.name) (λ (x : FrameRow). IsOwn own x.frame.0) r.frames serves.own_frames (λ x k. k ∙ runs.name))) in
@@ -367,7 +367,7 @@ module _ (own : LibName) (path : List ℕ) (records : List CompiledLibrary) (imp
           new = λ a. h.new (subst (Among (names_of records)) runs.name a);
           no_core = λ k. h.no_core (sym runs.name ∙ k);
           no_prelude = λ k. h.no_prelude (sym runs.name ∙ k);
-          exports_once = subst Once (sym (record-named own path records imports version place es forms codes r e)) h.exported_once;
+          exports_once = subst Once (sym (record-named own records imports body codes r e)) h.exported_once;
         };
         own = record {
           own_bindings = serves.own_bindings;
@@ -394,9 +394,9 @@ module _ (own : LibName) (path : List ℕ) (records : List CompiledLibrary) (imp
     where
       frame-known : (x : FrameRow) → Among r.frames x → IsKnown r records x.label
       frame-known x a =
-          let serves-so = records-serve own path records imports version place es forms codes r is-ready (each-map (λ (y : ImportedName). IsKnownBefore records y.label) (λ (y : ImportedName). IsThere records y.label.0.library) imports h.known (λ y k. known-there records h.earlier y.label k)) e in
+          let serves-so = records-serve own records imports body codes r is-ready (each-map (λ (y : ImportedName). IsKnownBefore records y.label) (λ (y : ImportedName). IsThere records y.label.0.library) imports h.known (λ y k. known-there records h.earlier y.label k)) e in
           let mine = each-at (λ (y : FrameRow). y.frame.0.library ≡ r.name) r.frames x serves-so.own_frames a in
           shown-known x.label (row-shown runs.ended.frames x (subst (λ (k : LibName). Among (rows_in k runs.ended.frames) x) (sym mine) (subst (λ (rows : List FrameRow). Among rows x) runs.frames a)))
 
 pub records-follow : RecordsFollow
-records-follow own path records imports version place es forms codes r h e = record-follows own path records imports version place es forms codes r h e
+records-follow own records imports body codes r h e = record-follows own records imports body codes r h e

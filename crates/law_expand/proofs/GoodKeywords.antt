@@ -13,7 +13,6 @@ use Rattle.base_data.specs.declared.imported_name.ImportedName.{ImportedName}
 use Rattle.base_data.specs.declared.library.LibName.{LibName}
 use Rattle.base_data.specs.declared.name.CodeNo.{CodeNo}
 use Rattle.base_data.specs.declared.name.Label.{Label}
-use Rattle.base_data.specs.declared.span.Span.{Span}
 use Rattle.stx_tree.specs.Changes.{stamp}
 use Rattle.stx_tree.specs.Tree.{Tree}
 use Rattle.core_language.specs.Bindings.{bound_to}
@@ -33,15 +32,16 @@ use Rattle.eval_code.specs.Codes.{Codes}
 use Rattle.eval_stage.specs.Stage.{expression_of}
 use Rattle.eval_stage.specs.declared.keyword.Keyword.{Keyword}
 use Rattle.expand_standing.specs.Own.{completed, row_at, own_label, own_row, own_below, own_bindings}
-use Rattle.expand_standing.specs.Start.{started}
+use Rattle.expand_standing.specs.Start.{started, first_frame}
 use Rattle.expand_standing.specs.State.{State, stage_of}
 use Rattle.expand_heads.specs.Items.{begun}
 use Rattle.expand_heads.specs.declared.taken.Taken.{Taken}
 use Rattle.expand_forms.specs.Body.{splice, finish_all}
-use Rattle.expand_forms.specs.Expanding.{ready, body_of, library_record}
+use Rattle.expand_forms.specs.Expanding.{ready, library_record}
 use Rattle.expand_forms.specs.Expression.{inside, full_room}
 use Rattle.expand_forms.specs.Inside.{Inside}
-use Rattle.expand_forms.specs.Top.{exports, give_record, record_in, body_at, second_pass, first_pass, top}
+use Rattle.expand_forms.specs.Top.{exports, give_record, record_in, body_at, second_pass, first_pass, top, top_at}
+use Rattle.expand_forms.specs.declared.top.LibraryBody.{LibraryBody}
 use Rattle.expand_forms.specs.declared.top.TopAt.{TopAt}
 use Rattle.law_expand.specs.Keywords.{KeywordsAreGood}
 use Rattle.law_expand.specs.Ready.{IsReady}
@@ -119,13 +119,13 @@ pub record Ended (own : LibName) (given : List Label) (r : CompiledLibrary) : Ty
   pub state : State
   pub ends : Ends own given r state
 
-pub record-ends : (own : LibName) (path : List ℕ) (records : List CompiledLibrary) (imports : List ImportedName) (version : List ℕ) (place : Span) (exports : List (List ℕ × Tree)) (forms : List Tree) (codes : Codes) (r : CompiledLibrary)
-    → IsReady own records → library_record (ready own path records imports codes) records version place exports forms ≡ Ok r → Ended own (flat_map defined records) r
-record-ends own path records imports version place exports forms codes r h e =
+pub record-ends : (own : LibName) (records : List CompiledLibrary) (imports : List ImportedName) (body : LibraryBody) (codes : Codes) (r : CompiledLibrary)
+    → IsReady own records → library_record (ready own records imports codes) records body ≡ Ok r → Ended own (flat_map defined records) r
+record-ends own records imports body codes r h e =
     let given = flat_map defined records in
     let start = started own records imports codes in
-    let at = body_of (ready own path records imports codes) version place in
-    by (top (inside records full_room) at exports forms start) (ends-top own given (inside records full_room) (inside-spares own given records full_room) at exports forms start (started-begins own records imports codes h)) e
+    let at = top_at (first_frame own) body in
+    by (top (inside records full_room) at body.exports body.forms start) (ends-top own given (inside records full_room) (inside-spares own given records full_room) at body.exports body.forms start (started-begins own records imports codes h)) e
   where
     by : (x : Result (CompiledLibrary × State) Fault) → Gave (Ends own (flat_map defined records)) x → record_in x ≡ Ok r → Ended own (flat_map defined records) r
     by (Ok p) g is = let same : p.0 ≡ r = cc in record { state = p.1; ends = subst (λ (q : CompiledLibrary). Ends own (flat_map defined records) q p.1) same g }
@@ -265,11 +265,11 @@ module _ (own : LibName) (records : List CompiledLibrary) (imports : List Import
   all-recorded = subst (Each IsRecorded) (sym runs.bindings) (bindings-hold runs.ended IsRecorded recorded)
 
 pub keywords-good : KeywordsAreGood
-keywords-good own path records imports version place exports forms codes r h e =
+keywords-good own records imports body codes r h e =
     let given = flat_map defined records in
-    let runs = record-runs own path records imports version place exports forms codes r h e in
-    let good = records-good own path records imports version place exports forms codes r h e in
-    let ended = record-ends own path records imports version place exports forms codes r h e in
+    let runs = record-runs own records imports body codes r h e in
+    let good = records-good own records imports body codes r h e in
+    let ended = record-ends own records imports body codes r h e in
     let v = ended.state in
     let ends = ended.ends in
     let is : flat_map keyword_of (own_bindings v) ≡ keywords r = ap (flat_map keyword_of) (sym ends.bindings) in

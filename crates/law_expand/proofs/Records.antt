@@ -11,7 +11,6 @@ use Rattle.base_data.specs.declared.imported_name.ImportedName.{ImportedName}
 use Rattle.base_data.specs.declared.library.LibName.{LibName}
 use Rattle.base_data.specs.declared.library.LibName.TheVariants as library
 use Rattle.base_data.specs.declared.name.Label.{Label}
-use Rattle.base_data.specs.declared.span.Span.{Span}
 use Rattle.stx_tree.specs.Changes.{stamp}
 use Rattle.stx_tree.specs.Tree.{Tree}
 use Rattle.stx_frames.specs.Listed.{rows_in}
@@ -27,15 +26,16 @@ use Rattle.law_core.specs.Records.{defined, line_core, line_labels, run_binders}
 use Rattle.law_core.specs.Follows.{line_cores}
 use Rattle.eval_code.specs.Codes.{Codes}
 use Rattle.expand_standing.specs.Own.{own_bindings}
-use Rattle.expand_standing.specs.Start.{started}
+use Rattle.expand_standing.specs.Start.{started, first_frame}
 use Rattle.expand_standing.specs.State.{State}
 use Rattle.expand_heads.specs.Items.{begun, is_top}
 use Rattle.expand_heads.specs.declared.taken.Taken.{Taken}
 use Rattle.expand_forms.specs.Body.{splice, finish_all}
-use Rattle.expand_forms.specs.Expanding.{ready, body_of, library_record}
+use Rattle.expand_forms.specs.Expanding.{ready, library_record}
 use Rattle.expand_forms.specs.Expression.{inside, full_room}
 use Rattle.expand_forms.specs.Inside.{Inside}
-use Rattle.expand_forms.specs.Top.{exports, refs_of, give_record, record_in, body_at, kind_of, second_pass, first_pass, top}
+use Rattle.expand_forms.specs.Top.{exports, refs_of, give_record, record_in, body_at, kind_of, second_pass, first_pass, top, top_at}
+use Rattle.expand_forms.specs.declared.top.LibraryBody.{LibraryBody}
 use Rattle.expand_forms.specs.declared.top.TopAt.{TopAt}
 use Rattle.law_expand.specs.Good.{RecordsAreGood}
 use Rattle.law_expand.specs.Indices.{bound_index}
@@ -221,19 +221,19 @@ pub in-record : (P : CompiledLibrary → Type 0) (x : Result (CompiledLibrary ×
 in-record P (Ok p) r h e = let is : p.0 ≡ r = cc in subst P is h
 in-record P (Err f) r h e = absurd (cc)
 
-pub record-runs : (own : LibName) (path : List ℕ) (records : List CompiledLibrary) (imports : List ImportedName) (version : List ℕ) (place : Span) (exports : List (List ℕ × Tree)) (forms : List Tree) (codes : Codes) (r : CompiledLibrary)
-    → IsReady own records → library_record (ready own path records imports codes) records version place exports forms ≡ Ok r → Runs own (flat_map defined records) (started own records imports codes) r
-record-runs own path records imports version place exports forms codes r h e =
+pub record-runs : (own : LibName) (records : List CompiledLibrary) (imports : List ImportedName) (body : LibraryBody) (codes : Codes) (r : CompiledLibrary)
+    → IsReady own records → library_record (ready own records imports codes) records body ≡ Ok r → Runs own (flat_map defined records) (started own records imports codes) r
+record-runs own records imports body codes r h e =
     let given = flat_map defined records in
     let start = started own records imports codes in
-    let at = body_of (ready own path records imports codes) version place in
-    in-record (Runs own given start) (top (inside records full_room) at exports forms start) r
-    (gives-top own given (inside records full_room) (inside-safe own given records full_room) start (started-sound own records imports codes h) (started-scope own records imports codes) (started-foreign own records imports codes h) at exports forms) e
+    let at = top_at (first_frame own) body in
+    in-record (Runs own given start) (top (inside records full_room) at body.exports body.forms start) r
+    (gives-top own given (inside records full_room) (inside-safe own given records full_room) start (started-sound own records imports codes h) (started-scope own records imports codes) (started-foreign own records imports codes h) at body.exports body.forms) e
 
 pub records-good : RecordsAreGood
-records-good own path records imports version place exports forms codes r h e =
+records-good own records imports body codes r h e =
     let given = flat_map defined records in
-    let runs = record-runs own path records imports version place exports forms codes r h e in
+    let runs = record-runs own records imports body codes r h e in
     let ls = given ++ defined r in
     let all = run-binders own runs.ended.bindings ls runs.first runs.middle runs.last r.run runs.run in
     let numbers = lines-codes own runs.ended.bindings ls runs.middle runs.last r.run runs.run.lines in (

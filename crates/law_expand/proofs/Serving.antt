@@ -187,4 +187,4 @@ module _ (own : LibName) (records : List CompiledLibrary) (imports : List Import
     }
 
 pub records-serve : RecordsServe
-records-serve own path records imports version place exports forms codes r h there e = record-serves own records imports codes r h (record-runs own path records imports version place exports forms codes r h e) there
+records-serve own records imports body codes r h there e = record-serves own records imports codes r h (record-runs own records imports body codes r h e) there

@@ -18,10 +18,10 @@ lines-shallow bs [] h = tt
 lines-shallow bs (x ∷ xs) h = ((let low = h.0.low in omega (arith, low)), lines-shallow bs xs h.1)
 
 pub records-shallow : RecordsAreShallow
-records-shallow own path records imports version place exports forms codes r h e =
+records-shallow own records imports body codes r h e =
     let given = flat_map defined records in
-    let runs = record-runs own path records imports version place exports forms codes r h e in
-    let ended = record-ends own path records imports version place exports forms codes r h e in
+    let runs = record-runs own records imports body codes r h e in
+    let ended = record-ends own records imports body codes r h e in
     let v = ended.state in
     let is : flat_map keyword_of (own_bindings v) ≡ keywords r = ap (flat_map keyword_of) (sym ended.ends.bindings) in
     each-append IsShallow (line_cores r) (keywords r) (lines-shallow runs.ended.bindings r.run runs.nests)

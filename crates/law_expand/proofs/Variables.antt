@@ -221,8 +221,8 @@ module _ (own : LibName) (given : List Label) (start : State) (r : CompiledLibra
   }
 
 pub variables-indexed : VariablesHaveIndices
-variables-indexed own path records imports version place exports forms codes r h e =
-    let runs = record-runs own path records imports version place exports forms codes r h e in
-    let good = records-good own path records imports version place exports forms codes r h e in
+variables-indexed own records imports body codes r h e =
+    let runs = record-runs own records imports body codes r h e in
+    let good = records-good own records imports body codes r h e in
     let start = started own records imports codes in
     has-indices own (flat_map defined records) start r runs (runs.grows.numbered (started-sound own records imports codes h).numbered) (runs.grows.indices (started-indices own records imports codes h)) good.0.bound_once good.0.bound_here

@@ -6,13 +6,13 @@ use Rattle.base_data.specs.declared.imported_name.ImportedName.{ImportedName}
 use Rattle.base_data.specs.declared.library.LibName.{LibName}
 use Rattle.base_data.specs.declared.library.LibName.TheVariants as library
 use Rattle.base_data.specs.declared.name.Label.{Label}
-use Rattle.base_data.specs.declared.span.Span.{Span}
 use Rattle.stx_tree.specs.Tree.{Tree}
 use Rattle.core_language.specs.declared.record.CompiledLibrary.{CompiledLibrary}
 use Rattle.law_core.specs.Follows.{names_of, bound_labels, IsGiven, Follows}
 use Rattle.law_core.specs.Following.{AllFollow}
 use Rattle.eval_code.specs.Codes.{Codes}
 use Rattle.expand_forms.specs.Expanding.{ready, library_record}
+use Rattle.expand_forms.specs.declared.top.LibraryBody.{LibraryBody}
 
 -- bound in one of these records, or given with the implementation
 abbrev pub IsKnownBefore : List CompiledLibrary → Label → Type 0
@@ -30,7 +30,6 @@ pub record IsFollower (own : LibName) (records : List CompiledLibrary) (imports 
   pub exported_once : Once (map (λ (e : List ℕ × Tree). e.0) exports)
 
 abbrev pub RecordsFollow : Type 0
-RecordsFollow = (own : LibName) (path : List ℕ) (records : List CompiledLibrary) (imports : List ImportedName) (version : List ℕ) (place : Span)
-    (exports : List (List ℕ × Tree)) (forms : List Tree) (codes : Codes) (r : CompiledLibrary)
-    → IsFollower own records imports exports → library_record (ready own path records imports codes) records version place exports forms
+RecordsFollow = (own : LibName) (records : List CompiledLibrary) (imports : List ImportedName) (body : LibraryBody) (codes : Codes) (r : CompiledLibrary)
+    → IsFollower own records imports body.exports → library_record (ready own records imports codes) records body
     ≡ Ok r → Follows r records

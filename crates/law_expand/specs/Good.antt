@@ -1,12 +1,10 @@
 -- Every record that expansion gives is closed, bound once and well made.
-use Rattle.std.specs.Prelude.{◌≡◌, ℕ, false, List, [], ◌++◌, Ok}
+use Rattle.std.specs.Prelude.{◌≡◌, false, List, [], ◌++◌, Ok}
 use Rattle.std.specs.List.{flat_map}
 use Rattle.base_data.specs.Elements.{Each, Once}
 use Rattle.base_data.specs.Op.{is_keyword}
 use Rattle.base_data.specs.declared.imported_name.ImportedName.{ImportedName}
 use Rattle.base_data.specs.declared.library.LibName.{LibName}
-use Rattle.base_data.specs.declared.span.Span.{Span}
-use Rattle.stx_tree.specs.Tree.{Tree}
 use Rattle.core_language.specs.declared.record.CompiledLibrary.{CompiledLibrary}
 use Rattle.law_core.specs.Parts.{ops, code_numbers}
 use Rattle.law_core.specs.WellMade.{IsWellMade}
@@ -15,6 +13,7 @@ use Rattle.law_core.specs.Follows.{line_cores, IsOwn}
 use Rattle.eval_code.specs.Codes.{Codes}
 use Rattle.expand_forms.specs.Expanding.{ready, library_record}
 use Rattle.expand_forms.specs.Top.{refs_of}
+use Rattle.expand_forms.specs.declared.top.LibraryBody.{LibraryBody}
 use Rattle.law_expand.specs.Indices.{bound_index}
 use Rattle.law_expand.specs.Ready.{IsReady}
 
@@ -35,6 +34,5 @@ pub record IsGood (records : List CompiledLibrary) (r : CompiledLibrary) : Type 
 
 -- and it has the name of the library
 abbrev pub RecordsAreGood : Type 0
-RecordsAreGood = (own : LibName) (path : List ℕ) (records : List CompiledLibrary) (imports : List ImportedName) (version : List ℕ) (place : Span)
-    (exports : List (List ℕ × Tree)) (forms : List Tree) (codes : Codes) (r : CompiledLibrary)
-    → IsReady own records → library_record (ready own path records imports codes) records version place exports forms ≡ Ok r → IsGood records r × (r.name ≡ own)
+RecordsAreGood = (own : LibName) (records : List CompiledLibrary) (imports : List ImportedName) (body : LibraryBody) (codes : Codes) (r : CompiledLibrary)
+    → IsReady own records → library_record (ready own records imports codes) records body ≡ Ok r → IsGood records r × (r.name ≡ own)

@@ -1,12 +1,10 @@
 -- The keywords of every record that expansion gives.
-use Rattle.std.specs.Prelude.{◌≡◌, ℕ, false, List, [], Ok}
+use Rattle.std.specs.Prelude.{◌≡◌, false, List, [], Ok}
 use Rattle.std.specs.List.{flat_map}
 use Rattle.base_data.specs.Elements.{Each, Once}
 use Rattle.base_data.specs.Op.{is_keyword}
 use Rattle.base_data.specs.declared.imported_name.ImportedName.{ImportedName}
 use Rattle.base_data.specs.declared.library.LibName.{LibName}
-use Rattle.base_data.specs.declared.span.Span.{Span}
-use Rattle.stx_tree.specs.Tree.{Tree}
 use Rattle.core_language.specs.declared.record.CompiledLibrary.{CompiledLibrary}
 use Rattle.law_core.specs.Parts.{ops}
 use Rattle.law_core.specs.Scope.{Closed}
@@ -15,6 +13,7 @@ use Rattle.law_core.specs.Records.{defined}
 use Rattle.law_core.specs.Follows.{IsOwn, IsRecorded, keywords, all_binders, all_numbers}
 use Rattle.eval_code.specs.Codes.{Codes}
 use Rattle.expand_forms.specs.Expanding.{ready, library_record}
+use Rattle.expand_forms.specs.declared.top.LibraryBody.{LibraryBody}
 use Rattle.law_expand.specs.Ready.{IsReady}
 
 -- Behind some records: each keyword has its expression, which is well made, names no keyword as a primitive, and is closed under the
@@ -30,6 +29,5 @@ pub record HasGoodKeywords (records : List CompiledLibrary) (r : CompiledLibrary
   pub numbered_here : Each (λ n. IsOwn r n.0) (all_numbers r)
 
 abbrev pub KeywordsAreGood : Type 0
-KeywordsAreGood = (own : LibName) (path : List ℕ) (records : List CompiledLibrary) (imports : List ImportedName) (version : List ℕ) (place : Span)
-    (exports : List (List ℕ × Tree)) (forms : List Tree) (codes : Codes) (r : CompiledLibrary)
-    → IsReady own records → library_record (ready own path records imports codes) records version place exports forms ≡ Ok r → HasGoodKeywords records r
+KeywordsAreGood = (own : LibName) (records : List CompiledLibrary) (imports : List ImportedName) (body : LibraryBody) (codes : Codes) (r : CompiledLibrary)
+    → IsReady own records → library_record (ready own records imports codes) records body ≡ Ok r → HasGoodKeywords records r

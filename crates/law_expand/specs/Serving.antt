@@ -1,14 +1,13 @@
 -- Records that serve those behind them: those that follow one another do, and so does every record that expansion gives.
-use Rattle.std.specs.Prelude.{◌≡◌, ℕ, List, [], Ok}
+use Rattle.std.specs.Prelude.{◌≡◌, List, [], Ok}
 use Rattle.base_data.specs.Elements.{Each}
 use Rattle.base_data.specs.declared.imported_name.ImportedName.{ImportedName}
 use Rattle.base_data.specs.declared.library.LibName.{LibName}
-use Rattle.base_data.specs.declared.span.Span.{Span}
-use Rattle.stx_tree.specs.Tree.{Tree}
 use Rattle.core_language.specs.declared.record.CompiledLibrary.{CompiledLibrary}
 use Rattle.law_core.specs.Following.{AllFollow}
 use Rattle.eval_code.specs.Codes.{Codes}
 use Rattle.expand_forms.specs.Expanding.{ready, library_record}
+use Rattle.expand_forms.specs.declared.top.LibraryBody.{LibraryBody}
 use Rattle.law_expand.specs.Ready.{IsReady}
 use Rattle.law_expand.specs.Serves.{IsThere, Serves, AllServe}
 
@@ -17,7 +16,6 @@ FollowersServe = (rs : List CompiledLibrary) → AllFollow [] rs → AllServe []
 
 -- where what it imports is there
 abbrev pub RecordsServe : Type 0
-RecordsServe = (own : LibName) (path : List ℕ) (records : List CompiledLibrary) (imports : List ImportedName) (version : List ℕ) (place : Span)
-    (exports : List (List ℕ × Tree)) (forms : List Tree) (codes : Codes) (r : CompiledLibrary)
+RecordsServe = (own : LibName) (records : List CompiledLibrary) (imports : List ImportedName) (body : LibraryBody) (codes : Codes) (r : CompiledLibrary)
     → IsReady own records → Each (λ (e : ImportedName). IsThere records e.label.0.library) imports
-    → library_record (ready own path records imports codes) records version place exports forms ≡ Ok r → Serves records r
+    → library_record (ready own records imports codes) records body ≡ Ok r → Serves records r

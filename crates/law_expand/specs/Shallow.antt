@@ -3,8 +3,6 @@ use Rattle.std.specs.Prelude.{◌≡◌, ◌≤◌, ◌+◌, ◌*◌, ℕ, List,
 use Rattle.base_data.specs.Elements.{Each}
 use Rattle.base_data.specs.declared.imported_name.ImportedName.{ImportedName}
 use Rattle.base_data.specs.declared.library.LibName.{LibName}
-use Rattle.base_data.specs.declared.span.Span.{Span}
-use Rattle.stx_tree.specs.Tree.{Tree}
 use Rattle.core_language.specs.Core.{PlainCore}
 use Rattle.core_language.specs.Height.{height}
 use Rattle.core_language.specs.declared.record.CompiledLibrary.{CompiledLibrary}
@@ -12,6 +10,7 @@ use Rattle.law_core.specs.Follows.{all_cores}
 use Rattle.eval_code.specs.Codes.{Codes}
 use Rattle.expand_heads.specs.Depth.{most_round}
 use Rattle.expand_forms.specs.Expanding.{ready, library_record}
+use Rattle.expand_forms.specs.declared.top.LibraryBody.{LibraryBody}
 use Rattle.law_expand.specs.Ready.{IsReady}
 
 -- At most 600 forms stand round one, so at most 601 stand in one another, and each of them comes to at most four levels of core code. That
@@ -24,6 +23,5 @@ IsShallow c = height c ≤ deepest
 
 -- each line, and each expression of a keyword
 abbrev pub RecordsAreShallow : Type 0
-RecordsAreShallow = (own : LibName) (path : List ℕ) (records : List CompiledLibrary) (imports : List ImportedName) (version : List ℕ) (place : Span)
-    (exports : List (List ℕ × Tree)) (forms : List Tree) (codes : Codes) (r : CompiledLibrary)
-    → IsReady own records → library_record (ready own path records imports codes) records version place exports forms ≡ Ok r → Each IsShallow (all_cores r)
+RecordsAreShallow = (own : LibName) (records : List CompiledLibrary) (imports : List ImportedName) (body : LibraryBody) (codes : Codes) (r : CompiledLibrary)
+    → IsReady own records → library_record (ready own records imports codes) records body ≡ Ok r → Each IsShallow (all_cores r)

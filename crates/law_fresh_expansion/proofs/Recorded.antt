@@ -40,10 +40,11 @@ use Rattle.expand_standing.specs.State.{State, stage_of}
 use Rattle.expand_heads.specs.Items.{begun}
 use Rattle.expand_heads.specs.declared.taken.Taken.{Taken}
 use Rattle.expand_forms.specs.Body.{finish_all}
-use Rattle.expand_forms.specs.Expanding.{ready, body_of, library_record}
+use Rattle.expand_forms.specs.Expanding.{ready, library_record}
 use Rattle.expand_forms.specs.Expression.{inside, full_room}
 use Rattle.expand_forms.specs.Inside.{Inside}
-use Rattle.expand_forms.specs.Top.{stands_for, export, all_exports, exports, give_record, record_in, body_at, second_pass, first_pass, top}
+use Rattle.expand_forms.specs.Top.{stands_for, export, all_exports, exports, give_record, record_in, body_at, second_pass, first_pass, top, top_at}
+use Rattle.expand_forms.specs.declared.top.LibraryBody.{LibraryBody}
 use Rattle.expand_forms.specs.declared.top.TopAt.{TopAt}
 use Rattle.law_fresh.specs.Leaves.{OptionHolds, TreeHolds, CodesHold, LineHolds, LinesHold}
 use Rattle.law_fresh.proofs.Variables.{looked_up}
@@ -284,12 +285,12 @@ module _ (own : LibName) (records : List CompiledLibrary) where
             frames = each-implied (λ (f : FrameRow). Each (Kn n) f.marks) (λ (f : FrameRow). Each (IsOfOne (own ∷ L)) f.marks) (λ f k. own-marks n f.marks k) p.0.frames h.1.frames;
           })
 
-      pub record-law : (path version : List ℕ) (place : Span) (es : List (List ℕ × Tree)) (forms : List Tree) (r : CompiledLibrary) → Each WasRead forms
-          → library_record (ready own path records imports codes) records version place es forms ≡ Ok r → RecordHasOnly Q (own ∷ L) r
-      record-law path version place es forms r was e =
-          of-record r (top (inside records full_room) (body_of (ready own path records imports codes) version place) es forms (started own records imports codes))
-          (top-holds own Kn Jn Pn lives 1 (inside records full_room) (inside-keeps own Kn Jn Pn lives 1 records full_room (all-lines records only)) (body_of (ready own path records imports codes) version place) es forms (started own records imports codes) start-holds
-          (forms-hold (started own records imports codes).names.number forms was) first-made) e
+      pub record-law : (body : LibraryBody) (r : CompiledLibrary) → Each WasRead body.forms
+          → library_record (ready own records imports codes) records body ≡ Ok r → RecordHasOnly Q (own ∷ L) r
+      record-law body r was e =
+          of-record r (top (inside records full_room) (top_at (first_frame own) body) body.exports body.forms (started own records imports codes))
+          (top-holds own Kn Jn Pn lives 1 (inside records full_room) (inside-keeps own Kn Jn Pn lives 1 records full_room (all-lines records only)) (top_at (first_frame own) body) body.exports body.forms (started own records imports codes) start-holds
+          (forms-hold (started own records imports codes).names.number body.forms was) first-made) e
 
   pub marks-known : (n : ℕ) (c : LeafContext) → HasOnly HasMarks L c → KnownBy HasMarks L own n c
   marks-known n c h = has-wider (IsOfOne L) (Kn n) (IsFrameOfOne L) (Jn n) (λ m k. inl k) (λ f k. inl k) c h
@@ -317,10 +318,10 @@ starts-known = record {
 
 pub records-own : RecordsHaveOwnMarks
 records-own = record {
-  leaves = λ own path records imports version place es forms codes r new only texts was e.
-      record-law own records HasMarks (lives-known (libraries_of records) own (inl refl)) (marks-known own records) (marks-only own records) imports codes only texts path version place es forms r was e;
-  histories = λ own path records imports version place es forms codes r new only texts was e.
-      record-law own records HasHistory (lives-on (libraries_of records) own (inl refl)) (history-known own records) (history-only own records) imports codes only texts path version place es forms r was e;
+  leaves = λ own records imports body codes r new only texts was e.
+      record-law own records HasMarks (lives-known (libraries_of records) own (inl refl)) (marks-known own records) (marks-only own records) imports codes only texts body r was e;
+  histories = λ own records imports body codes r new only texts was e.
+      record-law own records HasHistory (lives-on (libraries_of records) own (inl refl)) (history-known own records) (history-only own records) imports codes only texts body r was e;
 }
 
 pub events-stay : EventsStay
@@ -329,6 +330,6 @@ events-stay = record {
   inside_keeps = inside-once;
   starts = λ own records imports codes new only texts.
       start-known own records HasEvents (lives-once (libraries_of records) own new (inl refl)) (events-known own records) (events-only own records) imports codes only texts;
-  records = λ own path records imports version place es forms codes r new only texts was e.
-      record-law own records HasEvents (lives-once (libraries_of records) own new (inl refl)) (events-known own records) (events-only own records) imports codes only texts path version place es forms r was e;
+  records = λ own records imports body codes r new only texts was e.
+      record-law own records HasEvents (lives-once (libraries_of records) own new (inl refl)) (events-known own records) (events-only own records) imports codes only texts body r was e;
 }

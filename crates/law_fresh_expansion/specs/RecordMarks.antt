@@ -5,7 +5,6 @@ use Rattle.base_data.specs.declared.imported_name.ImportedName.{ImportedName}
 use Rattle.base_data.specs.declared.library.LibName.{LibName}
 use Rattle.base_data.specs.declared.name.FrameNo.{FrameNo}
 use Rattle.base_data.specs.declared.name.Mark.{Mark}
-use Rattle.base_data.specs.declared.span.Span.{Span}
 use Rattle.stx_tree.specs.Context.{LeafContext, blank}
 use Rattle.stx_tree.specs.Tree.{Tree}
 use Rattle.stx_tree.specs.declared.frame_row.FrameRow.{FrameRow}
@@ -13,6 +12,7 @@ use Rattle.core_language.specs.declared.record.CompiledLibrary.{CompiledLibrary}
 use Rattle.eval_code.specs.Codes.{Codes}
 use Rattle.expand_standing.specs.Start.{started}
 use Rattle.expand_forms.specs.Expanding.{ready, library_record}
+use Rattle.expand_forms.specs.declared.top.LibraryBody.{LibraryBody}
 use Rattle.law_fresh.specs.Leaves.{TreeHolds, CodesHold, LinesHold}
 use Rattle.law_fresh_expansion.specs.History.{HasHistory}
 use Rattle.law_fresh_expansion.specs.Known.{IsKnown, IsKnownFrame, HasMarks, libraries_of, IsNewAmong}
@@ -57,11 +57,10 @@ abbrev pub WasRead : Tree → Type 0
 WasRead t = TreeHolds (λ c. c ≡ blank) t
 
 abbrev pub RecordsKeep : ((Mark → Type 0) → (FrameNo → Type 0) → LeafContext → Type 0) → Type 0
-RecordsKeep Q = (own : LibName) (path : List ℕ) (records : List CompiledLibrary) (imports : List ImportedName) (version : List ℕ)
-    (place : Span) (exports : List (List ℕ × Tree)) (forms : List Tree) (codes : Codes) (r : CompiledLibrary)
+RecordsKeep Q = (own : LibName) (records : List CompiledLibrary) (imports : List ImportedName) (body : LibraryBody) (codes : Codes) (r : CompiledLibrary)
     → IsNewAmong (libraries_of records) own → Each (RecordHasOnly Q (libraries_of records)) records
-    → CodesHold (HasOnly Q (libraries_of records)) codes → Each WasRead forms
-    → library_record (ready own path records imports codes) records version place exports forms ≡ Ok r → RecordHasOnly Q (own ∷ libraries_of records) r
+    → CodesHold (HasOnly Q (libraries_of records)) codes → Each WasRead body.forms
+    → library_record (ready own records imports codes) records body ≡ Ok r → RecordHasOnly Q (own ∷ libraries_of records) r
 
 -- Where the marks and frames in the records before are of their libraries or of the implementation, and so are those in the codes of texts, those
 -- in the record of a library with a new name are so, too, or its own.

@@ -9,4 +9,4 @@ kept : (t : Tests) → AreKeptByForms t → IsKeptByExpansion (passing t)
 kept t k = record { built = k.built; steady = steady t k.evaluation; insert = k.insert; ellipsis = k.ellipsis; records = k.records; clauses = λ p A m h. h; inserts = λ vs A d h. h; templates = λ c t x A h e k. k }
 
 pub keeps : ExpansionKeeps
-keeps t own path records imports version place exports forms codes r k = records-stay (passing t) (kept t k) own path records imports version place exports forms codes r
+keeps t own records imports body codes r k = records-stay (passing t) (kept t k) own records imports body codes r

@@ -21,15 +21,14 @@ use Rattle.eval_stage.specs.Stage.{keyword_at, expression_in, expression_of}
 use Rattle.eval_stage.specs.declared.keyword.Keyword.{Keyword}
 use Rattle.eval_stage.specs.declared.keyword.Keyword.TheVariants as keyword
 use Rattle.expand_standing.specs.Own.{export_labels, with_assigned, with_expression, completed, row_at, own_label, own_row, own_below, own_bindings}
-use Rattle.expand_standing.specs.Start.{bindings_of, started}
+use Rattle.expand_standing.specs.Start.{bindings_of, started, first_frame}
 use Rattle.expand_standing.specs.State.{State, stage_of}
 use Rattle.expand_heads.specs.Items.{begun}
 use Rattle.expand_heads.specs.declared.taken.Taken.{Taken}
 use Rattle.expand_forms.specs.Body.{finish_all}
-use Rattle.expand_forms.specs.Expanding.{ready, body_of}
 use Rattle.expand_forms.specs.Expression.{inside, full_room}
 use Rattle.expand_forms.specs.Inside.{Inside}
-use Rattle.expand_forms.specs.Top.{stands_for, export, all_exports, exports, give_record, record_in, body_at, second_pass, first_pass, top}
+use Rattle.expand_forms.specs.Top.{stands_for, export, all_exports, exports, give_record, record_in, body_at, second_pass, first_pass, top, top_at}
 use Rattle.expand_forms.specs.declared.top.TopAt.{TopAt}
 use Rattle.law_invariants.specs.Invariant.{OptionHolds}
 use Rattle.law_invariants.specs.Holds.{CodesHold, LineHolds}
@@ -137,7 +136,7 @@ module _ (I : Invariant) (kept : IsKeptByExpansion I) where
   started-holds own records imports codes before texts = record { stage = record { cells = tt; codes = texts; globals = tt; keywords = tt }; bindings = all-bindings records before }
 
   pub records-stay : RecordsStay I
-  records-stay own path records imports version place es forms codes r before texts read e =
-      of-record r (top (inside records full_room) (body_of (ready own path records imports codes) version place) es forms (started own records imports codes))
-      (top-holds (inside records full_room) (inside-keeps I kept records full_room (all-lines records before)) (body_of (ready own path records imports codes) version place) es forms (started own records imports codes)
+  records-stay own records imports body codes r before texts read e =
+      of-record r (top (inside records full_room) (top_at (first_frame own) body) body.exports body.forms (started own records imports codes))
+      (top-holds (inside records full_room) (inside-keeps I kept records full_room (all-lines records before)) (top_at (first_frame own) body) body.exports body.forms (started own records imports codes)
       (started-holds own records imports codes before texts) read) e

@@ -14,6 +14,7 @@ use Rattle.expand_quasi.specs.Inserted.{dots}
 use Rattle.core_records.specs.Forms.{record_forms}
 use Rattle.core_records.specs.Names.{record_uid}
 use Rattle.expand_forms.specs.Expanding.{ready, library_record}
+use Rattle.expand_forms.specs.declared.top.LibraryBody.{LibraryBody}
 use Rattle.law_invariants.specs.Holds.{CodesHold}
 use Rattle.law_invariants.specs.Laws.{Tests, passing, AreKept}
 use Rattle.law_invariants.proofs.Trees.{OkHolds}
@@ -32,7 +33,7 @@ pub record AreKeptByForms (t : Tests) : Type 0 where
 -- If the forms of a library pass, the records before it and the codes of texts, so does its record: the constants of its lines and of its keywords'
 -- expressions, and the symbols of its variables.
 abbrev pub ExpansionKeeps : Type 0
-ExpansionKeeps = (t : Tests) (own : LibName) (path : List ℕ) (records : List CompiledLibrary) (imports : List ImportedName)
-    (version : List ℕ) (place : Span) (exports : List (List ℕ × Tree)) (forms : List Tree) (codes : Codes) (r : CompiledLibrary)
-    → AreKeptByForms t → Each (RecordHolds (passing t)) records → CodesHold (passing t) codes → Each (λ (u : Tree). IsTrue (t.trees u)) forms
-    → library_record (ready own path records imports codes) records version place exports forms ≡ Ok r → RecordHolds (passing t) r
+ExpansionKeeps = (t : Tests) (own : LibName) (records : List CompiledLibrary) (imports : List ImportedName)
+    (body : LibraryBody) (codes : Codes) (r : CompiledLibrary)
+    → AreKeptByForms t → Each (RecordHolds (passing t)) records → CodesHold (passing t) codes → Each (λ (u : Tree). IsTrue (t.trees u)) body.forms
+    → library_record (ready own records imports codes) records body ≡ Ok r → RecordHolds (passing t) r

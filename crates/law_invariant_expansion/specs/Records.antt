@@ -1,13 +1,12 @@
 -- Records of libraries of which an invariant holds.
-use Rattle.std.specs.Prelude.{◌≡◌, ℕ, List, Ok}
+use Rattle.std.specs.Prelude.{◌≡◌, List, Ok}
 use Rattle.base_data.specs.Elements.{Each}
 use Rattle.base_data.specs.declared.imported_name.ImportedName.{ImportedName}
 use Rattle.base_data.specs.declared.library.LibName.{LibName}
-use Rattle.base_data.specs.declared.span.Span.{Span}
-use Rattle.stx_tree.specs.Tree.{Tree}
 use Rattle.core_language.specs.declared.record.CompiledLibrary.{CompiledLibrary}
 use Rattle.eval_code.specs.Codes.{Codes}
 use Rattle.expand_forms.specs.Expanding.{ready, library_record}
+use Rattle.expand_forms.specs.declared.top.LibraryBody.{LibraryBody}
 use Rattle.law_invariants.specs.Holds.{CodesHold, LinesHold}
 use Rattle.law_invariant_expansion.specs.States.{BindingsHold}
 use Rattle.law_invariants.specs.Invariant.{Invariant}
@@ -20,7 +19,6 @@ module _ (I : Invariant) where
 
   -- Where it holds of the forms of a library, of the trees of the records before and of those in the codes of texts, it holds of those of its record.
   abbrev pub RecordsStay : Type 0
-  RecordsStay = (own : LibName) (path : List ℕ) (records : List CompiledLibrary) (imports : List ImportedName) (version : List ℕ)
-      (place : Span) (exports : List (List ℕ × Tree)) (forms : List Tree) (codes : Codes) (r : CompiledLibrary)
-      → Each RecordHolds records → CodesHold I codes → Each I.trees forms
-      → library_record (ready own path records imports codes) records version place exports forms ≡ Ok r → RecordHolds r
+  RecordsStay = (own : LibName) (records : List CompiledLibrary) (imports : List ImportedName) (body : LibraryBody) (codes : Codes) (r : CompiledLibrary)
+      → Each RecordHolds records → CodesHold I codes → Each I.trees body.forms
+      → library_record (ready own records imports codes) records body ≡ Ok r → RecordHolds r

@@ -5,4 +5,4 @@ use Rattle.law_limit_expansion.specs.Limits.{RecordsStayWithin}
 use Rattle.law_limit_expansion.proofs.Recorded.{records-stay}
 
 pub stay-within : RecordsStayWithin
-stay-within own path records imports version place exports forms codes r = records-stay Fits fits-lawful own path records imports version place exports forms codes r
+stay-within own records imports body codes r = records-stay Fits fits-lawful own records imports body codes r

@@ -27,16 +27,15 @@ use Rattle.core_shapes.specs.Lists.{is_leaf}
 use Rattle.expand_standing.specs.InScope.{with_local}
 use Rattle.expand_standing.specs.Binders.{next_index, row_put, put_variable, variable_for, bind_as, bind_variable}
 use Rattle.expand_standing.specs.Own.{export_labels}
-use Rattle.expand_standing.specs.Start.{started}
+use Rattle.expand_standing.specs.Start.{started, first_frame}
 use Rattle.expand_standing.specs.State.{State, noted, note, fresh, fault_form}
 use Rattle.expand_heads.specs.Items.{begun}
 use Rattle.expand_heads.specs.declared.taken.BodyAt.{BodyAt}
 use Rattle.expand_heads.specs.declared.taken.Taken.{Taken}
 use Rattle.expand_forms.specs.Body.{splice, finish_all}
-use Rattle.expand_forms.specs.Expanding.{ready, body_of}
 use Rattle.expand_forms.specs.Expression.{inside, full_room}
 use Rattle.expand_forms.specs.Inside.{Inside}
-use Rattle.expand_forms.specs.Top.{stands_for, export, all_exports, give_record, linked_in, body_at, exports, first_pass, second_pass, top}
+use Rattle.expand_forms.specs.Top.{stands_for, export, all_exports, give_record, linked_in, body_at, exports, first_pass, second_pass, top, top_at}
 use Rattle.expand_forms.specs.declared.top.Linked.{Linked}
 use Rattle.expand_forms.specs.declared.top.TopAt.{TopAt}
 use Rattle.law_expand.proofs.Acts.{Gave, gave-both, gave-after, told}
@@ -197,12 +196,12 @@ unfolding started
 first-links own records imports codes = refl
 
 pub links-of-identifiers : LinksAreOfIdentifiers
-links-of-identifiers own path records imports version place es fs codes l new only texts was read e =
+links-of-identifiers own records imports body codes l new only texts was read e =
     let libs = libraries_of records in
     let s = started own records imports codes in
-    let at = body_of (ready own path records imports codes) version place in
+    let at = top_at (first_frame own) body in
     let starts = events-stay.starts own records imports codes new only texts in
     let n = s.names.number in
-    given (RunIsLinked records s at es fs) (top (inside records full_room) at es fs s) l
-    (top-so libs own (inl refl) new records n starts.1 at es fs s (first-links own records imports codes) starts.0
-    (each-implied WasRead (TreeHolds (HasKnownEvents libs own n)) (λ t k. tree_wider (λ c. c ≡ blank) (HasKnownEvents libs own n) (read-at libs own (inl refl) new n) t k) fs was) (first-made own records imports codes)) e
+    given (RunIsLinked records s at body.exports body.forms) (top (inside records full_room) at body.exports body.forms s) l
+    (top-so libs own (inl refl) new records n starts.1 at body.exports body.forms s (first-links own records imports codes) starts.0
+    (each-implied WasRead (TreeHolds (HasKnownEvents libs own n)) (λ t k. tree_wider (λ c. c ≡ blank) (HasKnownEvents libs own n) (read-at libs own (inl refl) new n) t k) body.forms was) (first-made own records imports codes)) e

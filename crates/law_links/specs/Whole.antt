@@ -12,14 +12,16 @@ use Rattle.core_language.specs.declared.record.CompiledLibrary.{CompiledLibrary}
 use Rattle.core_language.specs.declared.link.LinkKind.TheVariants as kinds
 use Rattle.eval_code.specs.Codes.{Codes}
 use Rattle.expand_standing.specs.Binders.{bind_variable}
-use Rattle.expand_standing.specs.Start.{started}
+use Rattle.expand_standing.specs.Start.{started, first_frame}
 use Rattle.expand_standing.specs.State.{State}
 use Rattle.expand_heads.specs.Items.{begun}
 use Rattle.expand_heads.specs.declared.taken.Taken.{Taken}
-use Rattle.expand_forms.specs.Expanding.{ready, body_of, library_linked}
+use Rattle.expand_forms.specs.Expanding.{ready, library_linked}
 use Rattle.expand_forms.specs.Top as top
+use Rattle.expand_forms.specs.declared.top.LibraryBody.{LibraryBody}
 use Rattle.expand_forms.specs.declared.top.Linked.{Linked}
 use Rattle.expand_forms.specs.declared.top.TopAt.{TopAt}
+use Rattle.expand_forms.specs.Top.{top_at}
 use Rattle.law_fresh.specs.Leaves.{CodesHold}
 use Rattle.law_fresh_expansion.specs.Events.{HasEvents}
 use Rattle.law_fresh_expansion.specs.Known.{libraries_of, IsNewAmong}
@@ -55,9 +57,8 @@ module _ (records : List CompiledLibrary) where
 
 -- So it is of each library with a new name, behind records and codes of texts whose leaves have histories.
 abbrev pub LinksAreOfIdentifiers : Type 0
-LinksAreOfIdentifiers = (own : LibName) (path : List ℕ) (records : List CompiledLibrary) (imports : List ImportedName)
-    (version : List ℕ) (place : Span) (exports : List (List ℕ × Tree)) (forms : List Tree) (codes : Codes) (l : Linked)
+LinksAreOfIdentifiers = (own : LibName) (records : List CompiledLibrary) (imports : List ImportedName) (body : LibraryBody) (codes : Codes) (l : Linked)
     → IsNewAmong (libraries_of records) own → Each (RecordHasOnly HasEvents (libraries_of records)) records
-    → CodesHold (HasOnly HasEvents (libraries_of records)) codes → Each WasRead forms → Each (λ (e : List ℕ × Tree). WasRead e.1) exports
-    → library_linked (ready own path records imports codes) records version place exports forms ≡ Ok l
-    → RunIsLinked records (started own records imports codes) (body_of (ready own path records imports codes) version place) exports forms l
+    → CodesHold (HasOnly HasEvents (libraries_of records)) codes → Each WasRead body.forms → Each (λ (e : List ℕ × Tree). WasRead e.1) body.exports
+    → library_linked (ready own records imports codes) records body ≡ Ok l
+    → RunIsLinked records (started own records imports codes) (top_at (first_frame own) body) body.exports body.forms l

@@ -9,16 +9,15 @@ use Rattle.stx_tree.specs.Tree.{Tree}
 use Rattle.core_language.specs.declared.record.CompiledLibrary.{CompiledLibrary}
 use Rattle.core_language.specs.declared.record.Line.{Line}
 use Rattle.law_core.specs.Records.{line_core}
-use Rattle.expand_standing.specs.Start.{started}
+use Rattle.expand_standing.specs.Start.{started, first_frame}
 use Rattle.expand_standing.specs.State.{State}
 use Rattle.expand_heads.specs.Depth.{most_round}
 use Rattle.expand_heads.specs.Items.{begun}
 use Rattle.expand_heads.specs.declared.taken.Taken.{Taken}
 use Rattle.expand_forms.specs.Body.{splice, finish_all}
-use Rattle.expand_forms.specs.Expanding.{ready, body_of}
 use Rattle.expand_forms.specs.Expression.{inside, full_room}
 use Rattle.expand_forms.specs.Inside.{Inside}
-use Rattle.expand_forms.specs.Top.{record_in, exports, give_record, body_at, second_pass, first_pass, top}
+use Rattle.expand_forms.specs.Top.{record_in, exports, give_record, body_at, second_pass, first_pass, top, top_at}
 use Rattle.expand_forms.specs.declared.top.TopAt.{TopAt}
 use Rattle.law_expand.proofs.Acts.{Gave, gave-after, gave-any}
 use Rattle.law_nesting.specs.Heights.{Between, height_with}
@@ -55,7 +54,7 @@ module _ (between : Between) (few : IsAtMostText between) where
   recorded r (Err f) h e = absurd (cc)
 
 pub lines-nest-all : LinesNest
-lines-nest-all between few own path records imports version place exports forms codes r e =
+lines-nest-all between few own records imports body codes r e =
     let go = inside records full_room in
-    let at = body_of (ready own path records imports codes) version place in
-    recorded between few r (top go at exports forms (started own records imports codes)) (top-nests between few go (inside-nests between few records full_room) at exports forms (started own records imports codes)) e
+    let at = top_at (first_frame own) body in
+    recorded between few r (top go at body.exports body.forms (started own records imports codes)) (top-nests between few go (inside-nests between few records full_room) at body.exports body.forms (started own records imports codes)) e

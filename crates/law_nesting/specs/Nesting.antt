@@ -3,8 +3,6 @@ use Rattle.std.specs.Prelude.{◌≡◌, ◌≤◌, ◌+◌, ◌*◌, ℕ, List,
 use Rattle.base_data.specs.Elements.{Each}
 use Rattle.base_data.specs.declared.imported_name.ImportedName.{ImportedName}
 use Rattle.base_data.specs.declared.library.LibName.{LibName}
-use Rattle.base_data.specs.declared.span.Span.{Span}
-use Rattle.stx_tree.specs.Tree.{Tree}
 use Rattle.core_language.specs.Core.{PlainCore}
 use Rattle.core_language.specs.Height.{height}
 use Rattle.core_language.specs.declared.record.CompiledLibrary.{CompiledLibrary}
@@ -12,6 +10,7 @@ use Rattle.law_core.specs.Records.{line_core}
 use Rattle.eval_code.specs.Codes.{Codes}
 use Rattle.expand_heads.specs.Depth.{most_round}
 use Rattle.expand_forms.specs.Expanding.{ready, library_record}
+use Rattle.expand_forms.specs.declared.top.LibraryBody.{LibraryBody}
 use Rattle.law_nesting.specs.Heights.{Between, in_code, height_with}
 
 -- without what stands between forms and their parts, it is the height of core code
@@ -31,8 +30,7 @@ deepest = 4 * (most_round + 1)
 
 -- each line of a record, whatever the records before it and the forms of its library
 abbrev pub LinesNest : Type 0
-LinesNest = (between : Between) → IsAtMostText between → (own : LibName) (path : List ℕ) (records : List CompiledLibrary)
-    (imports : List ImportedName) (version : List ℕ) (place : Span)
-    (exports : List (List ℕ × Tree)) (forms : List Tree) (codes : Codes) (r : CompiledLibrary)
-    → library_record (ready own path records imports codes) records version place exports forms ≡ Ok r
+LinesNest = (between : Between) → IsAtMostText between → (own : LibName) (records : List CompiledLibrary)
+    (imports : List ImportedName) (body : LibraryBody) (codes : Codes) (r : CompiledLibrary)
+    → library_record (ready own records imports codes) records body ≡ Ok r
     → Each (λ l. height_with between (line_core l) ≤ deepest) r.run

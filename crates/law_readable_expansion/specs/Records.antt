@@ -1,13 +1,12 @@
 -- Records of libraries in which all can be read.
-use Rattle.std.specs.Prelude.{◌≡◌, ℕ, List, Ok}
+use Rattle.std.specs.Prelude.{◌≡◌, List, Ok}
 use Rattle.base_data.specs.Elements.{Each}
 use Rattle.base_data.specs.declared.imported_name.ImportedName.{ImportedName}
 use Rattle.base_data.specs.declared.library.LibName.{LibName}
-use Rattle.base_data.specs.declared.span.Span.{Span}
-use Rattle.stx_tree.specs.Tree.{Tree}
 use Rattle.core_language.specs.declared.record.CompiledLibrary.{CompiledLibrary}
 use Rattle.eval_code.specs.Codes.{Codes}
 use Rattle.expand_forms.specs.Expanding.{ready, library_record}
+use Rattle.expand_forms.specs.declared.top.LibraryBody.{LibraryBody}
 use Rattle.law_readable.specs.Readable.{ReadableTree, ReadableCodes, readable}
 use Rattle.law_invariant_expansion.specs.Records.{RecordHolds}
 
@@ -17,7 +16,6 @@ ReadableRecord = RecordHolds readable
 
 -- Where the forms of a library can be read, and so can all in the records before and in the codes of texts, so can all in its record.
 abbrev pub RecordsStayReadable : Type 0
-RecordsStayReadable = (own : LibName) (path : List ℕ) (records : List CompiledLibrary) (imports : List ImportedName) (version : List ℕ)
-    (place : Span) (exports : List (List ℕ × Tree)) (forms : List Tree) (codes : Codes) (r : CompiledLibrary)
-    → Each ReadableRecord records → ReadableCodes codes → Each ReadableTree forms
-    → library_record (ready own path records imports codes) records version place exports forms ≡ Ok r → ReadableRecord r
+RecordsStayReadable = (own : LibName) (records : List CompiledLibrary) (imports : List ImportedName) (body : LibraryBody) (codes : Codes) (r : CompiledLibrary)
+    → Each ReadableRecord records → ReadableCodes codes → Each ReadableTree body.forms
+    → library_record (ready own records imports codes) records body ≡ Ok r → ReadableRecord r

@@ -35,10 +35,9 @@ use Rattle.expand_heads.specs.declared.taken.Taken.{Taken}
 use Rattle.law_hygiene.specs.Binder.{Captures, IsRowAt}
 use Rattle.law_hygiene.proofs.Rowing.{by_a_stamp}
 use Rattle.expand_forms.specs.Body.{splice, finish_all}
-use Rattle.expand_forms.specs.Expanding.{ready, body_of}
 use Rattle.expand_forms.specs.Expression.{inside, full_room}
 use Rattle.expand_forms.specs.Inside.{Inside}
-use Rattle.expand_forms.specs.Top.{stands_for, export, all_exports, give_record, record_in, body_at, exports, first_pass, second_pass, top}
+use Rattle.expand_forms.specs.Top.{stands_for, export, all_exports, give_record, record_in, body_at, exports, first_pass, second_pass, top, top_at}
 use Rattle.expand_forms.specs.declared.top.TopAt.{TopAt}
 use Rattle.law_expand.proofs.Acts.{Gave, gave-both, gave-after, gave-each, told, each-nil, each-cons}
 use Rattle.law_expand.specs.Kept.{IsKeptWith}
@@ -298,12 +297,12 @@ unfolding started
 first-made own records imports codes = inr (refl, omega arith)
 
 pub records-hygienic : RecordsAreHygienic
-records-hygienic own path records imports version place es fs codes r new only texts was read e =
+records-hygienic own records imports body codes r new only texts was read e =
     let libs = libraries_of records in
     let s = started own records imports codes in
-    let at = body_of (ready own path records imports codes) version place in
+    let at = top_at (first_frame own) body in
     let starts = events-stay.starts own records imports codes new only texts in
     let n = s.names.number in
-    given (RunIsRight libs own records s at es fs) (top (inside records full_room) at es fs s) r
-    (top-right libs own (inl refl) new records n starts.1 at es fs s starts.0
-    (each-implied WasRead (TreeHolds (HasKnownEvents libs own n)) (λ t k. tree_wider (λ c. c ≡ blank) (HasKnownEvents libs own n) (read-at libs own (inl refl) new n) t k) fs was) (first-made own records imports codes) read (kept-first own records imports codes)) e
+    given (RunIsRight libs own records s at body.exports body.forms) (top (inside records full_room) at body.exports body.forms s) r
+    (top-right libs own (inl refl) new records n starts.1 at body.exports body.forms s starts.0
+    (each-implied WasRead (TreeHolds (HasKnownEvents libs own n)) (λ t k. tree_wider (λ c. c ≡ blank) (HasKnownEvents libs own n) (read-at libs own (inl refl) new n) t k) body.forms was) (first-made own records imports codes) read (kept-first own records imports codes)) e

@@ -5,7 +5,6 @@ use Rattle.base_data.specs.declared.imported_name.ImportedName.{ImportedName}
 use Rattle.base_data.specs.declared.library.LibName.{LibName}
 use Rattle.base_data.specs.declared.name.FrameNo.{FrameNo}
 use Rattle.base_data.specs.declared.name.Label.{Label}
-use Rattle.base_data.specs.declared.span.Span.{Span}
 use Rattle.stx_tree.specs.Changes.{stamp}
 use Rattle.stx_tree.specs.Tree.{Tree}
 use Rattle.stx_frames.specs.Listed.{rows_in}
@@ -17,14 +16,16 @@ use Rattle.core_language.specs.declared.record.CompiledLibrary.{CompiledLibrary}
 use Rattle.core_language.specs.declared.record.Line.{Line}
 use Rattle.core_language.specs.declared.record.Line.TheVariants as line
 use Rattle.eval_code.specs.Codes.{Codes}
-use Rattle.expand_standing.specs.Start.{started}
+use Rattle.expand_standing.specs.Start.{started, first_frame}
 use Rattle.expand_standing.specs.State.{State}
 use Rattle.expand_heads.specs.Items.{begun}
 use Rattle.expand_heads.specs.declared.taken.Taken.{Taken}
-use Rattle.expand_forms.specs.Expanding.{ready, body_of, library_record}
+use Rattle.expand_forms.specs.Expanding.{ready, library_record}
 use Rattle.expand_forms.specs.Expression.{inside, full_room}
 use Rattle.expand_forms.specs.Top as top
+use Rattle.expand_forms.specs.declared.top.LibraryBody.{LibraryBody}
 use Rattle.expand_forms.specs.declared.top.TopAt.{TopAt}
+use Rattle.expand_forms.specs.Top.{top_at}
 use Rattle.law_fresh.specs.Leaves.{CodesHold}
 use Rattle.law_fresh_expansion.specs.Events.{HasEvents}
 use Rattle.law_fresh_expansion.specs.Known.{libraries_of, IsNewAmong}
@@ -96,10 +97,9 @@ module _ (libs : List LibName) (own : LibName) (records : List CompiledLibrary) 
 
 -- So it is of the record of each library with a new name, behind records and codes of texts whose leaves have histories.
 abbrev pub RecordsAreHygienic : Type 0
-RecordsAreHygienic = (own : LibName) (path : List ℕ) (records : List CompiledLibrary) (imports : List ImportedName) (version : List ℕ)
-    (place : Span) (exports : List (List ℕ × Tree)) (forms : List Tree) (codes : Codes) (r : CompiledLibrary)
+RecordsAreHygienic = (own : LibName) (records : List CompiledLibrary) (imports : List ImportedName) (body : LibraryBody) (codes : Codes) (r : CompiledLibrary)
     → IsNewAmong (libraries_of records) own → Each (RecordHasOnly HasEvents (libraries_of records)) records
-    → CodesHold (HasOnly HasEvents (libraries_of records)) codes → Each WasRead forms → Each (λ (e : List ℕ × Tree). WasRead e.1) exports
-    → library_record (ready own path records imports codes) records version place exports forms ≡ Ok r
+    → CodesHold (HasOnly HasEvents (libraries_of records)) codes → Each WasRead body.forms → Each (λ (e : List ℕ × Tree). WasRead e.1) body.exports
+    → library_record (ready own records imports codes) records body ≡ Ok r
     → RunIsRight (libraries_of records) own records (started own records imports codes)
-    (body_of (ready own path records imports codes) version place) exports forms r
+    (top_at (first_frame own) body) body.exports body.forms r

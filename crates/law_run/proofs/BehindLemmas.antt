@@ -1,6 +1,5 @@
 -- A library is expanded behind records that serve, and its record serves too.
 use Rattle.std.proofs.Common.{◌≡◌, ℕ, zero, suc, ◌+◌, Bool, true, false, List, [], ◌∷◌, Option, Result, Ok, Err, refl, inl, inr, if◌then◌else◌}
-use Rattle.std.specs.Prelude.{map}
 use Rattle.base_data.proofs.ElementLemmas.{each-append}
 use Rattle.base_data.specs.Datum.{PlainDatum}
 use Rattle.base_data.specs.Elements.{Each, Among}
@@ -15,8 +14,8 @@ use Rattle.load_builtin.specs.declared.derived.TheConstants.{DERIVED_SOURCE}
 use Rattle.stx_tree.specs.Tree.{Tree}
 use Rattle.core_language.specs.declared.record.CompiledLibrary.{CompiledLibrary}
 use Rattle.law_core.specs.Follows.{names_of}
-use Rattle.run_derived.specs.Derived.{forms_of, record_of, derived_record}
-use Rattle.run_derived.specs.Names.{path, start, is_defined, core_name, name_at, names_from, names, exports_of}
+use Rattle.run_derived.specs.Derived.{forms_of, record_of, derived_record, derived_body}
+use Rattle.run_derived.specs.Names.{path, is_defined, core_name, name_at, names_from, names}
 use Rattle.eval_code.specs.Codes.{Codes}
 use Rattle.expand_forms.specs.Expanding.{ready, library_record}
 use Rattle.law_expand.specs.Ready.{IsReady}
@@ -29,7 +28,7 @@ use Rattle.law_expand.proofs.Serving.{records-serve}
 use Rattle.load_forms.specs.declared.form.LibraryForm.{LibraryForm}
 use Rattle.load_import.specs.Names.{Labelled}
 use Rattle.run_library.specs.Imports.{form_names}
-use Rattle.run_library.specs.Library.{export_tree, trees_at, expander_of, expand_library}
+use Rattle.run_library.specs.Library.{trees_at, expander_of, expand_library, body_with}
 use Rattle.law_run.specs.Run.{Stands}
 use Rattle.law_run.proofs.ImportLemmas.{imports_there}
 
@@ -40,18 +39,18 @@ IsNew records name = Among (names_of records) name → ⊥
 module _ (records : List CompiledLibrary) (serve : AllServe [] records) (path : List ℕ) (form : LibraryForm) (new : IsNew records form.name) (body : List PlainDatum) (r : CompiledLibrary) where
   -- by its names and forms, where both are read
   record_stands : (names : Labelled) (codes : Codes) (forms : List Tree) → form_names records form.imports ≡ Ok names
-      → library_record (ready form.name path records names codes) records form.version form.name_span (map export_tree form.exports) forms ≡ Ok r → Stands records form.name r
+      → library_record (ready form.name records names codes) records (body_with path form forms) ≡ Ok r → Stands records form.name r
   record_stands names codes forms n h =
       let is_ready : IsReady form.name records = record { new = new; earlier = serve } in
-      let g = records-good form.name path records names form.version form.name_span (map export_tree form.exports) forms codes r is_ready h in
+      let g = records-good form.name records names (body_with path form forms) codes r is_ready h in
       let there = imports_there records serve form.imports names n in
       record {
         named = g.1;
         good = g.0;
-        keywords = keywords-good form.name path records names form.version form.name_span (map export_tree form.exports) forms codes r is_ready h;
-        serves = records-serve form.name path records names form.version form.name_span (map export_tree form.exports) forms codes r is_ready there h;
-        indices = variables-indexed form.name path records names form.version form.name_span (map export_tree form.exports) forms codes r is_ready h;
-        shallow = records-shallow form.name path records names form.version form.name_span (map export_tree form.exports) forms codes r is_ready h;
+        keywords = keywords-good form.name records names (body_with path form forms) codes r is_ready h;
+        serves = records-serve form.name records names (body_with path form forms) codes r is_ready there h;
+        indices = variables-indexed form.name records names (body_with path form forms) codes r is_ready h;
+        shallow = records-shallow form.name records names (body_with path form forms) codes r is_ready h;
       }
 
   -- expansion reads both first, and then all that it promises holds
@@ -60,19 +59,19 @@ module _ (records : List CompiledLibrary) (serve : AllServe [] records) (path : 
   library_stands prelude h = by_names (form_names records form.imports) refl h
     where
       by_codes : (names : Labelled) (forms : List Tree) → form_names records form.imports ≡ Ok names → (x : Result Codes Fault)
-          → (expander_of x form.name path records names >>= (λ e. library_record e records form.version form.name_span (map export_tree form.exports) forms)) ≡ Ok r
+          → (expander_of x form.name records names >>= (λ e. library_record e records (body_with path form forms))) ≡ Ok r
           → Stands records form.name r
       by_codes names forms n (Ok codes) h = record_stands names codes forms n h
       by_codes names forms n (Err f) h = absurd (cc)
 
       by_forms : (names : Labelled) → form_names records form.imports ≡ Ok names → (x : Result (List Tree) Fault)
-          → (x >>= (λ forms. expander_of prelude form.name path records names >>= (λ e. library_record e records form.version form.name_span (map export_tree form.exports) forms))) ≡ Ok r
+          → (x >>= (λ forms. expander_of prelude form.name records names >>= (λ e. library_record e records (body_with path form forms)))) ≡ Ok r
           → Stands records form.name r
       by_forms names n (Ok forms) h = by_codes names forms n prelude h
       by_forms names n (Err f) h = absurd (cc)
 
       by_names : (x : Result Labelled Fault) → form_names records form.imports ≡ x
-          → (x >>= (λ names. trees_at form.name_span [] body >>= (λ forms. expander_of prelude form.name path records names >>= (λ e. library_record e records form.version form.name_span (map export_tree form.exports) forms)))) ≡ Ok r
+          → (x >>= (λ names. trees_at form.name_span [] body >>= (λ forms. expander_of prelude form.name records names >>= (λ e. library_record e records (body_with path form forms))))) ≡ Ok r
           → Stands records form.name r
       by_names (Ok names) n h = by_forms names n (trees_at form.name_span [] body) h
       by_names (Err f) n h = absurd (cc)
@@ -94,14 +93,14 @@ module _ (d : CompiledLibrary) where
   unfolding record_of
   forms_stand codes forms h =
       let is_ready : IsReady library.Derived [] = record { new = λ a. elim a [ ]; earlier = tt } in
-      let g = records-good library.Derived path [] names [] start (exports_of derived) forms codes d is_ready h in
+      let g = records-good library.Derived [] names (derived_body forms) codes d is_ready h in
       record {
         named = g.1;
         good = g.0;
-        keywords = keywords-good library.Derived path [] names [] start (exports_of derived) forms codes d is_ready h;
-        serves = records-serve library.Derived path [] names [] start (exports_of derived) forms codes d is_ready (names_there derived 0 name_count) h;
-        indices = variables-indexed library.Derived path [] names [] start (exports_of derived) forms codes d is_ready h;
-        shallow = records-shallow library.Derived path [] names [] start (exports_of derived) forms codes d is_ready h;
+        keywords = keywords-good library.Derived [] names (derived_body forms) codes d is_ready h;
+        serves = records-serve library.Derived [] names (derived_body forms) codes d is_ready (names_there derived 0 name_count) h;
+        indices = variables-indexed library.Derived [] names (derived_body forms) codes d is_ready h;
+        shallow = records-shallow library.Derived [] names (derived_body forms) codes d is_ready h;
       }
 
   pub derived_stands : (prelude : Result Codes Fault) → derived_record prelude ≡ Ok d → Stands [] library.Derived d

@@ -15,8 +15,8 @@ use Rattle.load_builtin.specs.declared.derived.TheConstants.{DERIVED_SOURCE}
 use Rattle.core_language.specs.declared.record.CompiledLibrary.{CompiledLibrary}
 use Rattle.law_core.specs.Follows.{export_names, Follows}
 use Rattle.law_core.proofs.Decisions.{once_decides, text_decides}
-use Rattle.run_derived.specs.Derived.{forms_of, record_of, derived_record}
-use Rattle.run_derived.specs.Names.{path, start, is_defined, core_name, name_at, names_from, names, exports_of}
+use Rattle.run_derived.specs.Derived.{forms_of, record_of, derived_record, derived_body}
+use Rattle.run_derived.specs.Names.{is_defined, core_name, name_at, names_from, names, exports_of}
 use Rattle.eval_code.specs.Codes.{Codes}
 use Rattle.law_expand.specs.Behind.{IsKnownBefore, IsFollower}
 use Rattle.law_expand.proofs.Behind.{asked, record-named, records-follow}
@@ -107,8 +107,8 @@ module _ (d : CompiledLibrary) where
         exported_once = exports_once;
       } in
       record {
-        follows = records-follow library.Derived path [] names [] start (exports_of derived) forms codes d follower h;
-        exports = λ n place at. subst (λ (ns : List (List ℕ)). Among ns (op_text n)) (sym (record-named library.Derived path [] names [] start (exports_of derived) forms codes d h)) (defined_exported derived 0 n place at);
+        follows = records-follow library.Derived [] names (derived_body forms) codes d follower h;
+        exports = λ n place at. subst (λ (ns : List (List ℕ)). Among ns (op_text n)) (sym (record-named library.Derived [] names (derived_body forms) codes d h)) (defined_exported derived 0 n place at);
       }
 
   pub derived_follows : (prelude : Result Codes Fault) → derived_record prelude ≡ Ok d → IsDerived d

@@ -13,14 +13,13 @@ use Rattle.base_data.specs.Same.{texts_decides}
 use Rattle.base_data.specs.declared.fault.Fault.{Fault}
 use Rattle.base_data.specs.declared.imported_name.ImportedName.{ImportedName}
 use Rattle.base_data.specs.declared.library.LibName.TheVariants as library
-use Rattle.load_builtin.specs.Exports.{derived}
 use Rattle.load_builtin.specs.declared.derived.TheConstants.{DERIVED_SOURCE}
 use Rattle.core_language.specs.declared.record.CompiledLibrary.{CompiledLibrary}
 use Rattle.law_core.specs.Records.{same_text}
 use Rattle.law_core.specs.Words.{once}
 use Rattle.law_core.proofs.Decisions.{text_decides, once_decides}
-use Rattle.run_derived.specs.Derived.{tree_at, trees, forms_of, record_of, derived_record}
-use Rattle.run_derived.specs.Names.{path, start, names, names_from, exports_of}
+use Rattle.run_derived.specs.Derived.{tree_at, trees, forms_of, record_of, derived_record, derived_body}
+use Rattle.run_derived.specs.Names.{path, start, names, names_from}
 use Rattle.eval_code.specs.Codes.{Codes}
 use Rattle.law_expand.specs.States.{AreKeyed}
 use Rattle.law_expand.proofs.Behind.{started-keyed}
@@ -132,7 +131,7 @@ same-names codes = refl
 module _ (d : CompiledLibrary) where
   codes-bare : (codes : Codes) (forms : List Tree) → Each (IsDefinition blank) forms → record_of codes forms ≡ Ok d → d.run ≡ []
   unfolding record_of
-  codes-bare codes forms are e = no-lines library.Derived path names [] start (exports_of derived) forms codes d (word-found codes) (same-names codes) (start-library codes) (start-keyed codes) are e
+  codes-bare codes forms are e = no-lines library.Derived names (derived_body forms) codes d (word-found codes) (same-names codes) (start-library codes) (start-keyed codes) are e
 
   pub derived-bare : (prelude : Result Codes Fault) → derived_record prelude ≡ Ok d → d.run ≡ []
   unfolding derived_record

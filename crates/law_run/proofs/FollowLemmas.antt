@@ -20,7 +20,7 @@ use Rattle.load_forms.specs.declared.form.LibraryForm.{LibraryForm}
 use Rattle.load_import.specs.Names.{Labelled}
 use Rattle.load_import.specs.declared.set.NameAt.{NameAt}
 use Rattle.run_library.specs.Imports.{form_names}
-use Rattle.run_library.specs.Library.{export_tree, trees_at, expander_of, expand_library}
+use Rattle.run_library.specs.Library.{export_tree, trees_at, expander_of, expand_library, body_with}
 use Rattle.run_library.specs.Records.{needed_records}
 use Rattle.load_files.specs.Found.{places_from, needed}
 use Rattle.load_files.specs.declared.found.Found.{Found}
@@ -78,7 +78,7 @@ record IsExpanded (records : List CompiledLibrary) (path : List ℕ) (form : Lib
   pub forms : List Tree
   pub codes : Codes
   pub named : form_names records form.imports ≡ Ok names
-  pub made : library_record (ready form.name path records names codes) records form.version form.name_span (map export_tree form.exports) forms ≡ Ok r
+  pub made : library_record (ready form.name records names codes) records (body_with path form forms) ≡ Ok r
 
 is_expanded : (prelude : Result Codes Fault) (records : List CompiledLibrary) (path : List ℕ) (form : LibraryForm) (body : List PlainDatum) (r : CompiledLibrary)
     → expand_library prelude records path form body ≡ Ok r → IsExpanded records path form r
@@ -86,18 +86,18 @@ unfolding expand_library
 is_expanded prelude records path form body r h = by_names (form_names records form.imports) refl h
   where
     by_codes : (names : Labelled) (forms : List Tree) → form_names records form.imports ≡ Ok names → (x : Result Codes Fault)
-        → (expander_of x form.name path records names >>= (λ e. library_record e records form.version form.name_span (map export_tree form.exports) forms)) ≡ Ok r → IsExpanded records path form r
+        → (expander_of x form.name records names >>= (λ e. library_record e records (body_with path form forms))) ≡ Ok r → IsExpanded records path form r
     by_codes names forms n (Ok codes) h = record { names = names; forms = forms; codes = codes; named = n; made = h }
     by_codes names forms n (Err f) h = absurd (cc)
 
     by_forms : (names : Labelled) → form_names records form.imports ≡ Ok names → (x : Result (List Tree) Fault)
-        → (x >>= (λ forms. expander_of prelude form.name path records names >>= (λ e. library_record e records form.version form.name_span (map export_tree form.exports) forms))) ≡ Ok r
+        → (x >>= (λ forms. expander_of prelude form.name records names >>= (λ e. library_record e records (body_with path form forms)))) ≡ Ok r
         → IsExpanded records path form r
     by_forms names n (Ok forms) h = by_codes names forms n prelude h
     by_forms names n (Err f) h = absurd (cc)
 
     by_names : (x : Result Labelled Fault) → form_names records form.imports ≡ x
-        → (x >>= (λ names. trees_at form.name_span [] body >>= (λ forms. expander_of prelude form.name path records names >>= (λ e. library_record e records form.version form.name_span (map export_tree form.exports) forms)))) ≡ Ok r
+        → (x >>= (λ names. trees_at form.name_span [] body >>= (λ forms. expander_of prelude form.name records names >>= (λ e. library_record e records (body_with path form forms))))) ≡ Ok r
         → IsExpanded records path form r
     by_names (Ok names) n h = by_forms names n (trees_at form.name_span [] body) h
     by_names (Err f) n h = absurd (cc)
@@ -123,7 +123,7 @@ module _ (d : CompiledLibrary) (rest : List CompiledLibrary) (follow : AllFollow
         imported_once = once_by_name x.names (names-once (d ∷ rest) form.imports x.names x.named);
         exported_once = subst Once (sym (export_trees_named form.exports)) once;
       } in
-      records-follow form.name path (d ∷ rest) x.names form.version form.name_span (map export_tree form.exports) x.forms x.codes r follower x.made
+      records-follow form.name (d ∷ rest) x.names (body_with path form x.forms) x.codes r follower x.made
 
 -- ---- a run
 

@@ -15,7 +15,7 @@ use Rattle.load_builtin.specs.declared.derived.TheConstants.{DERIVED_SOURCE}
 use Rattle.core_language.specs.declared.record.CompiledLibrary.{CompiledLibrary}
 use Rattle.law_core.specs.Follows.{names_of}
 use Rattle.base_data.specs.Elements as elements
-use Rattle.run_derived.specs.Derived.{forms_of, record_of, derived_record}
+use Rattle.run_derived.specs.Derived.{forms_of, record_of, derived_record, derived_body}
 use Rattle.run_derived.specs.Names as derived_names
 use Rattle.eval_code.specs.Codes.{Codes}
 use Rattle.expand_forms.specs.Expanding.{library_record}
@@ -32,7 +32,7 @@ use Rattle.law_fresh.proofs.Trees.{OkHolds}
 use Rattle.law_fresh.proofs.Wider.{codes_wider, lines_wider}
 use Rattle.load_import.specs.Names.{Labelled}
 use Rattle.run_library.specs.Imports.{form_names}
-use Rattle.run_library.specs.Library.{export_tree, trees_at, expander_of, expand_library}
+use Rattle.run_library.specs.Library.{trees_at, expander_of, expand_library, body_with}
 use Rattle.run_library.specs.Loaded.{all_records, expand_found}
 use Rattle.run_library.specs.Records.{needed_records}
 use Rattle.load_files.specs.Found.{places_from, needed}
@@ -143,7 +143,7 @@ module _ (prelude : Result Codes Fault) (without : HasNoLeaves prelude) where
   both-made records path form body r new before h = by-names (form_names records form.imports) refl h
     where
       by-codes : (names : Labelled) (forms : List Tree) → form_names records form.imports ≡ Ok names → trees_at form.name_span [] body ≡ Ok forms → (x : Result Codes Fault) → prelude ≡ x
-          → (expander_of x form.name path records names >>= (λ e. library_record e records form.version form.name_span (map export_tree form.exports) forms)) ≡ Ok r → Both records path form body r
+          → (expander_of x form.name records names >>= (λ e. library_record e records (body_with path form forms))) ≡ Ok r → Both records path form body r
       by-codes names forms named read (Ok table) e h =
           let codes = any-held (HasOnly HasEvents (libraries_of records)) table (without table e) in
           let was = forms-read form.name_span body forms read in (
@@ -154,19 +154,19 @@ module _ (prelude : Result Codes Fault) (without : HasNoLeaves prelude) where
               read = read;
               table = table;
               given = e;
-              right = records-hygienic form.name path records names form.version form.name_span (map export_tree form.exports) forms table r new before codes was (exports-read form.exports) h;
+              right = records-hygienic form.name records names (body_with path form forms) table r new before codes was (exports-read form.exports) h;
             },
-            events-stay.records form.name path records names form.version form.name_span (map export_tree form.exports) forms table r new before codes was h,
+            events-stay.records form.name records names (body_with path form forms) table r new before codes was h,
           )
       by-codes names forms named read (Err f) e h = absurd (cc)
 
       by-forms : (names : Labelled) → form_names records form.imports ≡ Ok names → (x : Result (List Tree) Fault) → trees_at form.name_span [] body ≡ x
-          → (x >>= (λ forms. expander_of prelude form.name path records names >>= (λ e. library_record e records form.version form.name_span (map export_tree form.exports) forms))) ≡ Ok r → Both records path form body r
+          → (x >>= (λ forms. expander_of prelude form.name records names >>= (λ e. library_record e records (body_with path form forms)))) ≡ Ok r → Both records path form body r
       by-forms names named (Ok forms) read h = by-codes names forms named read prelude refl h
       by-forms names named (Err f) read h = absurd (cc)
 
       by-names : (x : Result Labelled Fault) → form_names records form.imports ≡ x
-          → (x >>= (λ names. trees_at form.name_span [] body >>= (λ forms. expander_of prelude form.name path records names >>= (λ e. library_record e records form.version form.name_span (map export_tree form.exports) forms)))) ≡ Ok r
+          → (x >>= (λ names. trees_at form.name_span [] body >>= (λ forms. expander_of prelude form.name records names >>= (λ e. library_record e records (body_with path form forms))))) ≡ Ok r
           → Both records path form body r
       by-names (Ok names) named h = by-forms names named (trees_at form.name_span [] body) refl h
       by-names (Err f) named h = absurd (cc)
@@ -190,9 +190,9 @@ module _ (prelude : Result Codes Fault) (without : HasNoLeaves prelude) where
           read = read;
           table = table;
           given = given;
-          right = records-hygienic library.Derived derived_names.path [] derived_names.names [] derived_names.start (derived_names.exports_of derived) forms table d derived-new tt codes was (derived-exports-read derived) h;
+          right = records-hygienic library.Derived [] derived_names.names (derived_body forms) table d derived-new tt codes was (derived-exports-read derived) h;
         },
-        events-stay.records library.Derived derived_names.path [] derived_names.names [] derived_names.start (derived_names.exports_of derived) forms table d derived-new tt codes was h,
+        events-stay.records library.Derived [] derived_names.names (derived_body forms) table d derived-new tt codes was h,
       )
 
   derived-made : (d : CompiledLibrary) → derived_record prelude ≡ Ok d → First d

@@ -47,16 +47,17 @@ use Rattle.expand_heads.specs.declared.taken.Taken.{Taken}
 use Rattle.expand_heads.specs.declared.taken.Waiting.{Waiting}
 use Rattle.expand_forms.specs.Body as body
 use Rattle.expand_forms.specs.Body.{splice, perform_item, item, finish_one, finish_all}
-use Rattle.expand_forms.specs.Expanding.{ready, body_of, library_record}
+use Rattle.expand_forms.specs.Expanding.{ready, library_record}
 use Rattle.expand_forms.specs.Expression.{inside, full_room}
 use Rattle.expand_forms.specs.Inside.{Inside}
 use Rattle.expand_forms.specs.Keywords.{define_syntax}
 use Rattle.expand_forms.specs.ExpandUses as expand_uses
 use Rattle.expand_forms.specs.ExpandUses.{item_step, item_step_of, expand_item_uses_to, expand_item_uses, next_form, too_many, at_use}
-use Rattle.expand_forms.specs.Top.{exports, give_record, record_in, body_at, second_pass, first_pass, top}
+use Rattle.expand_forms.specs.Top.{exports, give_record, record_in, body_at, second_pass, first_pass, top, top_at}
 use Rattle.expand_forms.specs.declared.expand_uses.ItemOrUse.{ItemOrUse}
 use Rattle.expand_forms.specs.declared.expand_uses.ItemOrUse.TheVariants as item_steps
 use Rattle.expand_forms.specs.declared.expand_uses.PlannedItem.{PlannedItem}
+use Rattle.expand_forms.specs.declared.top.LibraryBody.{LibraryBody}
 use Rattle.expand_forms.specs.declared.top.TopAt.{TopAt}
 use Rattle.expand_forms.specs.Forms.{definition_parts}
 use Rattle.eval_code.specs.Codes.{Codes}
@@ -333,12 +334,12 @@ top-bare at es forms start n mine keyed found are =
     (definitions-leave start.library [] (most_round + 1) place (λ e. refl) mine start (map (stamp at.frame) forms) n keyed found (definitions-stamped at.frame forms are))
     (λ d t k. finished-bare (inside [] full_room) at es d t k)
 
-pub no-lines : (own : LibName) (path : List ℕ) (imports : List ImportedName) (version : List ℕ) (place : Span) (es : List (List ℕ × Tree)) (forms : List Tree) (codes : Codes) (r : CompiledLibrary)
+pub no-lines : (own : LibName) (imports : List ImportedName) (body : LibraryBody) (codes : Codes) (r : CompiledLibrary)
     → label_at (started own [] imports codes).frames (first_frame own) word [] ≡ Some defining → (started own [] imports codes).names.library ≡ (started own [] imports codes).library → (started own [] imports codes).library ≡ own → AreKeyed own (started own [] imports codes).frames
-    → Each (IsDefinition blank) forms
-    → library_record (ready own path [] imports codes) [] version place es forms ≡ Ok r → r.run ≡ []
-no-lines own path imports version place es forms codes r found same lib keyed are e =
-    by (top (inside [] full_room) (body_of (ready own path [] imports codes) version place) es forms (started own [] imports codes)) (top-bare (body_of (ready own path [] imports codes) version place) es forms (started own [] imports codes) same (sym lib) (subst (λ (k : LibName). AreKeyed k (started own [] imports codes).frames) (sym lib) keyed) found are) e
+    → Each (IsDefinition blank) body.forms
+    → library_record (ready own [] imports codes) [] body ≡ Ok r → r.run ≡ []
+no-lines own imports body codes r found same lib keyed are e =
+    by (top (inside [] full_room) (top_at (first_frame own) body) body.exports body.forms (started own [] imports codes)) (top-bare (top_at (first_frame own) body) body.exports body.forms (started own [] imports codes) same (sym lib) (subst (λ (k : LibName). AreKeyed k (started own [] imports codes).frames) (sym lib) keyed) found are) e
   where
     by : (x : Result (CompiledLibrary × State) Fault) → Gave (λ q t. q.run ≡ []) x → record_in x ≡ Ok r → r.run ≡ []
     by (Ok p) h k = let is : p.0 ≡ r = cc in subst (λ (q : CompiledLibrary). q.run ≡ []) is h

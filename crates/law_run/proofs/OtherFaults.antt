@@ -1,5 +1,5 @@
 -- No expansion of a library or program gets stuck, from its imports and forms to its record.
-use Rattle.std.proofs.Common.{ℕ, Bool, true, false, List, [], ◌∷◌, ◌++◌, map, Option, Some, None, Result, Ok, Err, subst, inl, inr, if◌then◌else◌}
+use Rattle.std.proofs.Common.{ℕ, Bool, true, false, List, [], ◌∷◌, ◌++◌, Option, Some, None, Result, Ok, Err, subst, inl, inr, if◌then◌else◌}
 use Rattle.std.specs.Prelude.{is_some}
 use Rattle.base_data.specs.Datum.{PlainDatum}
 use Rattle.base_data.specs.Gives.{◌>>=◌}
@@ -9,12 +9,12 @@ use Rattle.base_data.specs.declared.fault.FaultKind.{FaultKind}
 use Rattle.base_data.specs.declared.fault.FaultKind.TheVariants as kind
 use Rattle.base_data.specs.declared.library.LibName.TheVariants as library
 use Rattle.base_data.specs.declared.span.Span.{Span}
-use Rattle.load_builtin.specs.Exports.{exports, derived}
+use Rattle.load_builtin.specs.Exports.{exports}
 use Rattle.load_builtin.specs.declared.derived.TheConstants.{DERIVED_SOURCE}
 use Rattle.core_language.specs.declared.record.CompiledLibrary.{CompiledLibrary}
 use Rattle.run_derived.specs.Derived as derived_forms
-use Rattle.run_derived.specs.Derived.{forms_of, record_of, derived_record}
-use Rattle.run_derived.specs.Names.{path, start, names, exports_of}
+use Rattle.run_derived.specs.Derived.{forms_of, record_of, derived_record, derived_body}
+use Rattle.run_derived.specs.Names.{path, start, names}
 use Rattle.eval_code.specs.Codes.{Codes}
 use Rattle.expand_forms.specs.Expanding.{ready, library_record}
 use Rattle.law_expand.specs.Ready.{IsReady}
@@ -25,7 +25,7 @@ use Rattle.load_import.specs.Names.{Labelled, import_names, joined}
 use Rattle.load_import.specs.Turns.{turns}
 use Rattle.load_import.specs.declared.set.ImportSet.{ImportSet}
 use Rattle.run_library.specs.Imports.{named, record_referred, referred, refer, exported, import_into, form_names}
-use Rattle.run_library.specs.Library.{placed, tree_at, trees_at, export_tree, expander_of, expand_library}
+use Rattle.run_library.specs.Library.{placed, tree_at, trees_at, expander_of, expand_library, body_with}
 use Rattle.load_files.specs.Load.{fitting, builtin_version}
 use Rattle.run_prelude.specs.Prelude.{at_place}
 use Rattle.read_reader.specs.Read.{data_of, file_nesting}
@@ -141,11 +141,11 @@ module _ (prelude : Result Codes Fault) (read : AreRead prelude) (records : List
       (λ names. o-then (trees_at form.name_span [] body) _ (trees-other form.name_span [] body) (λ forms. by names forms prelude read))
     where
       by : (names : Labelled) (forms : List Tree) (x : Result Codes Fault) → AreRead x
-          → Tells IsOther (expander_of x form.name path records names >>= (λ e. library_record e records form.version form.name_span (map export_tree form.exports) forms))
+          → Tells IsOther (expander_of x form.name records names >>= (λ e. library_record e records (body_with path form forms)))
       by names forms (Err f) h = h
       by names forms (Ok codes) h =
-          not-stuck (library_record (ready form.name path records names codes) records form.version form.name_span (map export_tree form.exports) forms)
-          (expansions_never_stuck form.name path records names form.version form.name_span (map export_tree form.exports) forms codes is_ready all no_text h)
+          not-stuck (library_record (ready form.name records names codes) records (body_with path form forms))
+          (expansions_never_stuck form.name records names (body_with path form forms) codes is_ready all no_text h)
 
 -- ---- the derived library
 
@@ -169,8 +169,8 @@ derived-no-text (inr e) = absurd (cc)
 record-other : (codes : Codes) (forms : List Tree) → AreTexts codes → Tells IsOther (record_of codes forms)
 unfolding record_of
 record-other codes forms texts =
-    not-stuck (library_record (ready library.Derived path [] names codes) [] [] start (exports_of derived) forms)
-    (expansions_never_stuck library.Derived path [] names [] start (exports_of derived) forms codes (record { new = λ a. elim a [ ]; earlier = tt }) tt derived-no-text texts)
+    not-stuck (library_record (ready library.Derived [] names codes) [] (derived_body forms))
+    (expansions_never_stuck library.Derived [] names (derived_body forms) codes (record { new = λ a. elim a [ ]; earlier = tt }) tt derived-no-text texts)
 
 pub derived-other : (prelude : Result Codes Fault) → AreRead prelude → Tells IsOther (derived_record prelude)
 unfolding derived_record

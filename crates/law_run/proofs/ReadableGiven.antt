@@ -10,13 +10,12 @@ use Rattle.base_data.specs.declared.fault.Fault.{Fault}
 use Rattle.base_data.specs.declared.library.LibName.TheVariants as library
 use Rattle.base_data.specs.declared.span.Span.{Span}
 use Rattle.std.specs.Prelude.{codes}
-use Rattle.load_builtin.specs.Exports.{derived}
 use Rattle.load_builtin.specs.Prelude.{prelude_text}
 use Rattle.load_builtin.specs.declared.derived.TheConstants.{DERIVED_SOURCE}
 use Rattle.core_language.specs.Core.{PlainCode}
 use Rattle.core_language.specs.declared.record.CompiledLibrary.{CompiledLibrary}
 use Rattle.expand_forms.specs.Expression.{full_room}
-use Rattle.run_derived.specs.Derived.{forms_of, record_of, derived_record}
+use Rattle.run_derived.specs.Derived.{forms_of, record_of, derived_record, derived_body}
 use Rattle.run_derived.specs.Derived as of_derived
 use Rattle.run_derived.specs.Names as derived_names
 use Rattle.eval_code.specs.Codes.{Codes, with_procedure, with_code}
@@ -114,7 +113,7 @@ forms-hold text = then-holds Ds (Each ReadableTree) (data_of derived_names.path 
 module _ (d : CompiledLibrary) (prelude : Result Codes Fault) (given : IsReadablePrelude prelude) where
   from-forms : (table : Codes) (forms : List Tree) → ReadableCodes table → Each ReadableTree forms → record_of table forms ≡ Ok d → ReadableRecord d
   unfolding record_of
-  from-forms table forms k read h = records-stay library.Derived derived_names.path [] derived_names.names [] derived_names.start (derived_names.exports_of derived) forms table d tt k read h
+  from-forms table forms k read h = records-stay library.Derived [] derived_names.names (derived_body forms) table d tt k read h
 
   pub derived-readable : derived_record prelude ≡ Ok d → ReadableRecord d
   unfolding derived_record

@@ -1,5 +1,5 @@
 -- All constants of a run can be written and read back.
-use Rattle.std.proofs.Common.{◌≡◌, ℕ, zero, suc, Bool, true, false, List, [], ◌∷◌, ◌++◌, map, Option, Some, None, Result, Ok, Err, refl, sym, subst, if◌then◌else◌}
+use Rattle.std.proofs.Common.{◌≡◌, ℕ, zero, suc, Bool, true, false, List, [], ◌∷◌, ◌++◌, Option, Some, None, Result, Ok, Err, refl, sym, subst, if◌then◌else◌}
 use Rattle.std.specs.Prelude.{slice_get}
 use Rattle.std.specs.List.{flat_map}
 use Rattle.base_data.proofs.ElementLemmas.{each-at, each-of, each-append, each-and}
@@ -30,7 +30,7 @@ use Rattle.law_fresh.proofs.Trees.{OkHolds}
 use Rattle.load_import.specs.Names.{Labelled}
 use Rattle.load_import.specs.Turns.{turns}
 use Rattle.run_library.specs.Imports.{form_names}
-use Rattle.run_library.specs.Library.{export_tree, trees_at, expander_of, expand_library}
+use Rattle.run_library.specs.Library.{trees_at, expander_of, expand_library, body_with}
 use Rattle.run_library.specs.Loaded.{expand_found, expand_next, all_records}
 use Rattle.run_library.specs.Records.{needed_records}
 use Rattle.load_files.specs.Found.{nothing_loaded, with_source, most_libraries, places_from}
@@ -149,17 +149,17 @@ module _ (prelude : Result Codes Fault) (given : IsReadablePrelude prelude) wher
   made-holds records path form body r before holds h = by-names (form_names records form.imports) h
     where
       by-codes : (names : Labelled) (forms : List Tree) → Each ReadableTree forms → (x : Result Codes Fault) → prelude ≡ x
-          → (expander_of x form.name path records names >>= (λ e. library_record e records form.version form.name_span (map export_tree form.exports) forms)) ≡ Ok r → ReadableRecord r
-      by-codes names forms read (Ok table) e h = records-stay form.name path records names form.version form.name_span (map export_tree form.exports) forms table r before (given table e) read h
+          → (expander_of x form.name records names >>= (λ e. library_record e records (body_with path form forms))) ≡ Ok r → ReadableRecord r
+      by-codes names forms read (Ok table) e h = records-stay form.name records names (body_with path form forms) table r before (given table e) read h
       by-codes names forms read (Err f) e h = absurd (cc)
 
       by-forms : (names : Labelled) (x : Result (List Tree) Fault) → OkHolds (Each ReadableTree) x
-          → (x >>= (λ forms. expander_of prelude form.name path records names >>= (λ e. library_record e records form.version form.name_span (map export_tree form.exports) forms))) ≡ Ok r → ReadableRecord r
+          → (x >>= (λ forms. expander_of prelude form.name records names >>= (λ e. library_record e records (body_with path form forms)))) ≡ Ok r → ReadableRecord r
       by-forms names (Ok forms) read h = by-codes names forms read prelude refl h
       by-forms names (Err f) read h = absurd (cc)
 
       by-names : (x : Result Labelled Fault)
-          → (x >>= (λ names. trees_at form.name_span [] body >>= (λ forms. expander_of prelude form.name path records names >>= (λ e. library_record e records form.version form.name_span (map export_tree form.exports) forms)))) ≡ Ok r
+          → (x >>= (λ names. trees_at form.name_span [] body >>= (λ forms. expander_of prelude form.name records names >>= (λ e. library_record e records (body_with path form forms))))) ≡ Ok r
           → ReadableRecord r
       by-names (Ok names) h = by-forms names (trees_at form.name_span [] body) (trees-hold form.name_span [] body tt holds) h
       by-names (Err f) h = absurd (cc)

@@ -1,5 +1,5 @@
 -- The records of a run, and what stands in their lines.
-use Rattle.std.proofs.Common.{◌≡◌, ◌≤◌, ℕ, true, List, [], ◌∷◌, ◌++◌, map, Option, Some, None, Result, Ok, Err, refl, subst}
+use Rattle.std.proofs.Common.{◌≡◌, ◌≤◌, ℕ, true, List, [], ◌∷◌, ◌++◌, Option, Some, None, Result, Ok, Err, refl, subst}
 use Rattle.std.specs.Prelude.{slice_get}
 use Rattle.base_data.proofs.ElementLemmas.{each-and}
 use Rattle.base_data.specs.Datum.{PlainDatum}
@@ -20,7 +20,7 @@ use Rattle.law_fresh.specs.Leaves.{OptionHolds}
 use Rattle.load_import.specs.Names.{Labelled}
 use Rattle.load_import.specs.Turns.{turns}
 use Rattle.run_library.specs.Imports.{form_names}
-use Rattle.run_library.specs.Library.{export_tree, trees_at, expander_of, expand_library}
+use Rattle.run_library.specs.Library.{trees_at, expander_of, expand_library, body_with}
 use Rattle.run_library.specs.Loaded.{expand_found, expand_next, all_records}
 use Rattle.run_library.specs.Records.{needed_records}
 use Rattle.law_limit_expansion.proofs.Recorded.{records-stay}
@@ -64,20 +64,20 @@ module _ (prelude : Result Codes Fault) (given : (table : Codes) → prelude ≡
   made-shallow records path form body r before h = by-names (form_names records form.imports) h
     where
       by-codes : (names : Labelled) (forms : List Tree) → Each Fits forms → (x : Result Codes Fault) → prelude ≡ x
-          → (expander_of x form.name path records names >>= (λ e. library_record e records form.version form.name_span (map export_tree form.exports) forms)) ≡ Ok r → IsShallow r
+          → (expander_of x form.name records names >>= (λ e. library_record e records (body_with path form forms))) ≡ Ok r → IsShallow r
       by-codes names forms fit (Ok table) e h = record {
-        within = records-stay Fits fits-lawful form.name path records names form.version form.name_span (map export_tree form.exports) forms table r (all-within records before) (given table e) fit h;
-        nests = lines-nest-all in_text at-most-text form.name path records names form.version form.name_span (map export_tree form.exports) forms table r h;
+        within = records-stay Fits fits-lawful form.name records names (body_with path form forms) table r (all-within records before) (given table e) fit h;
+        nests = lines-nest-all in_text at-most-text form.name records names (body_with path form forms) table r h;
       }
       by-codes names forms fit (Err f) e h = absurd (cc)
 
       by-forms : (names : Labelled) (x : Result (List Tree) Fault) → OkHolds (Each Fits) x
-          → (x >>= (λ forms. expander_of prelude form.name path records names >>= (λ e. library_record e records form.version form.name_span (map export_tree form.exports) forms))) ≡ Ok r → IsShallow r
+          → (x >>= (λ forms. expander_of prelude form.name records names >>= (λ e. library_record e records (body_with path form forms)))) ≡ Ok r → IsShallow r
       by-forms names (Ok forms) fit h = by-codes names forms fit prelude refl h
       by-forms names (Err f) fit h = absurd (cc)
 
       by-names : (x : Result Labelled Fault)
-          → (x >>= (λ names. trees_at form.name_span [] body >>= (λ forms. expander_of prelude form.name path records names >>= (λ e. library_record e records form.version form.name_span (map export_tree form.exports) forms)))) ≡ Ok r
+          → (x >>= (λ names. trees_at form.name_span [] body >>= (λ forms. expander_of prelude form.name records names >>= (λ e. library_record e records (body_with path form forms))))) ≡ Ok r
           → IsShallow r
       by-names (Ok names) h = by-forms names (trees_at form.name_span [] body) (trees-fit form.name_span [] body tt) h
       by-names (Err f) h = absurd (cc)

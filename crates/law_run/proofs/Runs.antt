@@ -1,5 +1,5 @@
 -- The records of a run, and where the expansions of a run begin.
-use Rattle.std.proofs.Common.{◌≡◌, ℕ, zero, suc, true, List, [], ◌∷◌, ◌++◌, map, length, Option, None, Some, Result, Ok, Err, refl, sym, ◌∙◌, ap, subst, inl, inr, arith, append_assoc}
+use Rattle.std.proofs.Common.{◌≡◌, ℕ, zero, suc, true, List, [], ◌∷◌, ◌++◌, length, Option, None, Some, Result, Ok, Err, refl, sym, ◌∙◌, ap, subst, inl, inr, arith, append_assoc}
 use Rattle.std.specs.Prelude.{slice_get}
 use Rattle.base_data.specs.Datum.{PlainDatum}
 use Rattle.base_data.specs.Elements.{Each, Among, Once}
@@ -13,8 +13,8 @@ use Rattle.stx_tree.specs.Tree.{Tree}
 use Rattle.stx_tree.specs.declared.frame_row.FrameRow.{FrameRow}
 use Rattle.core_language.specs.declared.record.CompiledLibrary.{CompiledLibrary}
 use Rattle.law_core.specs.Follows.{names_of, bound_labels, IsOwn}
-use Rattle.run_derived.specs.Derived.{forms_of, record_of, derived_record}
-use Rattle.run_derived.specs.Names.{path, start, exports_of}
+use Rattle.run_derived.specs.Derived.{forms_of, record_of, derived_record, derived_body}
+use Rattle.run_derived.specs.Names.{path}
 use Rattle.run_derived.specs.Names as derived_library
 use Rattle.eval_code.specs.Codes.{Codes}
 use Rattle.expand_forms.specs.Expanding.{library_record}
@@ -26,7 +26,7 @@ use Rattle.load_import.specs.Turns.{turns}
 use Rattle.law_imports.specs.Algebra.{IsOnce}
 use Rattle.law_imports.proofs.AlgebraLemmas.{once-joined}
 use Rattle.run_library.specs.Imports.{exported, refer, import_into, form_names}
-use Rattle.run_library.specs.Library.{export_tree, trees_at, expander_of, expand_library}
+use Rattle.run_library.specs.Library.{trees_at, expander_of, expand_library, body_with}
 use Rattle.run_library.specs.Records.{needed_records}
 use Rattle.load_files.specs.Found.{places_from, needed}
 use Rattle.load_files.specs.declared.found.Found.{Found}
@@ -130,18 +130,18 @@ module _ (prelude : Result Codes Fault) (records : List CompiledLibrary) (path :
   library-once h = by_names (form_names records form.imports) refl h
     where
       by_codes : (names : Labelled) (forms : List Tree) → form_names records form.imports ≡ Ok names → (x : Result Codes Fault)
-          → (expander_of x form.name path records names >>= (λ e. library_record e records form.version form.name_span (map export_tree form.exports) forms)) ≡ Ok r → IsOnceOver r
+          → (expander_of x form.name records names >>= (λ e. library_record e records (body_with path form forms))) ≡ Ok r → IsOnceOver r
       by_codes names forms n (Ok codes) k =
-          once-behind form.name path records names form.version form.name_span (map export_tree form.exports) forms codes r apart other (names-once records form.imports names n) k named
+          once-behind form.name records names (body_with path form forms) codes r apart other (names-once records form.imports names n) k named
       by_codes names forms n (Err f) k = absurd (cc)
 
       by_forms : (names : Labelled) → form_names records form.imports ≡ Ok names → (x : Result (List Tree) Fault)
-          → (x >>= (λ forms. expander_of prelude form.name path records names >>= (λ e. library_record e records form.version form.name_span (map export_tree form.exports) forms))) ≡ Ok r → IsOnceOver r
+          → (x >>= (λ forms. expander_of prelude form.name records names >>= (λ e. library_record e records (body_with path form forms)))) ≡ Ok r → IsOnceOver r
       by_forms names n (Ok forms) k = by_codes names forms n prelude k
       by_forms names n (Err f) k = absurd (cc)
 
       by_names : (x : Result Labelled Fault) → form_names records form.imports ≡ x
-          → (x >>= (λ names. trees_at form.name_span [] body >>= (λ forms. expander_of prelude form.name path records names >>= (λ e. library_record e records form.version form.name_span (map export_tree form.exports) forms)))) ≡ Ok r
+          → (x >>= (λ names. trees_at form.name_span [] body >>= (λ forms. expander_of prelude form.name records names >>= (λ e. library_record e records (body_with path form forms))))) ≡ Ok r
           → IsOnceOver r
       by_names (Ok names) n k = by_forms names n (trees_at form.name_span [] body) k
       by_names (Err f) n k = absurd (cc)
@@ -150,7 +150,7 @@ module _ (prelude : Result Codes Fault) (records : List CompiledLibrary) (path :
 module _ (d : CompiledLibrary) (named : d.name ≡ library.Derived) where
   forms-once : (codes : Codes) (forms : List Tree) → record_of codes forms ≡ Ok d → IsOnceOver d
   unfolding record_of
-  forms-once codes forms h = once-behind library.Derived path [] derived_library.names [] start (exports_of derived) forms codes d tt (λ e. absurd (cc)) derived-names-once h named
+  forms-once codes forms h = once-behind library.Derived [] derived_library.names (derived_body forms) codes d tt (λ e. absurd (cc)) derived-names-once h named
 
   pub derived-once : (prelude : Result Codes Fault) → derived_record prelude ≡ Ok d → IsOnceOver d
   unfolding derived_record

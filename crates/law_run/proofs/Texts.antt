@@ -10,14 +10,13 @@ use Rattle.base_data.specs.declared.fault.Bare.{Bare}
 use Rattle.base_data.specs.declared.fault.Fault.{Fault}
 use Rattle.base_data.specs.declared.library.LibName.TheVariants as library
 use Rattle.base_data.specs.declared.span.Span.{Span}
-use Rattle.load_builtin.specs.Exports.{derived}
 use Rattle.load_builtin.specs.Prelude.{prelude_text}
 use Rattle.load_builtin.specs.declared.derived.TheConstants.{DERIVED_SOURCE}
 use Rattle.core_language.specs.Core.{PlainCode}
 use Rattle.core_language.specs.declared.record.CompiledLibrary.{CompiledLibrary}
 use Rattle.law_core.specs.Records.{line_core}
 use Rattle.base_data.specs.Elements as elements
-use Rattle.run_derived.specs.Derived.{forms_of, record_of, derived_record}
+use Rattle.run_derived.specs.Derived.{forms_of, record_of, derived_record, derived_body}
 use Rattle.run_derived.specs.Derived as of_derived
 use Rattle.run_derived.specs.Names as derived_names
 use Rattle.eval_code.specs.Codes.{Codes, with_procedure, with_code}
@@ -160,8 +159,8 @@ module _ (d : CompiledLibrary) (prelude : Result Codes Fault) (given : (table : 
   from-forms : (table : Codes) (forms : List Tree) → CodesHold Fits table → Each Fits forms → record_of table forms ≡ Ok d → IsShallow d
   unfolding record_of
   from-forms table forms k fit h = record {
-    within = records-stay Fits fits-lawful library.Derived derived_names.path [] derived_names.names [] derived_names.start (derived_names.exports_of derived) forms table d tt k fit h;
-    nests = lines-nest-all in_text at-most-text library.Derived derived_names.path [] derived_names.names [] derived_names.start (derived_names.exports_of derived) forms table d h;
+    within = records-stay Fits fits-lawful library.Derived [] derived_names.names (derived_body forms) table d tt k fit h;
+    nests = lines-nest-all in_text at-most-text library.Derived [] derived_names.names (derived_body forms) table d h;
   }
 
   pub derived-shallow : derived_record prelude ≡ Ok d → IsShallow d

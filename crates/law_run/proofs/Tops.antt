@@ -6,7 +6,6 @@ use Rattle.base_data.specs.declared.imported_name.ImportedName.{ImportedName}
 use Rattle.base_data.specs.declared.library.LibName.{LibName}
 use Rattle.base_data.specs.declared.library.LibName.TheVariants as library
 use Rattle.base_data.specs.declared.name.Label.{Label}
-use Rattle.base_data.specs.declared.span.Span.{Span}
 use Rattle.stx_tree.specs.Changes.{stamp}
 use Rattle.stx_tree.specs.Tree.{Tree}
 use Rattle.stx_frames.specs.Listed.{rows_in}
@@ -16,15 +15,16 @@ use Rattle.core_language.specs.declared.record.CompiledLibrary.{CompiledLibrary}
 use Rattle.eval_code.specs.Codes.{Codes}
 use Rattle.law_imports.specs.Algebra.{IsOnce}
 use Rattle.expand_standing.specs.Own.{own_bindings}
-use Rattle.expand_standing.specs.Start.{started}
+use Rattle.expand_standing.specs.Start.{started, first_frame}
 use Rattle.expand_standing.specs.State.{State}
 use Rattle.expand_heads.specs.Items.{begun}
 use Rattle.expand_heads.specs.declared.taken.Taken.{Taken}
 use Rattle.expand_forms.specs.Body.{splice, finish_all}
-use Rattle.expand_forms.specs.Expanding.{ready, body_of, library_record}
+use Rattle.expand_forms.specs.Expanding.{ready, library_record}
 use Rattle.expand_forms.specs.Expression.{inside, full_room}
 use Rattle.expand_forms.specs.Inside.{Inside}
-use Rattle.expand_forms.specs.Top.{give_record, exports, body_at, second_pass, first_pass, top}
+use Rattle.expand_forms.specs.Top.{give_record, exports, body_at, second_pass, first_pass, top, top_at}
+use Rattle.expand_forms.specs.declared.top.LibraryBody.{LibraryBody}
 use Rattle.expand_forms.specs.declared.top.TopAt.{TopAt}
 use Rattle.expand_forms.specs.Site.{site_at}
 use Rattle.law_expand.specs.States.{IsNumbered, Later}
@@ -90,12 +90,12 @@ unfolding started
 started-names own records imports codes = refl
 
 -- behind records of other libraries
-pub once-behind : (own : LibName) (path : List ℕ) (records : List CompiledLibrary) (imports : List ImportedName) (version : List ℕ) (place : Span) (exports : List (List ℕ × Tree)) (forms : List Tree) (codes : Codes) (r : CompiledLibrary)
-    → Each (IsApart own) records → (own ≡ library.Core → ⊥) → IsOnce imports → library_record (ready own path records imports codes) records version place exports forms ≡ Ok r → r.name ≡ own → IsOnceOver r
-once-behind own path records imports version place exports forms codes r h other o e named =
+pub once-behind : (own : LibName) (records : List CompiledLibrary) (imports : List ImportedName) (body : LibraryBody) (codes : Codes) (r : CompiledLibrary)
+    → Each (IsApart own) records → (own ≡ library.Core → ⊥) → IsOnce imports → library_record (ready own records imports codes) records body ≡ Ok r → r.name ≡ own → IsOnceOver r
+once-behind own records imports body codes r h other o e named =
     let start = started own records imports codes in
-    let at = body_of (ready own path records imports codes) version place in
-    let ends = in-record (Ends own start) (top (inside records full_room) at exports forms start) r (ends-top own (inside records full_room) (inside-binds own records full_room) at refl start exports forms (started-names own records imports codes)) e in
+    let at = top_at (first_frame own) body in
+    let ends = in-record (Ends own start) (top (inside records full_room) at body.exports body.forms start) r (ends-top own (inside records full_room) (inside-binds own records full_room) at refl start body.exports body.forms (started-names own records imports codes)) e in
     let once = binds-once own start.frames ends.ended.frames ends.binds (once-started own records h other imports codes o) in
     record {
       rows = subst (AreBound []) (sym ends.frames) (rows-bound r.name ends.ended.frames (subst (λ (l : LibName). RowsOnce l ends.ended.frames) (sym named) once));
@@ -103,6 +103,6 @@ once-behind own path records imports version place exports forms codes r h other
     }
 
 pub once-over : RecordsAreOnceOver
-once-over own path records imports version place exports forms codes r h other o e =
-    once-behind own path records imports version place exports forms codes r (ready-apart own [] records h.earlier h.new) other o e
-    (records-good own path records imports version place exports forms codes r h e).1
+once-over own records imports body codes r h other o e =
+    once-behind own records imports body codes r (ready-apart own [] records h.earlier h.new) other o e
+    (records-good own records imports body codes r h e).1

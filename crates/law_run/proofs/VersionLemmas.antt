@@ -13,15 +13,16 @@ use Rattle.expand_forms.specs.Body.{finish_all}
 use Rattle.expand_forms.specs.Expanding.{ready, library_record}
 use Rattle.expand_forms.specs.Expression.{inside, full_room}
 use Rattle.expand_forms.specs.Inside.{Inside}
-use Rattle.expand_forms.specs.Top.{exports, record_of, give_record, record_in, first_pass, second_pass, top}
+use Rattle.expand_forms.specs.Top.{exports, record_of, give_record, record_in, first_pass, second_pass, top, top_at}
 use Rattle.expand_forms.specs.declared.top.TopAt.{TopAt}
 use Rattle.load_forms.specs.declared.form.LibraryForm.{LibraryForm}
 use Rattle.expand_heads.specs.declared.taken.Taken.{Taken}
 use Rattle.load_import.specs.Names.{Labelled}
 use Rattle.run_library.specs.Imports.{form_names}
 use Rattle.eval_code.specs.Codes.{Codes}
-use Rattle.run_library.specs.Library.{export_tree, trees_at, expander_of, expand_library}
+use Rattle.run_library.specs.Library.{export_tree, trees_at, expander_of, expand_library, body_with}
 use Rattle.expand_standing.specs.State.{State}
+use Rattle.expand_standing.specs.Start.{first_frame}
 
 module _ (go : Inside) (at : TopAt) (es : List (List ℕ × Tree)) where
   finished-version : (taken : Taken) (s : State) (r : CompiledLibrary) → record_in (second_pass go at es taken s) ≡ Ok r → r.version ≡ at.version
@@ -50,18 +51,18 @@ module _ (prelude : Result Codes Fault) (records : List CompiledLibrary) (path :
   library-version h = by_names (form_names records form.imports) h
     where
       by_expander : (names : Labelled) (forms : List Tree) (x : Result Codes Fault)
-          → ((x >>= (λ codes. Ok (ready form.name path records names codes))) >>= (λ e. library_record e records form.version form.name_span (map export_tree form.exports) forms)) ≡ Ok r → r.version ≡ form.version
+          → ((x >>= (λ codes. Ok (ready form.name records names codes))) >>= (λ e. library_record e records (body_with path form forms))) ≡ Ok r → r.version ≡ form.version
       by_expander names forms (Ok codes) h =
-          top-version (inside records full_room) (record { path = path; version = form.version; frame = (ready form.name path records names codes).frame; place = form.name_span }) (map export_tree form.exports) forms
-          (ready form.name path records names codes).state r h
+          top-version (inside records full_room) (top_at (first_frame form.name) (body_with path form forms)) (map export_tree form.exports) forms
+          (ready form.name records names codes).state r h
       by_expander names forms (Err f) h = absurd (cc)
 
       by_forms : (names : Labelled) (x : Result (List Tree) Fault)
-          → (x >>= (λ forms. expander_of prelude form.name path records names >>= (λ e. library_record e records form.version form.name_span (map export_tree form.exports) forms))) ≡ Ok r → r.version ≡ form.version
+          → (x >>= (λ forms. expander_of prelude form.name records names >>= (λ e. library_record e records (body_with path form forms)))) ≡ Ok r → r.version ≡ form.version
       by_forms names (Ok forms) h = by_expander names forms prelude h
       by_forms names (Err f) h = absurd (cc)
 
       by_names : (x : Result Labelled Fault)
-          → (x >>= (λ names. trees_at form.name_span [] body >>= (λ forms. expander_of prelude form.name path records names >>= (λ e. library_record e records form.version form.name_span (map export_tree form.exports) forms)))) ≡ Ok r → r.version ≡ form.version
+          → (x >>= (λ names. trees_at form.name_span [] body >>= (λ forms. expander_of prelude form.name records names >>= (λ e. library_record e records (body_with path form forms))))) ≡ Ok r → r.version ≡ form.version
       by_names (Ok names) h = by_forms names (trees_at form.name_span [] body) h
       by_names (Err f) h = absurd (cc)

@@ -14,6 +14,7 @@ use Rattle.eval_code.specs.Codes.{Codes}
 use Rattle.expand_forms.specs.Expanding.{ready, library_record}
 use Rattle.expand_forms.specs.Expression.{inside}
 use Rattle.expand_forms.specs.Site.{site_at}
+use Rattle.expand_forms.specs.declared.top.LibraryBody.{LibraryBody}
 use Rattle.law_expand.specs.Ready.{IsReady}
 use Rattle.law_expand.specs.States.{IsNumbered}
 use Rattle.law_imports.specs.Algebra.{IsOnce}
@@ -45,7 +46,6 @@ pub record IsOnceOver (r : CompiledLibrary) : Type 0 where
   pub labels : Once (bound_labels r)
 
 abbrev pub RecordsAreOnceOver : Type 0
-RecordsAreOnceOver = (own : LibName) (path : List ℕ) (records : List CompiledLibrary) (imports : List ImportedName) (version : List ℕ) (place : Span)
-    (exports : List (List ℕ × Tree)) (forms : List Tree) (codes : Codes) (r : CompiledLibrary)
+RecordsAreOnceOver = (own : LibName) (records : List CompiledLibrary) (imports : List ImportedName) (body : LibraryBody) (codes : Codes) (r : CompiledLibrary)
     → IsReady own records → (own ≡ library.Core → ⊥) → IsOnce imports
-    → library_record (ready own path records imports codes) records version place exports forms ≡ Ok r → IsOnceOver r
+    → library_record (ready own records imports codes) records body ≡ Ok r → IsOnceOver r

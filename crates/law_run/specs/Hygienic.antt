@@ -8,10 +8,9 @@ use Rattle.base_data.specs.declared.span.Span.{Span}
 use Rattle.load_builtin.specs.Exports.{derived}
 use Rattle.load_builtin.specs.declared.derived.TheConstants.{DERIVED_SOURCE}
 use Rattle.core_language.specs.declared.record.CompiledLibrary.{CompiledLibrary}
-use Rattle.run_derived.specs.Derived.{forms_of}
+use Rattle.run_derived.specs.Derived.{forms_of, derived_body}
 use Rattle.run_derived.specs.Names as derived_names
 use Rattle.eval_code.specs.Codes.{Codes}
-use Rattle.expand_forms.specs.Expanding.{ready, body_of}
 use Rattle.load_forms.specs.Form.{library_body, program_body}
 use Rattle.load_forms.specs.declared.form.LibraryForm.{LibraryForm}
 use Rattle.law_fresh.specs.Leaves.{CodesHold}
@@ -19,7 +18,7 @@ use Rattle.law_fresh_expansion.specs.Known.{libraries_of}
 use Rattle.law_fresh_expansion.specs.RecordMarks.{WasRead}
 use Rattle.load_import.specs.Names.{Labelled}
 use Rattle.run_library.specs.Imports.{form_names}
-use Rattle.run_library.specs.Library.{export_tree, trees_at}
+use Rattle.run_library.specs.Library.{export_tree, trees_at, body_with}
 use Rattle.load_files.specs.Found.{needed}
 use Rattle.load_files.specs.declared.found.Found.{Found}
 use Rattle.load_files.specs.declared.found.Loading.{Loading}
@@ -27,11 +26,12 @@ use Rattle.law_load.specs.Laws.{IsAt}
 use Rattle.base_outside.specs.Contents.{Paths}
 use Rattle.run_prelude.specs.Prelude.{prelude_table}
 use Rattle.law_references.specs.Records.{RunIsRight}
-use Rattle.expand_standing.specs.Start.{started, records_at}
+use Rattle.expand_standing.specs.Start.{started, records_at, first_frame}
 use Rattle.stx_tree.specs.Context.{LeafContext}
 use Rattle.stx_tree.specs.Tree.{Tree}
 use Rattle.law_run.specs.Parts.{IsPartOfRun}
 use Rattle.law_run.specs.Run.{run_inputs, IsRun}
+use Rattle.expand_forms.specs.Top.{top_at}
 
 -- there is no leaf of which this holds
 abbrev pub IsNoLeaf : LeafContext → Type 0
@@ -56,7 +56,7 @@ module _ (prelude : Result Codes Fault) where
     pub table : Codes
     pub given : prelude ≡ Ok table
     pub right : RunIsRight (libraries_of records) form.name records (started form.name records names table)
-        (body_of (ready form.name path records names table) form.version form.name_span) (map export_tree form.exports) forms r
+        (top_at (first_frame form.name) (body_with path form forms)) (map export_tree form.exports) forms r
 
   -- so is the derived library, behind none
   pub record IsHygienicDerived (r : CompiledLibrary) : Type 0 where
@@ -65,7 +65,7 @@ module _ (prelude : Result Codes Fault) where
     pub table : Codes
     pub given : prelude ≡ Ok table
     pub right : RunIsRight (libraries_of []) library.Derived [] (started library.Derived [] derived_names.names table)
-        (body_of (ready library.Derived derived_names.path [] derived_names.names table) [] derived_names.start) (derived_names.exports_of derived) forms r
+        (top_at (first_frame library.Derived) (derived_body forms)) (derived_names.exports_of derived) forms r
 
   -- The records of the derived library and of libraries, each behind those that it needs.
   pub record AllHygienic (rows : List (List ℕ × Found)) (derived : CompiledLibrary) (others : List CompiledLibrary) : Type 0 where

@@ -98,10 +98,10 @@ record-fits r h rises kinds lines defined n =
     (both-true (library.fits r.name) ((listed u64).fits r.version && ((listed imported_name).fits r.exports && (((listed (label then binding)).fits r.bindings && bindings_rise r.bindings) && (((listed frame_row).fits r.frames && rows_rise r.frames) && ((listed line).fits r.run && (listed library).fits r.refs))))) n.name one)
 
 pub have : RecordsHaveSpellings
-have own path records imports version place exports forms codes r is behind-these texts read e n =
-    let h = stay own path records imports version place exports forms codes r behind-these texts read e in
-    let good = records-good own path records imports version place exports forms codes r is e in
-    let named = keywords-good own path records imports version place exports forms codes r is e in
-    let shallow = records-shallow own path records imports version place exports forms codes r is e in
-    record-fits r h (rise own path records imports version place exports forms codes r e) named.kinds
+have own records imports body codes r is behind-these texts read e n =
+    let h = stay own records imports body codes r behind-these texts read e in
+    let good = records-good own records imports body codes r is e in
+    let named = keywords-good own records imports body codes r is e in
+    let shallow = records-shallow own records imports body codes r is e in
+    record-fits r h (rise own records imports body codes r e) named.kinds
     (made-of (line_cores r) good.0.well_made (before IsShallow (line_cores r) (keywords r) shallow)) (made-of (keywords r) named.well_made (behind IsShallow (line_cores r) (keywords r) shallow)) n

@@ -102,6 +102,6 @@ keywords-low ((x, b.Core f) ∷ bs) h = keywords-low bs h.1
 keywords-low ((x, b.Primitive o) ∷ bs) h = keywords-low bs h.1
 
 pub within-levels : LevelsStayWithin
-within-levels own path records imports version place exports forms codes r before texts read e =
-    let h = stay own path records imports version place exports forms codes r before texts read e in
+within-levels own records imports body codes r before texts read e =
+    let h = stay own records imports body codes r before texts read e in
     append-low (line_cores r) (keywords r) (lines-low r.run h.run) (keywords-low r.bindings h.bindings)

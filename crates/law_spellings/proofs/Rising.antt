@@ -22,13 +22,12 @@ use Rattle.core_language.specs.declared.record.Line.{Line}
 use Rattle.base_data.specs.Elements.{Each}
 use Rattle.expand_heads.specs.declared.taken.Taken.{Taken}
 use Rattle.expand_forms.specs.Body.{finish_all}
-use Rattle.expand_forms.specs.Expanding.{ready, body_of}
 use Rattle.expand_forms.specs.Expression.{inside, full_room}
 use Rattle.expand_forms.specs.Inside.{Inside}
-use Rattle.expand_forms.specs.Top.{exports, record_of, give_record, record_in, second_pass, first_pass, top}
+use Rattle.expand_forms.specs.Top.{exports, record_of, give_record, record_in, second_pass, first_pass, top, top_at}
 use Rattle.expand_forms.specs.declared.top.TopAt.{TopAt}
 use Rattle.expand_standing.specs.Own.{completed, row_at, own_label, own_row, own_below, own_bindings}
-use Rattle.expand_standing.specs.Start.{started}
+use Rattle.expand_standing.specs.Start.{started, first_frame}
 use Rattle.expand_standing.specs.State.{State, Does}
 use Rattle.base_data.proofs.ElementLemmas.{each-append}
 use Rattle.base_data.specs.declared.imported_name.ImportedName.{ImportedName}
@@ -147,7 +146,7 @@ ordered-rise l [] h = refl
 ordered-rise l (r ∷ rs) h = rows-on l r.frame rs h.0 h.2
 
 pub rise : RecordsRise
-rise own path records imports version place es forms codes r e =
-    of-record RecordRises r (top (inside records full_room) (body_of (ready own path records imports codes) version place) es forms (started own records imports codes))
+rise own records imports body codes r e =
+    of-record RecordRises r (top (inside records full_room) (top_at (first_frame own) body) body.exports body.forms (started own records imports codes))
     (of-top RecordRises (λ at ls lines s. record { bindings = own-rise s; rows = ordered-rise s.library (rows_in s.library s.frames) (ordered_rows_in s.library s.frames) })
-    (inside records full_room) (body_of (ready own path records imports codes) version place) es forms (started own records imports codes)) e
+    (inside records full_room) (top_at (first_frame own) body) body.exports body.forms (started own records imports codes)) e

@@ -17,6 +17,7 @@ use Rattle.eval_pattern.specs.Compile.{PatternScope, compiled as compiled_patter
 use Rattle.eval_pattern.specs.declared.compile.Compiled.{Compiled}
 use Rattle.eval_template.specs.Compile.{TemplateScope, compiled as compiled_template}
 use Rattle.expand_forms.specs.Expanding.{ready, library_record}
+use Rattle.expand_forms.specs.declared.top.LibraryBody.{LibraryBody}
 use Rattle.law_compiled.specs.Templates.{HoldsLists}
 use Rattle.law_core.specs.Follows.{all_cores}
 use Rattle.law_core.specs.Parts.{parts, clause_patterns}
@@ -56,8 +57,7 @@ HasLevels n (matching c cs s) = Each (λ p. pattern_levels p ≤ n) (clause_patt
 
 -- So each pattern and each template in a record, in its lines and in the expressions of its keywords, has at most 1,000 levels.
 abbrev pub LevelsStayWithin : Type 0
-LevelsStayWithin = (own : LibName) (path : List ℕ) (records : List CompiledLibrary) (imports : List ImportedName)
-    (version : List ℕ) (place : Span) (exports : List (List ℕ × Tree)) (forms : List Tree) (codes : Codes) (r : CompiledLibrary)
-    → Each SpelledRecord records → CodesHold spelled codes → Each SpelledTree forms
-    → library_record (ready own path records imports codes) records version place exports forms ≡ Ok r
+LevelsStayWithin = (own : LibName) (records : List CompiledLibrary) (imports : List ImportedName) (body : LibraryBody) (codes : Codes) (r : CompiledLibrary)
+    → Each SpelledRecord records → CodesHold spelled codes → Each SpelledTree body.forms
+    → library_record (ready own records imports codes) records body ≡ Ok r
     → Each (λ c. Each (HasLevels max_height) (parts c)) (all_cores r)

@@ -26,15 +26,14 @@ use Rattle.eval_value.specs.Cells.{is_found}
 use Rattle.eval_code.specs.Codes.{Codes, code_at}
 use Rattle.law_whole.proofs.Evaluations.{with_codes_whole}
 use Rattle.expand_standing.specs.Own.{export_labels, labels_with}
-use Rattle.expand_standing.specs.Start.{bindings_of, started}
+use Rattle.expand_standing.specs.Start.{bindings_of, started, first_frame}
 use Rattle.expand_standing.specs.State.{State, stage_of}
 use Rattle.expand_heads.specs.Items.{begun}
 use Rattle.expand_heads.specs.declared.taken.Taken.{Taken}
 use Rattle.expand_forms.specs.Body.{splice, finish_all}
-use Rattle.expand_forms.specs.Expanding.{ready, body_of}
 use Rattle.expand_forms.specs.Expression.{inside, full_room}
 use Rattle.expand_forms.specs.Inside.{Inside}
-use Rattle.expand_forms.specs.Top.{stands_for, export, all_exports, exports, give_record, record_in, body_at, second_pass, first_pass, top}
+use Rattle.expand_forms.specs.Top.{stands_for, export, all_exports, exports, give_record, record_in, body_at, second_pass, first_pass, top, top_at}
 use Rattle.expand_forms.specs.declared.top.TopAt.{TopAt}
 use Rattle.law_expand.proofs.GoodKeywords.{exports-same, started-begins}
 use Rattle.law_expand.proofs.Top.{SameScope, AreShown, same-exports}
@@ -146,13 +145,13 @@ module _ (own : LibName) (texts : List CodeNo) (rs : List CompiledLibrary) (x : 
       (λ d t g. ends at es d t g.0.onward.0 g.0.safe)
 
 pub expansions_never_stuck : ExpansionsNeverStuck
-expansions_never_stuck own path records imports version place exports forms codes ready_for behind no_text texts =
+expansions_never_stuck own records imports body codes ready_for behind no_text texts =
     let numbers = map (λ (e : CodeNo × PlainCode). e.0) codes in
     let around : Around own numbers records = record { new = ready_for.new; no_text = no_text; texts_only = texts_only own records codes texts; behind = behind } in
-    let at = body_of (ready own path records imports codes) version place in
+    let at = top_at (first_frame own) body in
     let s = started own records imports codes in
-    by (top (inside records full_room) at exports forms s)
-    (top-fine own numbers records around (inside records full_room) (inside-holds own numbers records around full_room) at exports forms s refl (started-begins own records imports codes ready_for) (started-safe own records codes texts imports))
+    by (top (inside records full_room) at body.exports body.forms s)
+    (top-fine own numbers records around (inside records full_room) (inside-holds own numbers records around full_room) at body.exports body.forms s refl (started-begins own records imports codes ready_for) (started-safe own records codes texts imports))
   where
     by : (r : Result (CompiledLibrary × State) Fault) → Sure (λ a u. Unit {0}) r → IsNotStuck (record_in r)
     by (Ok p) h = tt

@@ -272,7 +272,7 @@ module _ (records : List CompiledLibrary) (r : CompiledLibrary) (all : AllBehind
       both (c ∷ cs) h = (h.0, both cs h.1)
 
 pub records_behind : RecordsStandBehind
-records_behind own path records imports version place exports forms codes r is_ready all no_text there h =
-    let g = records-good own path records imports version place exports forms codes r is_ready h in
-    stands-behind records r all g.0 (keywords-good own path records imports version place exports forms codes r is_ready h) (records-serve own path records imports version place exports forms codes r is_ready there h)
+records_behind own records imports body codes r is_ready all no_text there h =
+    let g = records-good own records imports body codes r is_ready h in
+    stands-behind records r all g.0 (keywords-good own records imports body codes r is_ready h) (records-serve own records imports body codes r is_ready there h)
     (λ a. is_ready.new (subst (Among (names_of records)) g.1 a)) (λ t. no_text (subst IsOfTexts g.1 t))

@@ -13,6 +13,7 @@ use Rattle.load_builtin.specs.declared.derived.TheConstants.{DERIVED_SOURCE}
 use Rattle.core_language.specs.declared.record.CompiledLibrary.{CompiledLibrary}
 use Rattle.eval_code.specs.Codes.{Codes}
 use Rattle.expand_forms.specs.Expanding.{ready, library_record, library_spent}
+use Rattle.expand_forms.specs.declared.top.LibraryBody.{LibraryBody}
 use Rattle.load_import.specs.Names.{label_named}
 use Rattle.run_prelude.specs.Prelude.{at_place}
 use Rattle.run_prelude.specs.Spent.{spent_behind}
@@ -35,9 +36,13 @@ trees done (d ∷ ds) = tree_at d >>= (λ t. trees (done ++ t ∷ []) ds)
 unfoldable pub forms_of : List ℕ → Result (List Tree) Fault
 forms_of text = data_of path text file_nesting >>= trees []
 
+-- the body of the library, with these forms
+abbrev pub derived_body : List Tree → LibraryBody
+derived_body forms = record { path = path; version = []; place = start; exports = exports_of derived; forms = forms }
+
 -- the record of these forms, behind no others
 unfoldable pub record_of : Codes → List Tree → Result CompiledLibrary Fault
-record_of codes forms = library_record (ready library.Derived path [] names codes) [] [] start (exports_of derived) forms
+record_of codes forms = library_record (ready library.Derived [] names codes) [] (derived_body forms)
 
 -- the record of the derived library; as in any library, what procedures mean that are texts comes after its forms
 unfoldable pub derived_record : Result Codes Fault → Result CompiledLibrary Fault
@@ -45,7 +50,7 @@ derived_record prelude = forms_of DERIVED_SOURCE.now >>= (λ forms. prelude >>= 
 
 -- the fuel that the expansion of these forms spends
 unfoldable pub record_spent : Codes → List Tree → ℕ
-record_spent codes forms = library_spent (ready library.Derived path [] names codes) [] [] start (exports_of derived) forms
+record_spent codes forms = library_spent (ready library.Derived [] names codes) [] (derived_body forms)
 
 -- the fuel that the derived library's spends
 unfoldable pub derived_spent : Result Codes Fault → ℕ

@@ -4,12 +4,11 @@ ghost use Rattle.std.specs.Prelude.{◌≡◌, ◌<◌, ◌+◌, ◌^◌, length
 ghost use Rattle.base_data.specs.Gives.{Gives};
 ghost use Rattle.load_import.specs.Names.{label_named};
 ghost use Rattle.base_data.specs.declared.library.LibName.TheVariants as library;
-ghost use Rattle.load_builtin.specs.Exports.{derived};
 ghost use Rattle.eval_code.specs.Codes as table;
 ghost use Rattle.expand_forms.specs.Expanding.{ready, library_record, library_spent};
 ghost use Rattle.run_prelude.specs.Prelude.{kept};
-ghost use Rattle.run_derived.specs.Names.{path, start, names, exports_of};
-ghost use Rattle.run_derived.specs.Derived.{tree_at, trees, forms_of, record_of, record_spent, derived_record, derived_spent, label_or, relabelled_in};
+ghost use Rattle.run_derived.specs.Names.{start, names};
+ghost use Rattle.run_derived.specs.Derived.{tree_at, trees, forms_of, derived_body, record_of, record_spent, derived_record, derived_spent, label_or, relabelled_in};
 
 use crate::implementation::Implementation;
 use crate::names::{exports, names, path, start};
@@ -25,8 +24,9 @@ use base_data::symbol::Symbol;
 use core_language::record::CompiledLibrary;
 use eval_prims::table::PrimTable;
 use eval_stage::earlier::Earlier;
-use expand_forms::expander::{Expander, LibraryBody};
+use expand_forms::expander::Expander;
 use expand_forms::tally::Tally;
+use expand_forms::top::LibraryBody;
 use expand_standing::means::Means;
 use expand_standing::ready::ReadyRecords;
 use expand_standing::start::{Environment, Supplies};
@@ -74,14 +74,20 @@ fn forms_of(alloc: Global, place: &Span, text: &[u8]) -> Result<Items<Syn>, Stop
     trees(alloc, place, &found)
 }
 
-// What stands round the forms of the derived library.
-#[derive(Drop)]
-struct DerivedText<'a> {
-    alloc: Global,
-    /// Its start.
-    place: &'a Span,
-    imports: &'a [ImportedName],
-    exports: &'a [(Symbol, Syn)],
+// The body of the derived library, with these forms.
+fn derived_body(alloc: Global, forms: Items<Syn>) -> Result<LibraryBody, Memory>
+    ensures { IfOk result (λ body. body ≡ derived_body forms) }
+{
+    let path = path(alloc)?;
+    let place = start(alloc)?;
+    let exports = exports(alloc)?;
+    Ok(LibraryBody {
+        path,
+        version: Items::new(alloc),
+        place,
+        exports,
+        forms,
+    })
 }
 
 // An expander behind no records.
@@ -90,61 +96,52 @@ fn expander_of<L: Ledger>(
     names: &[ImportedName],
     supplies: Supplies<L>,
 ) -> Result<Expander<L>, Stop>
-    ensures { Gives (λ e. e) result (Ok (ready library.Derived path [] names.now (table.seen supplies.codes.entries))) }
+    ensures { Gives (λ e. e) result (Ok (ready library.Derived [] names.now (table.seen supplies.codes.entries))) }
 {
-    let path = path(alloc)?;
     let records = ReadyRecords::new(alloc)?;
     let environment = Environment {
         earlier: &records,
         needs: &[],
         imports: names,
     };
-    Expander::new(alloc, LibName::Derived, path, &environment, supplies)
+    Expander::new(alloc, LibName::Derived, &environment, supplies)
 }
 
-// The record of these forms.
+// The record of a library with this body, behind no records.
 fn record_by<N: Ledger, L: Ledger>(
     begun: Expander<L>,
-    text: &DerivedText,
-    forms: Items<Syn>,
+    body: LibraryBody,
     prims: &PrimTable,
     tally: &mut Tally<N, L>,
 ) -> Result<CompiledLibrary, Stop>
     requires { begun.failed ≡ false }
-    ensures record { Gives (λ r. r) result (library_record begun [] [] text.now.place.now text.now.exports.now forms) }
-    ensures fuel { OnOk result (tally.new.fuel ≡ tally.old.fuel + library_spent begun [] [] text.now.place.now text.now.exports.now forms) }
+    ensures record { Gives (λ r. r) result (library_record begun [] body) }
+    ensures fuel { OnOk result (tally.new.fuel ≡ tally.old.fuel + library_spent begun [] body) }
 {
     let earlier = Earlier {
         records: &[],
         needs: &[],
     };
     let means = Means { earlier, prims };
-    let body = LibraryBody {
-        forms,
-        place: text.place,
-        exports: text.exports,
-        version: Items::new(text.alloc),
-    };
     begun.top(body, &means, tally)
 }
 
 // The record of these forms, where this is what the procedures mean that are texts.
 #[tactic(auto, unfolding(crate::specs::Derived::record_of, crate::specs::Derived::record_spent))]
 fn record_of<N: Ledger, L: Ledger>(
+    alloc: Global,
     supplies: Supplies<L>,
-    text: &DerivedText,
     forms: Items<Syn>,
     prims: &PrimTable,
     tally: &mut Tally<N, L>,
 ) -> Result<CompiledLibrary, Stop>
-    requires imports { text.now.imports.now ≡ names }
-    requires exports { text.now.exports.now ≡ exports_of derived }
-    requires place { text.now.place.now ≡ start }
     ensures record { Gives (λ r. r) result (record_of (table.seen supplies.codes.entries) forms) }
     ensures fuel { OnOk result (tally.new.fuel ≡ tally.old.fuel + record_spent (table.seen supplies.codes.entries) forms) }
 {
-    let begun = expander_of(text.alloc, text.imports, supplies)?;
-    record_by(begun, text, forms, prims, tally)
+    let body = derived_body(alloc, forms)?;
+    let names = names(alloc)?;
+    let begun = expander_of(alloc, names.as_slice(), supplies)?;
+    record_by(begun, body, prims, tally)
 }
 
 /// The record of the derived library. It is expanded behind no other.
@@ -159,20 +156,12 @@ pub fn derived_record<N: Ledger, L: Ledger>(
 {
     let place = start(alloc)?;
     let forms = forms_of(alloc, &place, derived_source())?;
-    let names = names(alloc)?;
-    let exports = exports(alloc)?;
     let codes = implementation.prelude.codes(alloc)?;
     let Some(unspent) = tally.fuel.begin() else {
         return Err(Stop::Memory);
     };
     let supplies = Supplies { codes, unspent };
-    let text = DerivedText {
-        alloc,
-        place: &place,
-        imports: names.as_slice(),
-        exports: exports.as_slice(),
-    };
-    record_of(supplies, &text, forms, implementation.primitives, tally)
+    record_of(alloc, supplies, forms, implementation.primitives, tally)
 }
 
 // The label under which a record exports a name, or another.

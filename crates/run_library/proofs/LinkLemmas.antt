@@ -53,7 +53,7 @@ unfolding link_library expand_library
 library_alone prelude records path form body =
     then_alone {A = Labelled} _ _ (λ names.
     then_alone {A = List Tree} _ _ (λ forms.
-    then_alone {A = Expanding} _ _ (λ e. record_alone _) (expander_of prelude form.name path records names)) (trees_at form.name_span [] body)) (form_names records form.imports)
+    then_alone {A = Expanding} _ _ (λ e. record_alone _) (expander_of prelude form.name records names)) (trees_at form.name_span [] body)) (form_names records form.imports)
 
 pub found_alone : (prelude : Result Codes Fault) (records : List CompiledLibrary) (found : Found) (body : List PlainDatum)
     → unlinked (link_found prelude records found body) ≡ expand_found prelude records found body

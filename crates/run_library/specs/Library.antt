@@ -16,10 +16,11 @@ use Rattle.load_forms.specs.declared.form.LibraryForm.{LibraryForm}
 use Rattle.eval_code.specs.Codes.{Codes}
 use Rattle.base_data.specs.declared.library.LibName.{LibName}
 use Rattle.expand_forms.specs.Expanding.{Expanding, ready, library_record, library_linked, library_spent}
+use Rattle.expand_forms.specs.declared.top.LibraryBody.{LibraryBody}
 use Rattle.expand_forms.specs.declared.top.Linked.{Linked}
 use Rattle.run_prelude.specs.Spent.{spent_behind}
 use Rattle.run_library.specs.Imports.{form_names}
-use Rattle.run_library.specs.declared.library.LibrarySource.{LibrarySource}
+use Rattle.run_library.specs.declared.library.Unexpanded.{Unexpanded}
 
 -- ---- what stands in the file, as syntax trees
 
@@ -48,49 +49,52 @@ export_tree e = (e.0, leaf (Some e.1.span) e.1.name blank)
 
 -- ---- the record
 
--- an expander behind these records, which knows what the procedures mean that are texts
-abbrev pub expander_of : Result Codes Fault → LibName → List ℕ → List CompiledLibrary → List ImportedName → Result Expanding Fault
-expander_of prelude name path records names = prelude >>= (λ codes. Ok (ready name path records names codes))
+-- the body of a library or program, from its form and the forms of its body
+abbrev pub body_with : List ℕ → LibraryForm → List Tree → LibraryBody
+body_with path form forms = record { path = path; version = form.version; place = form.name_span; exports = map export_tree form.exports; forms = forms }
 
--- the names that the form imports, and the forms of its body
-unfoldable pub body_of : List CompiledLibrary → LibraryForm → List PlainDatum → Result LibrarySource Fault
-body_of records form body =
+abbrev pub body_in : List ℕ → LibraryForm → List PlainDatum → Result LibraryBody Fault
+body_in path form body = trees_at form.name_span [] body >>= (λ forms. Ok (body_with path form forms))
+
+-- an expander behind these records, which knows what the procedures mean that are texts
+abbrev pub expander_of : Result Codes Fault → LibName → List CompiledLibrary → List ImportedName → Result Expanding Fault
+expander_of prelude name records names = prelude >>= (λ codes. Ok (ready name records names codes))
+
+-- the names that the form imports, and its body
+unfoldable pub body_of : List CompiledLibrary → List ℕ → LibraryForm → List PlainDatum → Result Unexpanded Fault
+body_of records path form body =
     form_names records form.imports >>= (λ names.
-    trees_at form.name_span [] body >>= (λ forms. Ok (record { names = names; forms = forms })))
+    body_in path form body >>= (λ read. Ok (record { name = form.name; imports = names; body = read })))
 
 -- what procedures mean that are texts, and then the body, after these records: its record and its links
-unfoldable pub expand_body : Result Codes Fault → List CompiledLibrary → List ℕ → LibraryForm → LibrarySource → Result Linked Fault
-expand_body prelude records path form body =
-    expander_of prelude form.name path records body.names >>= (λ e.
-    library_linked e records form.version form.name_span (map export_tree form.exports) body.forms)
+unfoldable pub expand_body : Result Codes Fault → List CompiledLibrary → Unexpanded → Result Linked Fault
+expand_body prelude records read = expander_of prelude read.name records read.imports >>= (λ e. library_linked e records read.body)
 
 -- the names that the form imports, the forms of its body, what procedures mean that are texts, and then the body, after these records
 unfoldable pub expand_library : Result Codes Fault → List CompiledLibrary → List ℕ → LibraryForm → List PlainDatum → Result CompiledLibrary Fault
 expand_library prelude records path form body =
     form_names records form.imports >>= (λ names.
     trees_at form.name_span [] body >>= (λ forms.
-    expander_of prelude form.name path records names >>= (λ e.
-    library_record e records form.version form.name_span (map export_tree form.exports) forms)))
+    expander_of prelude form.name records names >>= (λ e.
+    library_record e records (body_with path form forms))))
 
 -- the same, with the links of its expansion
 unfoldable pub link_library : Result Codes Fault → List CompiledLibrary → List ℕ → LibraryForm → List PlainDatum → Result Linked Fault
 link_library prelude records path form body =
     form_names records form.imports >>= (λ names.
     trees_at form.name_span [] body >>= (λ forms.
-    expander_of prelude form.name path records names >>= (λ e.
-    library_linked e records form.version form.name_span (map export_tree form.exports) forms)))
+    expander_of prelude form.name records names >>= (λ e.
+    library_linked e records (body_with path form forms))))
 
 -- ---- the fuel
 
 -- what the expansion of the body spends
-unfoldable pub body_spent : Result Codes Fault → List CompiledLibrary → List ℕ → LibraryForm → LibrarySource → ℕ
-body_spent prelude records path form body =
-    spent_behind (expander_of prelude form.name path records body.names)
-    (λ e. library_spent e records form.version form.name_span (map export_tree form.exports) body.forms)
+unfoldable pub body_spent : Result Codes Fault → List CompiledLibrary → Unexpanded → ℕ
+body_spent prelude records read = spent_behind (expander_of prelude read.name records read.imports) (λ e. library_spent e records read.body)
 
 -- what that of a library or a program spends, after these records
 unfoldable pub form_spent : Result Codes Fault → List CompiledLibrary → List ℕ → LibraryForm → List PlainDatum → ℕ
-form_spent prelude records path form body = spent_behind (body_of records form body) (body_spent prelude records path form)
+form_spent prelude records path form body = spent_behind (body_of records path form body) (body_spent prelude records)
 
 -- ---- a record alone
 

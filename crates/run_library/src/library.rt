@@ -6,7 +6,7 @@ ghost use Rattle.eval_code.specs.Codes as table;
 ghost use Rattle.expand_forms.specs.Expanding.{ready, library_linked, library_spent};
 ghost use Rattle.run_prelude.specs.Prelude.{kept};
 ghost use Rattle.run_library.specs.Records.{needed_records};
-ghost use Rattle.run_library.specs.Library.{at_datum, tree_at, trees_at, export_tree, expander_of, body_of, expand_body, body_spent};
+ghost use Rattle.run_library.specs.Library.{at_datum, tree_at, trees_at, export_tree, body_in, body_of, expand_body, body_spent};
 
 use crate::given::GivenNames;
 use crate::imports::form_names;
@@ -19,69 +19,75 @@ use base_data::library::LibName;
 use base_data::memory::Memory;
 use base_data::span::Span;
 use base_data::symbol::Symbol;
-use base_fuel::fuel::Unspent;
 use core_language::share::share_library;
 use eval_prims::table::PrimTable;
 use eval_stage::earlier::Earlier;
-use expand_forms::expander::{Expander, LibraryBody};
+use expand_forms::expander::Expander;
 use expand_forms::tally::Tally;
-use expand_forms::top::Linked;
+use expand_forms::top::{LibraryBody, Linked};
 use expand_standing::means::Means;
 use expand_standing::start::{Environment, Supplies};
-use load_forms::form::LibraryForm;
+use load_files::found::Opened;
 use load_import::names::rows;
 use load_import::set::NameAt;
 use load_import::table::NameTable;
 use run_derived::implementation::Implementation;
-use run_prelude::prelude::Prelude;
 use std::alloc::Global;
 use std::sync::ledger::Ledger;
 use stx_object::syn::Syn;
 use stx_tree::marks::Marks;
 
-/// What the body of a library or a program is expanded from: the names that its form imports, and its forms.
-#[derive(Drop)]
-pub struct LibrarySource {
-    pub names: Items<ImportedName>,
-    pub forms: Items<Syn>,
-}
-
-/// A library or a program that is to be expanded.
+/// A library or a program that is to be expanded: its name, the names that its form imports, and its body.
 #[derive(Drop)]
 pub struct Unexpanded {
-    /// Of its file.
-    pub path: Symbol,
-    pub form: LibraryForm,
-    pub body: LibrarySource,
+    pub name: LibName,
+    pub imports: Items<ImportedName>,
+    pub body: LibraryBody,
 }
 
-// Where a library comes from: its name, and the path of its file.
-#[derive(Drop)]
-struct Origin {
-    name: LibName,
-    path: Symbol,
+// The body, from the data of the body.
+fn body_in(alloc: Global, opened: &Opened, body: &[Datum]) -> Result<LibraryBody, Stop>
+    ensures { Gives (λ b. b) result (body_in opened.now.path opened.now.form body.now) }
+{
+    let path = opened.path.share()?;
+    let version = share_version(alloc, opened.form.version.as_slice())?;
+    let place = opened.form.name_span.share()?;
+    let exports = export_trees(alloc, &opened.form.exports)?;
+    let forms = trees_at(alloc, &opened.form.name_span, body)?;
+    Ok(LibraryBody {
+        path,
+        version,
+        place,
+        exports,
+        forms,
+    })
 }
 
-/// The body of a library or a program, from its form and the data of its body, which may go then. First each library
-/// that it imports must fit, and then each name.
+/// The body of a library or a program and what it is expanded with, from what was read of it and the data of its body,
+/// which may go then. First each library that it imports must fit, and then each name.
 #[tactic(auto, unfolding(crate::specs::Library::body_of))]
 pub fn body_of(
     needed: &Needed,
     given: &mut GivenNames,
-    form: &LibraryForm,
+    opened: &Opened,
     body: &[Datum],
-) -> Result<LibrarySource, Stop>
-    ensures { Gives (λ b. b) result (body_of (needed_records needed.now.records.now needed.now.marks.now) form.now body.now) }
+) -> Result<Unexpanded, Stop>
+    ensures { Gives (λ b. b) result (body_of (needed_records needed.now.records.now needed.now.marks.now) opened.now.path opened.now.form body.now) }
 {
     let alloc = given.alloc();
-    let names = form_names(needed, given, form.imports.as_slice())?;
-    let names = rows(alloc, &names)?;
-    let forms = trees_at(alloc, &form.name_span, body)?;
-    Ok(LibrarySource { names, forms })
+    let names = form_names(needed, given, opened.form.imports.as_slice())?;
+    let imports = rows(alloc, &names)?;
+    let name = share_library(alloc, &opened.form.name)?;
+    let body = body_in(alloc, opened, body)?;
+    Ok(Unexpanded {
+        name,
+        imports,
+        body,
+    })
 }
 
-/// The record and the links of a library or a program, from its form and its body, which goes on the way, behind the
-/// records that it needs.
+/// The record and the links of a library or a program, whose body goes on the way, behind the records that it needs. It
+/// knows what the procedures mean that are texts.
 #[tactic(auto, unfolding(crate::specs::Library::expand_body, crate::specs::Library::body_spent))]
 pub fn expand_body<N: Ledger, L: Ledger>(
     alloc: Global,
@@ -91,51 +97,22 @@ pub fn expand_body<N: Ledger, L: Ledger>(
     tally: &mut Tally<N, L>,
 ) -> Result<Linked, Stop>
     ensures linked { Gives (λ l. l) result (expand_body (kept implementation.now.prelude)
-        (needed_records needed.now.records.now needed.now.marks.now) unexpanded.path unexpanded.form unexpanded.body) }
+        (needed_records needed.now.records.now needed.now.marks.now) unexpanded) }
     ensures fuel { OnOk result (tally.new.fuel ≡ tally.old.fuel + body_spent (kept implementation.now.prelude)
-        (needed_records needed.now.records.now needed.now.marks.now) unexpanded.path unexpanded.form unexpanded.body) }
+        (needed_records needed.now.records.now needed.now.marks.now) unexpanded) }
 {
     let Some(unspent) = tally.fuel.begin() else {
         return Err(Stop::Memory);
     };
-    let exports = export_trees(alloc, &unexpanded.form.exports)?;
-    let version = share_version(alloc, unexpanded.form.version.as_slice())?;
-    let begun = expander_of(alloc, &implementation.prelude, needed, &unexpanded, unspent)?;
-    let Unexpanded { form, body, .. } = unexpanded;
-    let LibrarySource { forms, .. } = body;
-    let body = LibraryBody {
-        forms,
-        place: &form.name_span,
-        exports: exports.as_slice(),
-        version,
-    };
-    linked_behind(begun, needed, body, implementation.primitives, tally)
-}
-
-// An expander behind the records that are marked, which knows what the procedures mean that are texts.
-fn expander_of<L: Ledger>(
-    alloc: Global,
-    prelude: &Prelude,
-    needed: &Needed,
-    unexpanded: &Unexpanded,
-    unspent: Unspent<L>,
-) -> Result<Expander<L>, Stop>
-    ensures given { Gives (λ e. e) result (expander_of (kept prelude.now) unexpanded.now.form.name unexpanded.now.path
-        (needed_records needed.now.records.now needed.now.marks.now) unexpanded.now.body.names) }
-    ensures ok { IfOk result (λ e. e.failed ≡ false) }
-{
-    let name = share_library(alloc, &unexpanded.form.name)?;
-    let path = unexpanded.path.share()?;
-    let codes = prelude.codes(alloc)?;
-    let origin = Origin { name, path };
+    let codes = implementation.prelude.codes(alloc)?;
     let supplies = Supplies { codes, unspent };
-    expander_behind(
-        alloc,
-        origin,
-        needed,
-        unexpanded.body.names.as_slice(),
-        supplies,
-    )
+    let Unexpanded {
+        name,
+        imports,
+        body,
+    } = unexpanded;
+    let begun = expander_behind(alloc, name, needed, imports.as_slice(), supplies)?;
+    linked_behind(begun, needed, body, implementation.primitives, tally)
 }
 
 // The record and the links of a library behind the records that it needs.
@@ -148,9 +125,9 @@ fn linked_behind<N: Ledger, L: Ledger>(
 ) -> Result<Linked, Stop>
     requires { begun.failed ≡ false }
     ensures linked { Gives (λ l. l) result (library_linked begun
-        (needed_records needed.now.records.now needed.now.marks.now) body.entry.version body.entry.place.now body.entry.exports.now body.entry.forms) }
+        (needed_records needed.now.records.now needed.now.marks.now) body) }
     ensures fuel { OnOk result (tally.new.fuel ≡ tally.old.fuel + library_spent begun
-        (needed_records needed.now.records.now needed.now.marks.now) body.entry.version body.entry.place.now body.entry.exports.now body.entry.forms) }
+        (needed_records needed.now.records.now needed.now.marks.now) body) }
 {
     let earlier = Earlier {
         records: needed.records.ready().as_slice(),
@@ -163,22 +140,22 @@ fn linked_behind<N: Ledger, L: Ledger>(
 // An expander behind the records that are marked.
 fn expander_behind<L: Ledger>(
     alloc: Global,
-    origin: Origin,
+    name: LibName,
     needed: &Needed,
     names: &[ImportedName],
     supplies: Supplies<L>,
 ) -> Result<Expander<L>, Stop>
-    ensures { Gives (λ e. e) result (Ok (ready origin.name origin.path
+    ensures given { Gives (λ e. e) result (Ok (ready name
         (needed_records needed.now.records.now needed.now.marks.now) names.now (table.seen supplies.codes.entries))) }
+    ensures ok { IfOk result (λ e. e.failed ≡ false) }
 {
-    let Origin { name, path } = origin;
     let ready = needed.records.ready();
     let environment = Environment {
         earlier: ready,
         needs: needed.marks,
         imports: names,
     };
-    Expander::new(alloc, name, path, &environment, supplies)
+    Expander::new(alloc, name, &environment, supplies)
 }
 
 fn share_version(alloc: Global, version: &[u64]) -> Result<Items<u64>, Memory>

@@ -10,20 +10,19 @@ ghost use Rattle.load_forms.specs.Form.{library_body, program_body};
 ghost use Rattle.run_library.specs.Loaded.{expand_found, expand_next, all_records, planned_text, text_behind, fault_behind, link_found, link_next, with_linked, derived_linked, all_linked, links_behind, found_spent, each_spent, all_spent, program_spent};
 
 use crate::given::GivenNames;
-use crate::library::{Unexpanded, body_of, expand_body};
+use crate::library::{body_of, expand_body};
 use crate::records::{Needed, Records};
 use base_data::fault::{Fault, Stop};
 use base_data::items::Items;
 use base_data::memory::Memory;
-use base_data::symbol::Symbol;
 use core_language::link::Link;
 use core_language::record::CompiledLibrary;
 use core_output::whole::core_text;
 use core_plan::planned::planned;
 use expand_forms::tally::Tally;
 use expand_forms::top::Linked;
-use load_files::found::{Found, Opened};
-use load_forms::form::{LibraryForm, library_body, program_body};
+use load_files::found::Found;
+use load_forms::form::{library_body, program_body};
 use load_import::table::NameTable;
 use run_derived::derived::derived_record;
 use run_derived::implementation::Implementation;
@@ -41,16 +40,6 @@ fn with_derived(alloc: Global, needs: &[bool]) -> Result<Items<bool>, Memory>
         all.push(*mark)?;
     }
     Ok(all)
-}
-
-// The form of a library or program whose data go.
-fn without_data(found: Found) -> (Symbol, LibraryForm)
-    ensures { result ≡ (found.opened.path, found.opened.form) }
-{
-    let Found { opened, .. } = found;
-    let Opened { path, form, data } = opened;
-    drop(data);
-    (path, form)
 }
 
 fn expand_next<N: Ledger, L: Ledger>(
@@ -120,9 +109,8 @@ fn expand_one<N: Ledger, L: Ledger>(
         marks: marks.as_slice(),
     };
     let data = library_body(found.opened.data.as_slice());
-    let body = body_of(&needed, given, &found.opened.form, data)?;
-    let (path, form) = without_data(found);
-    let unexpanded = Unexpanded { path, form, body };
+    let unexpanded = body_of(&needed, given, &found.opened, data)?;
+    drop(found);
     expand_body(alloc, implementation, &needed, unexpanded, tally)
 }
 
@@ -145,9 +133,8 @@ fn expand_program<N: Ledger, L: Ledger>(
         marks: marks.as_slice(),
     };
     let data = program_body(found.opened.data.as_slice());
-    let body = body_of(&needed, given, &found.opened.form, data)?;
-    let (path, form) = without_data(found);
-    let unexpanded = Unexpanded { path, form, body };
+    let unexpanded = body_of(&needed, given, &found.opened, data)?;
+    drop(found);
     expand_body(alloc, implementation, &needed, unexpanded, tally)
 }
 

@@ -96,11 +96,11 @@ without_state (Err f) = Err f
 
 -- all of them, expanded one after the other in a library of their own
 unfoldable pub prelude_codes : Result (List PlainCode) Fault
-prelude_codes = without_state (each text_code [] procedures (ready library.Prelude (codes "(prelude)") [] names []).state)
+prelude_codes = without_state (each text_code [] procedures (ready library.Prelude [] names []).state)
 
 -- the fuel that their expansion spends
 unfoldable pub prelude_spent : ℕ
-prelude_spent = spent_behind (each text_code [] procedures (ready library.Prelude (codes "(prelude)") [] names []).state) (λ p. p.1.spent)
+prelude_spent = spent_behind (each text_code [] procedures (ready library.Prelude [] names []).state) (λ p. p.1.spent)
 
 -- The table that they make, with the codes inside them.
 abbrev pub filled : Codes → List PlainCode → Codes

@@ -220,11 +220,10 @@ fn text_code<N: Ledger, L: Ledger>(
 
 // An expander that is ready for the first text.
 fn start<L: Ledger>(alloc: Global, unspent: Unspent<L>) -> Result<Expander<L>, Stop>
-    ensures { Gives (λ e. e) result (Ok (ready library.Prelude (codes "(prelude)") [] names [])) }
+    ensures { Gives (λ e. e) result (Ok (ready library.Prelude [] names [])) }
 {
     let records = ReadyRecords::new(alloc)?;
     let names = names(alloc)?;
-    let path = Symbol::new(alloc, "(prelude)")?;
     let environment = Environment {
         earlier: &records,
         needs: &[],
@@ -232,7 +231,7 @@ fn start<L: Ledger>(alloc: Global, unspent: Unspent<L>) -> Result<Expander<L>, S
     };
     let codes = new_map(alloc);
     let supplies = Supplies { codes, unspent };
-    Expander::new(alloc, LibName::Prelude, path, &environment, supplies)
+    Expander::new(alloc, LibName::Prelude, &environment, supplies)
 }
 
 /// The codes of all texts, in the order of `PROCEDURES`. `means` has no records; its primitives are asked for nothing.

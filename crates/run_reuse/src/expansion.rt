@@ -12,18 +12,17 @@ use base_data::datum::Datum;
 use base_data::fault::Stop;
 use base_data::items::Items;
 use base_data::memory::Memory;
-use base_data::symbol::Symbol;
 use core_language::record::CompiledLibrary;
 use core_output::whole::core_text;
 use core_pattern_bytes::held::HeldReading;
 use core_plan::planned::planned;
 use expand_forms::tally::Tally;
 use expand_forms::top::Linked;
-use load_files::found::{Found, Opened};
-use load_forms::form::{LibraryForm, library_body, program_body};
+use load_files::found::Found;
+use load_forms::form::{library_body, program_body};
 use run_derived::implementation::Implementation;
 use run_library::given::GivenNames;
-use run_library::library::{Unexpanded, body_of, expand_body};
+use run_library::library::{body_of, expand_body};
 use run_library::records::{Needed, Records};
 use std::alloc::Global;
 use std::sync::ledger::Ledger;
@@ -55,16 +54,6 @@ fn body_in(file: File, data: &[Datum]) -> &[Datum]
     }
 }
 
-// The form of a library or program whose data go.
-fn without_data(found: Found) -> (Symbol, LibraryForm)
-    ensures { result ≡ (found.opened.path, found.opened.form) }
-{
-    let Found { opened, .. } = found;
-    let Opened { path, form, data } = opened;
-    drop(data);
-    (path, form)
-}
-
 /// What an expansion is given: the implementation, and the records so far.
 #[derive(Drop)]
 pub struct ExpansionInputs<'a> {
@@ -94,9 +83,8 @@ fn linked<N: Ledger, L: Ledger>(
     };
     let data = body_in(file, found.opened.data.as_slice());
     let mut given = GivenNames::new(alloc);
-    let body = body_of(&needed, &mut given, &found.opened.form, data)?;
-    let (path, form) = without_data(found);
-    let unexpanded = Unexpanded { path, form, body };
+    let unexpanded = body_of(&needed, &mut given, &found.opened, data)?;
+    drop(found);
     expand_body(alloc, behind.implementation, &needed, unexpanded, tally)
 }
 

@@ -27,7 +27,7 @@ returns-clause-codes g c = ended own_codes (Ok c.in_ok-codes.codes) c.all_texts.
 pub returns-in_err-expander-clause-fuel : goal.returns-in_err-expander-clause-fuel
 returns-in_err-expander-clause-fuel g c =
     let p = err_from_is_err_and c.from_residual.result c.from_residual.ensures.1 in
-    rw (p.1, p.2, memory_alone (ready library.Prelude (codes "(prelude)") [] names []) c.in_err-expander.field-0.0 c.in_err-expander.ensures) tt
+    rw (p.1, p.2, memory_alone (ready library.Prelude [] names []) c.in_err-expander.field-0.0 c.in_err-expander.ensures) tt
 
 pub returns-in_err-codes-clause-fuel : goal.returns-in_err-codes-clause-fuel
 unfolding prelude_spent
