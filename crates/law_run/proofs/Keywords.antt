@@ -334,12 +334,12 @@ top-bare at es forms start n mine keyed found are =
     (definitions-leave start.library [] (most_round + 1) place (λ e. refl) mine start (map (stamp at.frame) forms) n keyed found (definitions-stamped at.frame forms are))
     (λ d t k. finished-bare (inside [] full_room) at es d t k)
 
-pub no-lines : (own : LibName) (imports : List ImportedName) (body : LibraryBody) (codes : Codes) (r : CompiledLibrary)
+pub no-lines : (own : LibName) (imports : List ImportedName) (text : LibraryBody) (codes : Codes) (r : CompiledLibrary)
     → label_at (started own [] imports codes).frames (first_frame own) word [] ≡ Some defining → (started own [] imports codes).names.library ≡ (started own [] imports codes).library → (started own [] imports codes).library ≡ own → AreKeyed own (started own [] imports codes).frames
-    → Each (IsDefinition blank) body.forms
-    → library_record (ready own [] imports codes) [] body ≡ Ok r → r.run ≡ []
-no-lines own imports body codes r found same lib keyed are e =
-    by (top (inside [] full_room) (top_at (first_frame own) body) body.exports body.forms (started own [] imports codes)) (top-bare (top_at (first_frame own) body) body.exports body.forms (started own [] imports codes) same (sym lib) (subst (λ (k : LibName). AreKeyed k (started own [] imports codes).frames) (sym lib) keyed) found are) e
+    → Each (IsDefinition blank) text.forms
+    → library_record (ready own [] imports codes) [] text ≡ Ok r → r.run ≡ []
+no-lines own imports text codes r found same lib keyed are e =
+    by (top (inside [] full_room) (top_at (first_frame own) text) text.exports text.forms (started own [] imports codes)) (top-bare (top_at (first_frame own) text) text.exports text.forms (started own [] imports codes) same (sym lib) (subst (λ (k : LibName). AreKeyed k (started own [] imports codes).frames) (sym lib) keyed) found are) e
   where
     by : (x : Result (CompiledLibrary × State) Fault) → Gave (λ q t. q.run ≡ []) x → record_in x ≡ Ok r → r.run ≡ []
     by (Ok p) h k = let is : p.0 ≡ r = cc in subst (λ (q : CompiledLibrary). q.run ≡ []) is h
