@@ -130,16 +130,6 @@ Taking = Does (Taken × HeadItem)
 abbrev pub alone : Does Taken → Taking
 alone m s = after (m s) (λ done. give (done, head_items.Item items.Nothing))
 
--- the target of an assignment is kept, too; an assignment to a keyword may be a use of it
-abbrev pub target_item : BodyAt → ℕ → Taken → Tree → Standing → Taking
-target_item at depth done t (standing.Keyword l) = give (done, head_items.SetUse l)
-target_item at depth done t x = alone (wait at depth done t)
-
-abbrev pub set_item : BodyAt → ℕ → Taken → Tree → Result Shape Fault → Taking
-set_item at depth done t (Ok (shapes.Set id value)) s = after (keep done id s) (λ kept s'. target_item at depth kept t (standing_of s' id) s')
-set_item at depth done t (Ok x) s = alone (wait at depth done t) s
-set_item at depth done t (Err e) s = alone (wait at depth done t) s
-
 unfoldable pub begin_item : BodyAt → Taken → Tree → Shape → Taking
 begin_item at done t (shapes.Begin forms) s = Ok ((done, head_items.Item (items.Forms forms)), s)
 begin_item at done t x s = fault_form kind.BadForm t at.place s
@@ -153,45 +143,57 @@ abbrev pub with_shape : Result Shape Fault → (Shape → Taking) → Taking
 with_shape (Err e) k s = Err e
 with_shape (Ok x) k s = k x s
 
-abbrev pub item_by : BodyAt → ℕ → Taken → Tree → CoreForm → Role → Taking
-item_by at depth done t f role.Expression = alone (wait at depth done t)
-item_by at depth done t f role.Assignment = set_item at depth done t (shape f t at.place)
-item_by at depth done t f role.Sequence = with_shape (shape f t at.place) (begin_item at done t)
-item_by at depth done t f role.Definition = with_shape (shape f t at.place) (λ x. alone (define_item at depth done t x))
-item_by at depth done t f role.Keywords = with_shape (shape f t at.place) (keywords_item at done t f)
-item_by at depth done t f role.Record = give (done, head_items.Use (keyword_use.Record f))
-item_by at depth done t f role.RecordValue = give (done, head_items.Use (keyword_use.Record f))
-item_by at depth done t f role.Auxiliary = alone (wait at depth done t)
+-- The forms of a body, at one depth.
+module _ (at : BodyAt) (depth : ℕ) where
+  -- the target of an assignment is kept, too; an assignment to a keyword may be a use of it
+  abbrev pub target_item : Taken → Tree → Standing → Taking
+  target_item done t (standing.Keyword l) = give (done, head_items.SetUse l)
+  target_item done t x = alone (wait at depth done t)
 
-unfoldable pub core_item : BodyAt → ℕ → Taken → Tree → CoreForm → Taking
-core_item at depth done t f = item_by at depth done t f (role_of f)
+  abbrev pub set_item : Taken → Tree → Result Shape Fault → Taking
+  set_item done t (Ok (shapes.Set id value)) s = after (keep done id s) (λ kept s'. target_item kept t (standing_of s' id) s')
+  set_item done t (Ok x) s = alone (wait at depth done t) s
+  set_item done t (Err e) s = alone (wait at depth done t) s
 
-abbrev pub headed_item : BodyAt → ℕ → Taken → Tree → Standing → Taking
-headed_item at depth done t standing.Nothing = alone (wait at depth done t)
-headed_item at depth done t (standing.Variable v) = alone (wait at depth done t)
-headed_item at depth done t standing.PatternVariable = alone (wait at depth done t)
-headed_item at depth done t (standing.Primitive op) = alone (wait at depth done t)
-headed_item at depth done t (standing.Core f) = core_item at depth done t f
-headed_item at depth done t (standing.Keyword l) = give (done, head_items.Use (keyword_use.Macro l))
+  abbrev pub item_by : Taken → Tree → CoreForm → Role → Taking
+  item_by done t f role.Expression = alone (wait at depth done t)
+  item_by done t f role.Assignment = set_item done t (shape f t at.place)
+  item_by done t f role.Sequence = with_shape (shape f t at.place) (begin_item at done t)
+  item_by done t f role.Definition = with_shape (shape f t at.place) (λ x. alone (define_item at depth done t x))
+  item_by done t f role.Keywords = with_shape (shape f t at.place) (keywords_item at done t f)
+  item_by done t f role.Record = give (done, head_items.Use (keyword_use.Record f))
+  item_by done t f role.RecordValue = give (done, head_items.Use (keyword_use.Record f))
+  item_by done t f role.Auxiliary = alone (wait at depth done t)
 
-unfoldable pub list_item : BodyAt → ℕ → Taken → Tree → Tree → Taking
-list_item at depth done t head s =
-    if is_leaf head then after (keep done head s) (λ kept s'. headed_item at depth kept t (standing_of s' head) s')
-    else alone (wait at depth done t) s
+  unfoldable pub core_item : Taken → Tree → CoreForm → Taking
+  core_item done t f = item_by done t f (role_of f)
 
-abbrev pub leaf_by : BodyAt → ℕ → Taken → Tree → Standing → Taking
-leaf_by at depth done t standing.Nothing = alone (wait at depth done t)
-leaf_by at depth done t (standing.Variable v) = alone (wait at depth done t)
-leaf_by at depth done t standing.PatternVariable = alone (wait at depth done t)
-leaf_by at depth done t (standing.Primitive op) = alone (wait at depth done t)
-leaf_by at depth done t (standing.Core f) = alone (wait at depth done t)
-leaf_by at depth done t (standing.Keyword l) = give (done, head_items.Use (keyword_use.Macro l))
+  abbrev pub headed_item : Taken → Tree → Standing → Taking
+  headed_item done t standing.Nothing = alone (wait at depth done t)
+  headed_item done t (standing.Variable v) = alone (wait at depth done t)
+  headed_item done t standing.PatternVariable = alone (wait at depth done t)
+  headed_item done t (standing.Primitive op) = alone (wait at depth done t)
+  headed_item done t (standing.Core f) = core_item done t f
+  headed_item done t (standing.Keyword l) = give (done, head_items.Use (keyword_use.Macro l))
 
-unfoldable pub leaf_item : BodyAt → ℕ → Taken → Tree → Taking
-leaf_item at depth done t s = after (keep done t s) (λ kept s'. leaf_by at depth kept t (standing_of s' t) s')
+  unfoldable pub list_item : Taken → Tree → Tree → Taking
+  list_item done t head s =
+      if is_leaf head then after (keep done head s) (λ kept s'. headed_item kept t (standing_of s' head) s')
+      else alone (wait at depth done t) s
 
-abbrev pub item_plan : BodyAt → ℕ → Taken → Tree → Taking
-item_plan at depth done (atom s a) = alone (wait at depth done (atom s a))
-item_plan at depth done (leaf s x c) = leaf_item at depth done (leaf s x c)
-item_plan at depth done (pair s a d) = list_item at depth done (pair s a d) a
-item_plan at depth done (vector s d) = alone (wait at depth done (vector s d))
+  abbrev pub leaf_by : Taken → Tree → Standing → Taking
+  leaf_by done t standing.Nothing = alone (wait at depth done t)
+  leaf_by done t (standing.Variable v) = alone (wait at depth done t)
+  leaf_by done t standing.PatternVariable = alone (wait at depth done t)
+  leaf_by done t (standing.Primitive op) = alone (wait at depth done t)
+  leaf_by done t (standing.Core f) = alone (wait at depth done t)
+  leaf_by done t (standing.Keyword l) = give (done, head_items.Use (keyword_use.Macro l))
+
+  unfoldable pub leaf_item : Taken → Tree → Taking
+  leaf_item done t s = after (keep done t s) (λ kept s'. leaf_by kept t (standing_of s' t) s')
+
+  abbrev pub item_plan : Taken → Tree → Taking
+  item_plan done (atom s a) = alone (wait at depth done (atom s a))
+  item_plan done (leaf s x c) = leaf_item done (leaf s x c)
+  item_plan done (pair s a d) = list_item done (pair s a d) a
+  item_plan done (vector s d) = alone (wait at depth done (vector s d))

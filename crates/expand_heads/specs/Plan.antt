@@ -66,35 +66,7 @@ reference place level id s = refer place level id (standing_of s id) s
 abbrev pub constant : Span → Tree → Bool → Does HeadPlan
 constant place t is_nil s = if is_nil then fault_form kind.BadForm t place s else done (quoted (strip t)) s
 
--- Assignments. The target is looked at before the value.
-
-unfoldable pub target_variable : Span → ℕ → Tree → Tree → Variable → Does Label
-target_variable place level t id v s =
-    if v.own then (if nat_eq v.level level then (if is_in_scope s v then
-    (if has_label s.exports v.label then fault_word kind.AssignedExport id t place s else mark_assigned v.label s)
-    else fault_word kind.OutOfContext id id place s)
-    else fault_word kind.OutOfContext id id place s)
-    else if v.top then (if has_label s.exports v.label then fault_word kind.AssignedExport id t place s else fault_word kind.AssignedImport id t place s)
-    else fault_word kind.OutOfContext id id place s
-
-abbrev pub target_by : Span → ℕ → Tree → Tree → Standing → Does Label
-target_by place level t id standing.Nothing = fault_word kind.Unbound id t place
-target_by place level t id (standing.Variable v) = target_variable place level t id v
-target_by place level t id standing.PatternVariable = fault_word kind.KeywordMisuse id id place
-target_by place level t id (standing.Primitive op) = fault_word kind.AssignedImport id t place
-target_by place level t id (standing.Core f) = fault_word kind.KeywordMisuse id t place
-target_by place level t id (standing.Keyword l) = fault_word kind.KeywordMisuse id t place
-
-abbrev pub assign_to : Tree → Label → Does HeadPlan
-assign_to value l = planned (plans.Assignment l value)
-
--- an assignment to a variable; one to a keyword may be a use of it
-abbrev pub assign_by : Span → ℕ → Tree → Tree → Tree → Standing → Does HeadPlan
-assign_by place level t id value (standing.Keyword l) s = give (head_plans.SetUse l id) s
-assign_by place level t id value x s = after (target_by place level t id x s) (assign_to value)
-
-unfoldable pub assign : Span → ℕ → Tree → Tree → Tree → Does HeadPlan
-assign place level t id value s = assign_by place level t id value (standing_of s id) s
+-- Calls, sequences, and the binding of keywords.
 
 abbrev pub call_of : Span → Tree → Tree → Option (List Tree) → Does HeadPlan
 call_of place t operator None = fault_form kind.BadForm t place
@@ -121,61 +93,93 @@ abbrev pub keywords_plan : Span → Tree → CoreForm → List BindingSpec → L
 keywords_plan place t f bs [] = fault_form kind.NoExpression t place
 keywords_plan place t f bs (x ∷ xs) = planned (plans.Keywords (is_letrec_syntax f) bs (x ∷ xs))
 
--- `syntax`, `quasiquote` and `quasisyntax`
-abbrev pub operand_plan : Span → ℕ → Tree → CoreForm → Tree → Does HeadPlan
-operand_plan place level t core_forms.Syntax operand s = after (template_of place level operand s) (λ x. done (instance x (place_of t place)))
-operand_plan place level t core_forms.Quasiquote operand s = planned (plans.Quasi family.Quote operand) s
-operand_plan place level t core_forms.Quasisyntax operand s = planned (plans.Quasi family.Syntax operand) s
-operand_plan place level t _ operand s = fault_form kind.BadForm t place s
+-- Assignments. The target is looked at before the value.
 
--- by the shape of a core form
-unfoldable pub shape_plan : Span → ℕ → Tree → CoreForm → Shape → Does HeadPlan
-shape_plan place level t f (shapes.Quote datum) = done (quoted (strip datum))
-shape_plan place level t f (shapes.Lambda ids forms) = planned (plans.Lambda ids forms)
-shape_plan place level t f (shapes.CaseLambda cs) = planned (plans.CaseLambda cs)
-shape_plan place level t f (shapes.If test consequent other) = planned (plans.Conditional test consequent other)
-shape_plan place level t f (shapes.Set id value) = assign place level t id value
-shape_plan place level t f (shapes.Begin forms) = in_sequence place t forms
-shape_plan place level t f (shapes.Letrec bs forms) = planned (plans.Letrec (is_star f) bs forms)
-shape_plan place level t f (shapes.Define id value) = fault_form kind.DefinitionPlace t place
-shape_plan place level t f (shapes.DefineProcedure id ids forms) = fault_form kind.DefinitionPlace t place
-shape_plan place level t f (shapes.DefineSyntax id value) = fault_form kind.DefinitionPlace t place
-shape_plan place level t f (shapes.LetSyntax bs forms) = keywords_plan place t f bs forms
-shape_plan place level t f (shapes.Operand operand) = operand_plan place level t f operand
-shape_plan place level t f (shapes.SyntaxCase subject literals clauses) = planned (plans.Matching subject literals clauses (place_of t place))
+unfoldable pub target_variable : Span → ℕ → Tree → Tree → Variable → Does Label
+target_variable place level t id v s =
+    if v.own then (if nat_eq v.level level then (if is_in_scope s v then
+    (if has_label s.exports v.label then fault_word kind.AssignedExport id t place s else mark_assigned v.label s)
+    else fault_word kind.OutOfContext id id place s)
+    else fault_word kind.OutOfContext id id place s)
+    else if v.top then (if has_label s.exports v.label then fault_word kind.AssignedExport id t place s else fault_word kind.AssignedImport id t place s)
+    else fault_word kind.OutOfContext id id place s
 
-abbrev pub with_shape : Span → ℕ → Tree → CoreForm → Result Shape Fault → Does HeadPlan
-with_shape place level t f (Err e) s = Err e
-with_shape place level t f (Ok x) s = shape_plan place level t f x s
+abbrev pub target_by : Span → ℕ → Tree → Tree → Standing → Does Label
+target_by place level t id standing.Nothing = fault_word kind.Unbound id t place
+target_by place level t id (standing.Variable v) = target_variable place level t id v
+target_by place level t id standing.PatternVariable = fault_word kind.KeywordMisuse id id place
+target_by place level t id (standing.Primitive op) = fault_word kind.AssignedImport id t place
+target_by place level t id (standing.Core f) = fault_word kind.KeywordMisuse id t place
+target_by place level t id (standing.Keyword l) = fault_word kind.KeywordMisuse id t place
 
--- a definition of a record type is looked at no further where no definition may stand
-abbrev pub by_role : Span → ℕ → Tree → Tree → CoreForm → Role → Does HeadPlan
-by_role place level t head f role.Expression = with_shape place level t f (shape f t place)
-by_role place level t head f role.Assignment = with_shape place level t f (shape f t place)
-by_role place level t head f role.Sequence = with_shape place level t f (shape f t place)
-by_role place level t head f role.Definition = with_shape place level t f (shape f t place)
-by_role place level t head f role.Keywords = with_shape place level t f (shape f t place)
-by_role place level t head f role.Record = fault_form kind.DefinitionPlace t place
-by_role place level t head f role.RecordValue = give (head_plans.Use (keyword_use.Record f))
-by_role place level t head f role.Auxiliary = fault_word kind.KeywordMisuse head head place
+abbrev pub assign_to : Tree → Label → Does HeadPlan
+assign_to value l = planned (plans.Assignment l value)
 
-unfoldable pub keyword_plan : Span → ℕ → Tree → Tree → CoreForm → Does HeadPlan
-keyword_plan place level t head f = by_role place level t head f (role_of f)
+-- A form is planned at one place and level.
+module _ (place : Span) (level : ℕ) where
+  -- an assignment to a variable; one to a keyword may be a use of it
+  abbrev pub assign_by : Tree → Tree → Tree → Standing → Does HeadPlan
+  assign_by t id value (standing.Keyword l) s = give (head_plans.SetUse l id) s
+  assign_by t id value x s = after (target_by place level t id x s) (assign_to value)
 
-abbrev pub by_head : Span → ℕ → Tree → Tree → Tree → Standing → Does HeadPlan
-by_head place level t head rest standing.Nothing = application place t head rest
-by_head place level t head rest (standing.Variable v) = application place t head rest
-by_head place level t head rest standing.PatternVariable = application place t head rest
-by_head place level t head rest (standing.Primitive op) = application place t head rest
-by_head place level t head rest (standing.Core f) = keyword_plan place level t head f
-by_head place level t head rest (standing.Keyword l) = give (head_plans.Use (keyword_use.Macro l))
+  unfoldable pub assign : Tree → Tree → Tree → Does HeadPlan
+  assign t id value s = assign_by t id value (standing_of s id) s
 
--- a list with one or more elements
-unfoldable pub list_plan : Span → ℕ → Tree → Tree → Tree → Does HeadPlan
-list_plan place level t head rest s = if is_leaf head then by_head place level t head rest (standing_of s head) s else application place t head rest s
+  -- `syntax`, `quasiquote` and `quasisyntax`
+  abbrev pub operand_plan : Tree → CoreForm → Tree → Does HeadPlan
+  operand_plan t core_forms.Syntax operand s = after (template_of place level operand s) (λ x. done (instance x (place_of t place)))
+  operand_plan t core_forms.Quasiquote operand s = planned (plans.Quasi family.Quote operand) s
+  operand_plan t core_forms.Quasisyntax operand s = planned (plans.Quasi family.Syntax operand) s
+  operand_plan t _ operand s = fault_form kind.BadForm t place s
 
-abbrev pub plan_of : Span → ℕ → Tree → Does HeadPlan
-plan_of place level (atom s a) = constant place (atom s a) (is_nil_atom a)
-plan_of place level (leaf s x c) = reference place level (leaf s x c)
-plan_of place level (pair s a d) = list_plan place level (pair s a d) a d
-plan_of place level (vector s d) = fault_form kind.BadForm (vector s d) place
+  -- by the shape of a core form
+  unfoldable pub shape_plan : Tree → CoreForm → Shape → Does HeadPlan
+  shape_plan t f (shapes.Quote datum) = done (quoted (strip datum))
+  shape_plan t f (shapes.Lambda ids forms) = planned (plans.Lambda ids forms)
+  shape_plan t f (shapes.CaseLambda cs) = planned (plans.CaseLambda cs)
+  shape_plan t f (shapes.If test consequent other) = planned (plans.Conditional test consequent other)
+  shape_plan t f (shapes.Set id value) = assign t id value
+  shape_plan t f (shapes.Begin forms) = in_sequence place t forms
+  shape_plan t f (shapes.Letrec bs forms) = planned (plans.Letrec (is_star f) bs forms)
+  shape_plan t f (shapes.Define id value) = fault_form kind.DefinitionPlace t place
+  shape_plan t f (shapes.DefineProcedure id ids forms) = fault_form kind.DefinitionPlace t place
+  shape_plan t f (shapes.DefineSyntax id value) = fault_form kind.DefinitionPlace t place
+  shape_plan t f (shapes.LetSyntax bs forms) = keywords_plan place t f bs forms
+  shape_plan t f (shapes.Operand operand) = operand_plan t f operand
+  shape_plan t f (shapes.SyntaxCase subject literals clauses) = planned (plans.Matching subject literals clauses (place_of t place))
+
+  abbrev pub with_shape : Tree → CoreForm → Result Shape Fault → Does HeadPlan
+  with_shape t f (Err e) s = Err e
+  with_shape t f (Ok x) s = shape_plan t f x s
+
+  -- a definition of a record type is looked at no further where no definition may stand
+  abbrev pub by_role : Tree → Tree → CoreForm → Role → Does HeadPlan
+  by_role t head f role.Expression = with_shape t f (shape f t place)
+  by_role t head f role.Assignment = with_shape t f (shape f t place)
+  by_role t head f role.Sequence = with_shape t f (shape f t place)
+  by_role t head f role.Definition = with_shape t f (shape f t place)
+  by_role t head f role.Keywords = with_shape t f (shape f t place)
+  by_role t head f role.Record = fault_form kind.DefinitionPlace t place
+  by_role t head f role.RecordValue = give (head_plans.Use (keyword_use.Record f))
+  by_role t head f role.Auxiliary = fault_word kind.KeywordMisuse head head place
+
+  unfoldable pub keyword_plan : Tree → Tree → CoreForm → Does HeadPlan
+  keyword_plan t head f = by_role t head f (role_of f)
+
+  abbrev pub by_head : Tree → Tree → Tree → Standing → Does HeadPlan
+  by_head t head rest standing.Nothing = application place t head rest
+  by_head t head rest (standing.Variable v) = application place t head rest
+  by_head t head rest standing.PatternVariable = application place t head rest
+  by_head t head rest (standing.Primitive op) = application place t head rest
+  by_head t head rest (standing.Core f) = keyword_plan t head f
+  by_head t head rest (standing.Keyword l) = give (head_plans.Use (keyword_use.Macro l))
+
+  -- a list with one or more elements
+  unfoldable pub list_plan : Tree → Tree → Tree → Does HeadPlan
+  list_plan t head rest s = if is_leaf head then by_head t head rest (standing_of s head) s else application place t head rest s
+
+  abbrev pub plan_of : Tree → Does HeadPlan
+  plan_of (atom s a) = constant place (atom s a) (is_nil_atom a)
+  plan_of (leaf s x c) = reference place level (leaf s x c)
+  plan_of (pair s a d) = list_plan (pair s a d) a d
+  plan_of (vector s d) = fault_form kind.BadForm (vector s d) place
