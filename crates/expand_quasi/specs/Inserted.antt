@@ -86,22 +86,24 @@ match_of vs x span cs = matching (call_of list_op cs) (clauses (only_clause (ins
 abbrev pub bind_inserts : FrameNo → Span → ℕ → List PatternVariable → Does (Unit {0})
 bind_inserts frame place level vs s = after (bind_pattern frame place level vs s) (λ _. put_row dots place frame ellipsis)
 
-abbrev pub inserted_in : Span → ℕ → Tree → QuasiSyntax → List PlainCore → FrameNo → Does PlainCore
-inserted_in place level t q cs frame s =
-    after (insert_variables q.inserts s) (λ vs s'.
-    after (bind_inserts frame place level vs s') (λ _ s''.
-    after (template_of place level (stamp frame q.template) s'') (λ x. give (match_of vs x (place_of t place) cs))))
+-- The form stands at one place and level.
+module _ (place : Span) (level : ℕ) where
+  abbrev pub inserted_in : Tree → QuasiSyntax → List PlainCore → FrameNo → Does PlainCore
+  inserted_in t q cs frame s =
+      after (insert_variables q.inserts s) (λ vs s'.
+      after (bind_inserts frame place level vs s') (λ _ s''.
+      after (template_of place level (stamp frame q.template) s'') (λ x. give (match_of vs x (place_of t place) cs))))
 
--- with inserts, whose expressions have these codes: the variables have a frame, in which the template stands
-unfoldable pub inserted : Span → ℕ → Tree → QuasiSyntax → List PlainCore → Does PlainCore
-inserted place level t q cs = within (λ s. after (fresh_frame s) (inserted_in place level t q cs))
+  -- with inserts, whose expressions have these codes: the variables have a frame, in which the template stands
+  unfoldable pub inserted : Tree → QuasiSyntax → List PlainCore → Does PlainCore
+  inserted t q cs = within (λ s. after (fresh_frame s) (inserted_in t q cs))
 
-abbrev pub plain_instance : Span → ℕ → Tree → QuasiSyntax → Does PlainCore
-plain_instance place level t q s = after (template_of place level q.template s) (λ x. give (instance x (place_of t place)))
+  abbrev pub plain_instance : Tree → QuasiSyntax → Does PlainCore
+  plain_instance t q s = after (template_of place level q.template s) (λ x. give (instance x (place_of t place)))
 
-abbrev pub syntax_code : Span → ℕ → Tree → QuasiSyntax → List PlainCore → List Insert → Does PlainCore
-syntax_code place level t q cs [] = plain_instance place level t q
-syntax_code place level t q cs (i ∷ is) = inserted place level t q cs
+  abbrev pub syntax_code : Tree → QuasiSyntax → List PlainCore → List Insert → Does PlainCore
+  syntax_code t q cs [] = plain_instance t q
+  syntax_code t q cs (i ∷ is) = inserted t q cs
 
 -- how many nodes of syntax objects the code of a form with these inserts makes: its template is put in a frame once, where there are any
 abbrev pub stamps_of : List Insert → ℕ
