@@ -66,30 +66,32 @@ put_variable l v s = Ok (
   },
 )
 
-abbrev pub bind_as : FrameNo → Tree → Span → ℕ → Bool → Named → Does Label
-bind_as frame id place level top n s = after (put_row id place frame (record { 0 = n }) s)
-    (λ _ t. after (put_variable (record { 0 = n }) (variable_for id level top s.index) t)
-    (λ _. note (record { 0 = n }) (span_of id) (record { 0 = n }) link.Bind))
+-- The binders of a form stand in one frame, at its place and level.
+module _ (frame : FrameNo) (place : Span) (level : ℕ) where
+  abbrev pub bind_as : Tree → Bool → Named → Does Label
+  bind_as id top n s = after (put_row id place frame (record { 0 = n }) s)
+      (λ _ t. after (put_variable (record { 0 = n }) (variable_for id level top s.index) t)
+      (λ _. note (record { 0 = n }) (span_of id) (record { 0 = n }) link.Bind))
 
--- binds an identifier in a frame to a new variable; a second binder of one identifier is at fault
-unfoldable pub bind_variable : FrameNo → Span → ℕ → Bool → Tree → Does Label
-bind_variable frame place level top id s = if is_leaf id then after (fresh s) (bind_as frame id place level top) else fault_form kind.BadForm id place s
+  -- binds an identifier in a frame to a new variable; a second binder of one identifier is at fault
+  unfoldable pub bind_variable : Bool → Tree → Does Label
+  bind_variable top id s = if is_leaf id then after (fresh s) (bind_as id top) else fault_form kind.BadForm id place s
 
-abbrev pub bind_all : FrameNo → Span → ℕ → List Tree → Does (List Label)
-bind_all frame place level = each (bind_variable frame place level false) []
+  abbrev pub bind_all : List Tree → Does (List Label)
+  bind_all = each (bind_variable false) []
 
-abbrev pub bind_rest : FrameNo → Span → ℕ → Option Tree → Does (Option Label)
-bind_rest frame place level None s = give None s
-bind_rest frame place level (Some id) s = after (bind_variable frame place level false id s) (λ l. give (Some l))
+  abbrev pub bind_rest : Option Tree → Does (Option Label)
+  bind_rest None s = give None s
+  bind_rest (Some id) s = after (bind_variable false id s) (λ l. give (Some l))
 
--- a variable of a `letrec`, with the expression of its value
-unfoldable pub bind_spec : FrameNo → Span → ℕ → BindingSpec → Does BoundSpec
-bind_spec frame place level b s = after (bind_variable frame place level false b.id s) (λ l. give (record { label = l; init = b.init }))
+  -- a variable of a `letrec`, with the expression of its value
+  unfoldable pub bind_spec : BindingSpec → Does BoundSpec
+  bind_spec b s = after (bind_variable false b.id s) (λ l. give (record { label = l; init = b.init }))
 
-abbrev pub bind_specs : FrameNo → Span → ℕ → List BindingSpec → Does (List BoundSpec)
-bind_specs frame place level = each (bind_spec frame place level) []
+  abbrev pub bind_specs : List BindingSpec → Does (List BoundSpec)
+  bind_specs = each bind_spec []
 
--- the formals of a procedure, from left to right
-unfoldable pub bind_formals : FrameNo → Span → ℕ → FormalIds → Does Formals
-bind_formals frame place level ids s =
-    after (bind_all frame place level ids.required s) (λ ls t. after (bind_rest frame place level ids.rest t) (λ r. give (record { required = ls; rest = r })))
+  -- the formals of a procedure, from left to right
+  unfoldable pub bind_formals : FormalIds → Does Formals
+  bind_formals ids s =
+      after (bind_all ids.required s) (λ ls t. after (bind_rest ids.rest t) (λ r. give (record { required = ls; rest = r })))

@@ -113,7 +113,7 @@ impl<L: Ledger> Expansion<L> {
         top: bool,
         name: Name,
     ) -> Result<Label, Stop>
-        ensures { GivesAfter (λ l. l) result self.new (bind_as context.now.frame.now id.now context.now.place.now context.now.level top name self.old) }
+        ensures { GivesAfter (λ l. l) result self.new (bind_as context.now.frame.now context.now.place.now context.now.level id.now top name self.old) }
     {
         let label = Label(name);
         let info = self.variable_for(id, context.level, top)?;

@@ -103,7 +103,7 @@ module _ (f : FrameNo) (id : Tree) (place : Span) (level : ℕ) (top : Bool) (n 
   abbrev label : Label
   label = record { 0 = n }
 
-  bind-as-keeps : Keeps s (bind_as f id place level top n s)
+  bind-as-keeps : Keeps s (bind_as f place level id top n s)
   bind-as-keeps = by (bound s.frames f (row_for id label))
     where
       by : (r : Result Scope Bare) → Keeps s (after (row_put id place s r) (λ _ t. after (put_variable label (variable_for id level top s.index) t) (λ _. note label (span_of id) label kinds.Bind)))
@@ -117,8 +117,8 @@ pub variable-keeps : (f : FrameNo) (place : Span) (level : ℕ) (top : Bool) (id
 unfolding bind_variable fresh
 variable-keeps f place level top id s =
     let t : State = record s { names = record { library = s.names.library; number = s.names.number + 1 } } in
-    keeps-if s (is_leaf id) (bind_as f id place level top s.names t) _
-    (λ e. keeps-from s t (bind_as f id place level top s.names t) refl (bind-as-keeps f id place level top s.names t)) (λ e. tt)
+    keeps-if s (is_leaf id) (bind_as f place level id top s.names t) _
+    (λ e. keeps-from s t (bind_as f place level id top s.names t) refl (bind-as-keeps f id place level top s.names t)) (λ e. tt)
 
 pub bind-all-keeps : (f : FrameNo) (place : Span) (level : ℕ) (ids : List Tree) (s : State) → Keeps s (bind_all f place level ids s)
 bind-all-keeps f place level ids s = keeps-each (bind_variable f place level false) (λ id t. variable-keeps f place level false id t) [] ids s

@@ -233,7 +233,7 @@ stamp-found fs f (vector r d) l h e = absurd (cc)
 binder-found : (f : FrameNo) (place : Span) (level : ℕ) (top : Bool) (id : Tree) (s : State) → Gave (λ l u. stands u.frames (stamp f id) ≡ Some l) (bind_variable f place level top id s)
 unfolding bind_variable fresh
 binder-found f place level top id s =
-    gave-if (λ l u. stands u.frames (stamp f id) ≡ Some l) (is_leaf id) (after (fresh s) (bind_as f id place level top)) (fault_form kind.BadForm id place s)
+    gave-if (λ l u. stands u.frames (stamp f id) ≡ Some l) (is_leaf id) (after (fresh s) (bind_as f place level id top)) (fault_form kind.BadForm id place s)
     (λ e. by_row e (is_some (label_at s.frames f (symbol_of id) (marks_of id))) refl) (λ e. tt)
   where
     by_row : is_leaf id ≡ true → (b : Bool) → is_some (label_at s.frames f (symbol_of id) (marks_of id)) ≡ b

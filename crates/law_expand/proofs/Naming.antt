@@ -248,7 +248,7 @@ module _ (own : LibName) where
   pub binds : (f : FrameNo) (place : Span) (level : ℕ) (top : Bool) (id : Tree) (s : State) → (top ≡ true → level ≡ 0) → s.names.library ≡ own → Gave (Binds f top s) (bind_variable f place level top id s)
   unfolding bind_variable fresh
   binds f place level top id s low n =
-      gave-if (Binds f top s) (is_leaf id) (after (fresh s) (bind_as f id place level top)) (fault_form kind.BadForm id place s) (λ e. by_row (is_some (label_at s.frames f (row_for id (as_label s.names)).symbol (row_for id (as_label s.names)).marks)) refl) (λ e. tt)
+      gave-if (Binds f top s) (is_leaf id) (after (fresh s) (bind_as f place level id top)) (fault_form kind.BadForm id place s) (λ e. by_row (is_some (label_at s.frames f (row_for id (as_label s.names)).symbol (row_for id (as_label s.names)).marks)) refl) (λ e. tt)
     where
       by_row : (b : Bool) → is_some (label_at s.frames f (row_for id (as_label s.names)).symbol (row_for id (as_label s.names)).marks) ≡ b
           → Gave (Binds f top s) (after (row_put id place (counted s) (if b then Err (second_binder (symbol_of id)) else Ok (with_row s.frames f (row_for id (as_label s.names))))) (λ _ t. after (put_variable (as_label s.names) (variable_for id level top (counted s).index) t) (λ _. note (as_label s.names) (span_of id) (as_label s.names) kinds.Bind)))

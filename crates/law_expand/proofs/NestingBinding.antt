@@ -112,7 +112,7 @@ module _ (own : LibName) (f : FrameNo) (place : Span) (level : ℕ) where
   defines-leveled : (top : Bool) (id : Tree) (s : State) → Here own s → Gave (λ l t. IsDefined t.bindings level top l) (bind_variable f place level top id s)
   unfolding bind_variable fresh
   defines-leveled top id s h =
-      gave-if (λ l t. IsDefined t.bindings level top l) (is_leaf id) (after (fresh s) (bind_as f id place level top)) (fault_form kind.BadForm id place s) (λ e. by_row (is_some (label_at s.frames f (row_for id (as_label s.names)).symbol (row_for id (as_label s.names)).marks))) (λ e. tt)
+      gave-if (λ l t. IsDefined t.bindings level top l) (is_leaf id) (after (fresh s) (bind_as f place level id top)) (fault_form kind.BadForm id place s) (λ e. by_row (is_some (label_at s.frames f (row_for id (as_label s.names)).symbol (row_for id (as_label s.names)).marks))) (λ e. tt)
     where
       by_row : (b : Bool)
           → Gave (λ l t. IsDefined t.bindings level top l) (after (row_put id place (counted s) (if b then Err (second_binder (symbol_of id)) else Ok (with_row s.frames f (row_for id (as_label s.names))))) (λ _ t. after (put_variable (as_label s.names) (variable_for id level top (counted s).index) t) (λ _. note (as_label s.names) (span_of id) (as_label s.names) kinds.Bind)))

@@ -52,7 +52,7 @@ Same s a u = u.keywords ≡ s.keywords
 pub variable-same : (f : FrameNo) (place : Span) (level : ℕ) (top : Bool) (id : Tree) (s : State) → Gave (Same s) (bind_variable f place level top id s)
 unfolding bind_variable fresh
 variable-same f place level top id s =
-    gave-if (Same s) (is_leaf id) (after (fresh s) (bind_as f id place level top)) (fault_form kind.BadForm id place s) (λ e. by_row (is_some (label_at s.frames f (row_for id (as_label s.names)).symbol (row_for id (as_label s.names)).marks))) (λ e. tt)
+    gave-if (Same s) (is_leaf id) (after (fresh s) (bind_as f place level id top)) (fault_form kind.BadForm id place s) (λ e. by_row (is_some (label_at s.frames f (row_for id (as_label s.names)).symbol (row_for id (as_label s.names)).marks))) (λ e. tt)
   where
     by_row : (b : Bool)
         → Gave (Same s) (after (row_put id place (counted s) (if b then Err (second_binder (symbol_of id)) else Ok (with_row s.frames f (row_for id (as_label s.names))))) (λ _ t. after (put_variable (as_label s.names) (variable_for id level top (counted s).index) t) (λ _. note (as_label s.names) (span_of id) (as_label s.names) kinds.Bind)))

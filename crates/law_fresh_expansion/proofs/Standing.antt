@@ -216,7 +216,7 @@ module _ (own : LibName) (K : ℕ → Mark → Type 0) (J : ℕ → FrameNo → 
     tt,
   )
 
-  bind-as-holds : (frame : FrameNo) (id : Tree) (place : Span) (level : ℕ) (top : Bool) (n : Named) (s : State) → F s → T s.names.number id → Gave Taken s (bind_as frame id place level top n s)
+  bind-as-holds : (frame : FrameNo) (id : Tree) (place : Span) (level : ℕ) (top : Bool) (n : Named) (s : State) → F s → T s.names.number id → Gave Taken s (bind_as frame place level id top n s)
   bind-as-holds frame id place level top n s h k =
       gave-after Taken (Taken {A = Label}) s (put_row id place frame (record { 0 = n }) s) _ (put-row-holds id place frame (record { 0 = n }) s h k)
       (λ x t i y. gave-after Taken (Taken {A = Label}) t (put_variable (record { 0 = n }) (variable_for id level top s.index) t) (λ _. note (record { 0 = n }) (span_of id) (record { 0 = n }) kinds.Bind) (put-variable-holds (record { 0 = n }) (variable_for id level top s.index) t (state-then s t h i))
@@ -227,8 +227,8 @@ module _ (own : LibName) (K : ℕ → Mark → Type 0) (J : ℕ → FrameNo → 
   variable-holds frame place level top id s h k =
       let t : State = record s { names = record { library = s.names.library; number = s.names.number + 1 } } in
       let i = counted-holds s h in
-      gave-if Taken s (is_leaf id) (bind_as frame id place level top s.names t) _
-      (gave-from Taken s t (bind_as frame id place level top s.names t) i (bind-as-holds frame id place level top s.names t (state-then s t h i) (tree-up s.names.number (s.names.number + 1) (omega arith) id k))) tt
+      gave-if Taken s (is_leaf id) (bind_as frame place level id top s.names t) _
+      (gave-from Taken s t (bind_as frame place level id top s.names t) i (bind-as-holds frame id place level top s.names t (state-then s t h i) (tree-up s.names.number (s.names.number + 1) (omega arith) id k))) tt
 
   abbrev AllTaken : {A : Type 0} → ℕ → List A → Type 0
   AllTaken n xs = Unit {0}

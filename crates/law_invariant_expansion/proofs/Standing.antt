@@ -145,7 +145,7 @@ module _ (I : Invariant) (kept : IsKeptByExpansion I) where
   pub state-links : (s : State) (ls : List Link) → F s → F (record s { links = ls })
   state-links s ls h = record { stage = h.stage; bindings = h.bindings }
 
-  bind-as-holds : (frame : FrameNo) (id : Tree) (place : Span) (level : ℕ) (top : Bool) (n : Named) (s : State) → F s → I.symbols (symbol_of id) → Gave Taken (bind_as frame id place level top n s)
+  bind-as-holds : (frame : FrameNo) (id : Tree) (place : Span) (level : ℕ) (top : Bool) (n : Named) (s : State) → F s → I.symbols (symbol_of id) → Gave Taken (bind_as frame place level id top n s)
   bind-as-holds frame id place level top n s h named =
       gave-after Taken (Taken {A = Label}) (put_row id place frame (record { 0 = n }) s) _ (put-row-holds id place frame (record { 0 = n }) s h)
       (λ x t i y. gave-after Taken (Taken {A = Label}) (put_variable (record { 0 = n }) (variable_for id level top s.index) t) (λ _. note (record { 0 = n }) (span_of id) (record { 0 = n }) kinds.Bind) (put-variable-holds (record { 0 = n }) (variable_for id level top s.index) t i named)

@@ -51,7 +51,7 @@ module _ (f : FrameNo) (id : Tree) (place : Span) (level : ℕ) (top : Bool) (n 
   abbrev label : Label
   label = record { 0 = n }
 
-  bind-as-grew : Grew s (bind_as f id place level top n s)
+  bind-as-grew : Grew s (bind_as f place level id top n s)
   bind-as-grew = by (bound s.frames f (row_for id label)) refl
     where
       by : (r : Result Scope Bare) → bound s.frames f (row_for id label) ≡ r
@@ -67,8 +67,8 @@ pub variable-grew : (f : FrameNo) (place : Span) (level : ℕ) (top : Bool) (id 
 unfolding bind_variable fresh
 variable-grew f place level top id s =
     let t : State = record s { names = record { library = s.names.library; number = s.names.number + 1 } } in
-    grew-if s (is_leaf id) (bind_as f id place level top s.names t) _
-    (λ e. grew-from s t (bind_as f id place level top s.names t) (grows-same s t refl) (bind-as-grew f id place level top s.names t e)) (λ e. tt)
+    grew-if s (is_leaf id) (bind_as f place level id top s.names t) _
+    (λ e. grew-from s t (bind_as f place level id top s.names t) (grows-same s t refl) (bind-as-grew f id place level top s.names t e)) (λ e. tt)
 
 pub bind-all-grew : (f : FrameNo) (place : Span) (level : ℕ) (ids : List Tree) (s : State) → Grew s (bind_all f place level ids s)
 bind-all-grew f place level ids s = grew-each (bind_variable f place level false) (λ id t. variable-grew f place level false id t) [] ids s

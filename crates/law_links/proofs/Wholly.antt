@@ -94,7 +94,7 @@ module _ (f : FrameNo) (place : Span) (level : ℕ) (top : Bool) (id : Tree) (s 
 
   binder-so : Gave Linked-by (bind_variable f place level top id s)
   unfolding bind_variable fresh
-  binder-so = leaf-so (is_leaf id) (bind_as f id place level top s.names named) (fault_form kind.BadForm id place s) (bound-so (bound named.frames f (row_for id label))) tt
+  binder-so = leaf-so (is_leaf id) (bind_as f place level id top s.names named) (fault_form kind.BadForm id place s) (bound-so (bound named.frames f (row_for id label))) tt
 
 pub binders-linked : BindersAreLinked
 binders-linked f place level top id s u l p h e =

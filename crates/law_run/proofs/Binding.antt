@@ -74,7 +74,7 @@ module _ (own : LibName) where
     pub steps-variable : (top : Bool) (id : Tree) (s : State) → Names own s → Gave (St own s) (bind_variable frame place level top id s)
     unfolding bind_variable fresh
     steps-variable top id s n = gave-if (St own s) (is_leaf id) _ _
-        (λ e. steps-counted s (bind_as frame id place level top s.names (counted s))
+        (λ e. steps-counted s (bind_as frame place level id top s.names (counted s))
         (steps-after own (counted s) (put_row id place frame (as_label s.names) (counted s)) _ (steps-row id place frame (as_label s.names) (counted s) mine n)
         (λ a t m. noted-keeps (Steps own t) (span_of id) (as_label s.names) kinds.Bind _ (λ ls. stays own t _ m refl))))
         (λ e. tt)

@@ -71,7 +71,7 @@ module _ (own : LibName) (texts : List CodeNo) (rs : List CompiledLibrary) where
   pub variable-light : (f : FrameNo) (place : Span) (level : ℕ) (top : Bool) (id : Tree) (s : State) → S s → Sure (L s) (bind_variable f place level top id s)
   unfolding bind_variable fresh
   variable-light f place level top id s h =
-      sure-if (L s) (is_leaf id) (after (fresh s) (bind_as f id place level top)) (fault_form kind.BadForm id place s)
+      sure-if (L s) (is_leaf id) (after (fresh s) (bind_as f place level id top)) (fault_form kind.BadForm id place s)
       (λ e. by (is_some (label_at s.frames f (row_for id (as_label s.names)).symbol (row_for id (as_label s.names)).marks))) (λ e. tt)
     where
       by : (b : Bool)
