@@ -6,11 +6,11 @@ use Rattle.expand_heads.specs.declared.taken.Taken.{Taken}
 use Rattle.law_references.specs.Noted.{KeywordExpression}
 
 -- the place of a form without a span, and its level (R6RS 7.2), which is 0 at run time
-pub record FormAt : Type 0 where
+pub record FormPlace : Type 0 where
   pub place : Span
   pub level : ℕ
 
-abbrev pub placed : Span → ℕ → FormAt
+abbrev pub placed : Span → ℕ → FormPlace
 placed place level = record { place = place; level = level }
 
 -- the state before an expansion, the state that it leaves, and what is noted of it

@@ -59,7 +59,7 @@ use Rattle.expand_forms.specs.Forms.{ProcedureForm, procedure_parts, LetSyntaxFo
 use Rattle.expand_forms.specs.declared.expand_uses.PlannedForm.{PlannedForm}
 use Rattle.expand_forms.specs.declared.expand_uses.PlannedItem.{PlannedItem}
 use Rattle.law_expand.specs.Named.{RefersTo}
-use Rattle.law_references.specs.Changes.{FormAt, placed, StateChange, between, BodyChange, body_change}
+use Rattle.law_references.specs.Changes.{FormPlace, placed, StateChange, between, BodyChange, body_change}
 use Rattle.law_references.specs.Namings.{namings}
 use Rattle.law_references.specs.Noted.{Reference, KeywordExpression, Noted, nothing, only, of_references, of_keywords, both, NotedLine, lines, of_body}
 use Rattle.law_references.specs.Parts.{expressions_of}
@@ -69,7 +69,7 @@ use Rattle.law_references.specs.Templates.{IsTemplateOf}
 abbrev pub counted : State → State
 counted s = record s { names = record { library = s.names.library; number = s.names.number + 1 } }
 
-module _ (at : FormAt) (t : Tree) where
+module _ (at : FormPlace) (t : Tree) where
   -- The code of a quasi form, whose expressions have these codes. A template with inserts stands in a frame of its own, in which the inserts are pattern variables.
   pub data QuasiCodes : QuasiForm → List PlainCore → PlainCore → StateChange Noted → Type 0 where
     quotes : {q : PlainQuasi} {cs : List PlainCore} {s : State}
@@ -87,135 +87,135 @@ module _ (at : FormAt) (t : Tree) where
 module _ (rs : List CompiledLibrary) where
   mutual
     -- a form, at a place and a level: uses of keywords give other forms in its place until it is no use
-    pub data Expands : FormAt → Tree → PlainCore → StateChange Noted → Type 0 where
-      settles : {at : FormAt} {t : Tree} {s v u : State} {d : PlannedForm} {c : PlainCore} {refs : Noted}
+    pub data Expands : FormPlace → Tree → PlainCore → StateChange Noted → Type 0 where
+      settles : {at : FormPlace} {t : Tree} {s v u : State} {d : PlannedForm} {c : PlainCore} {refs : Noted}
           → expand_uses rs at.place at.level t s ≡ Ok (d, v) → Performs (placed d.place at.level) d.form d.plan c (between v u refs) → Expands at t c (between s u refs)
 
     -- what is to be done with a form
-    pub data Performs : FormAt → Tree → Plan → PlainCore → StateChange Noted → Type 0 where
-      refers : {at : FormAt} {t : Tree} {s : State} {l : Label} {c : PlainCore}
+    pub data Performs : FormPlace → Tree → Plan → PlainCore → StateChange Noted → Type 0 where
+      refers : {at : FormPlace} {t : Tree} {s : State} {l : Label} {c : PlainCore}
           → is_leaf t ≡ true → stands s.frames t ≡ Some l → RefersTo s (Some l) c
           → Performs at t (plans.Done c) c (between s s (only (record { leaf = t; state = s; label = l; code = c })))
       -- constants and data name nothing
-      is_done : {at : FormAt} {t : Tree} {s : State} {c : PlainCore}
+      is_done : {at : FormPlace} {t : Tree} {s : State} {c : PlainCore}
           → is_leaf t ≡ false → namings c ≡ [] → Performs at t (plans.Done c) c (between s s nothing)
       -- each pattern variable of a template was an identifier that stands for it
-      is_template : {at : FormAt} {t operand : Tree} {s : State} {x : PlainTemplate} {refs : List Reference}
+      is_template : {at : FormPlace} {t operand : Tree} {s : State} {x : PlainTemplate} {refs : List Reference}
           → shape core_forms.Syntax t at.place ≡ Ok (shapes.Operand operand) → template_of at.place at.level operand s ≡ Ok (x, s)
           → IsTemplateOf s at operand x refs
           → Performs at t (plans.Done (instance x (place_of t at.place))) (instance x (place_of t at.place)) (between s s (of_references refs))
-      calls : {at : FormAt} {t operator : Tree} {operands : List Tree} {s v u : State} {c : PlainCore} {cs : List PlainCore} {refs more : Noted}
+      calls : {at : FormPlace} {t operator : Tree} {operands : List Tree} {s v u : State} {c : PlainCore} {cs : List PlainCore} {refs more : Noted}
           → Expands at operator c (between s v refs) → Expand at operands cs (between v u more)
           → Performs at t (plans.Call operator operands) (call c (cores cs)) (between s u (both refs more))
-      tests : {at : FormAt} {t test consequent : Tree} {s v u : State} {c d : PlainCore} {refs more : Noted}
+      tests : {at : FormPlace} {t test consequent : Tree} {s v u : State} {c d : PlainCore} {refs more : Noted}
           → Expands at test c (between s v refs) → Expands at consequent d (between v u more)
           → Performs at t (plans.Conditional test consequent None) (one_armed c d) (between s u (both refs more))
-      chooses : {at : FormAt} {t test consequent other : Tree} {s v w u : State} {c d e : PlainCore} {refs more last : Noted}
+      chooses : {at : FormPlace} {t test consequent other : Tree} {s v w u : State} {c d e : PlainCore} {refs more last : Noted}
           → Expands at test c (between s v refs) → Expands at consequent d (between v w more) → Expands at other e (between w u last)
           → Performs at t (plans.Conditional test consequent (Some other)) (two_armed c d e) (between s u (both refs (both more last)))
-      assigns : {at : FormAt} {t id value : Tree} {s u : State} {l : Label} {c : PlainCore} {refs : Noted}
+      assigns : {at : FormPlace} {t id value : Tree} {s u : State} {l : Label} {c : PlainCore} {refs : Noted}
           → shape core_forms.Set t at.place ≡ Ok (shapes.Set id value) → stands s.frames id ≡ Some l → Expands at value c (between s u refs)
           → Performs at t (plans.Assignment l value) (assignment l c) (between s u (both (only (record { leaf = id; state = s; label = l; code = variable l })) refs))
-      follows : {at : FormAt} {t : Tree} {forms : List Tree} {s u : State} {cs : List PlainCore} {refs : Noted}
+      follows : {at : FormPlace} {t : Tree} {forms : List Tree} {s u : State} {cs : List PlainCore} {refs : Noted}
           → Expand at forms cs (between s u refs) → Performs at t (plans.Sequence forms) (sequence_of cs) (between s u refs)
       -- the number of the code is the next name, and the next one is that of the frame of the formals
-      makes : {at : FormAt} {t : Tree} {ids : FormalIds} {forms : List Tree} {s u : State} {c : Lambda} {refs : Noted}
+      makes : {at : FormPlace} {t : Tree} {ids : FormalIds} {forms : List Tree} {s u : State} {c : Lambda} {refs : Noted}
           → CaseBinds at (procedure_parts t ids forms) c (between (counted s) u refs)
           → Performs at t (plans.Lambda ids forms) (procedure (record { 0 = s.names }) (cases (c ∷ [])) true) (between s u refs)
-      makes_cases : {at : FormAt} {t : Tree} {xs : List LambdaCase} {s u : State} {cs : List Lambda} {refs : Noted}
+      makes_cases : {at : FormPlace} {t : Tree} {xs : List LambdaCase} {s u : State} {cs : List Lambda} {refs : Noted}
           → ExpandedBind at t xs cs (between (counted s) u refs)
           → Performs at t (plans.CaseLambda xs) (procedure (record { 0 = s.names }) (cases cs) false) (between s u refs)
       -- all variables are bound in one frame, which is stamped on their expressions and on the body
-      binds_all : {at : FormAt} {t : Tree} {star : Bool} {bs : List BindingSpec} {forms : List Tree} {s v w u : State}
+      binds_all : {at : FormPlace} {t : Tree} {star : Bool} {bs : List BindingSpec} {forms : List Tree} {s v w u : State}
           {ls : List BoundSpec} {is : List Init} {c : PlainCore} {refs more : Noted}
           → bind_specs (record { 0 = s.names }) at.place at.level bs (counted s) ≡ Ok (ls, v) → ExpansionStart at (record { 0 = s.names }) ls is (between v w refs)
           → IsBody at t (map (stamp (record { 0 = s.names })) forms) c (between w u more)
           → Performs at t (plans.Letrec star bs forms) (letrec star (inits is) c) (between s (cut (length s.scope) u) (both refs more))
-      matches_one : {at : FormAt} {t subject : Tree} {literals : List Tree} {xs : List PatternCase} {span : Span}
+      matches_one : {at : FormPlace} {t subject : Tree} {literals : List Tree} {xs : List PatternCase} {span : Span}
           {s v w u : State} {c : PlainCore} {cs : List Clause} {x : Unit {0}} {refs more : Noted}
           → Expands at subject c (between s v refs) → check_literals at.place literals v ≡ Ok (x, w) → Match at literals xs cs (between w u more)
           → Performs at t (plans.Matching subject literals xs span) (matching c (clauses cs) span) (between s u (both refs more))
       -- the keywords are bound, and their expressions expanded and evaluated, before the forms
-      has_keywords : {at : FormAt} {t : Tree} {recursive : Bool} {bs : List BindingSpec} {forms stamped : List Tree}
+      has_keywords : {at : FormPlace} {t : Tree} {recursive : Bool} {bs : List BindingSpec} {forms stamped : List Tree}
           {s v u : State} {es : List KeywordExpression} {cs : List PlainCore} {refs : Noted}
           → BindsKeywords at (let_syntax_parts recursive bs forms) stamped (between s v es) → Expand at stamped cs (between v u refs)
           → Performs at t (plans.Keywords recursive bs forms) (sequence_of cs) (between s u (both (of_keywords es) refs))
       -- all variables in the code are those of the expressions in the form, and all pattern variables behind them those of the template
-      fills : {at : FormAt} {t template : Tree} {which : Family} {s v w u : State} {q : QuasiForm} {c : PlainCore}
+      fills : {at : FormPlace} {t template : Tree} {which : Family} {s v w u : State} {q : QuasiForm} {c : PlainCore}
           {cs : List PlainCore} {refs others : Noted}
           → quasi.form_of at.place t which template s ≡ Ok (q, v) → Expand at (expressions_of q) cs (between v w refs) → QuasiCodes at t q cs c (between w u others)
           → Performs at t (plans.Quasi which template) c (between s u (both refs others))
 
     -- forms, one after another
-    pub data Expand : FormAt → List Tree → List PlainCore → StateChange Noted → Type 0 where
-      none : {at : FormAt} {s : State} → Expand at [] [] (between s s nothing)
-      more : {at : FormAt} {t : Tree} {ts : List Tree} {s v u : State} {c : PlainCore} {cs : List PlainCore} {refs others : Noted}
+    pub data Expand : FormPlace → List Tree → List PlainCore → StateChange Noted → Type 0 where
+      none : {at : FormPlace} {s : State} → Expand at [] [] (between s s nothing)
+      more : {at : FormPlace} {t : Tree} {ts : List Tree} {s v u : State} {c : PlainCore} {cs : List PlainCore} {refs others : Noted}
           → Expands at t c (between s v refs) → Expand at ts cs (between v u others) → Expand at (t ∷ ts) (c ∷ cs) (between s u (both refs others))
 
     -- a case of a procedure: its formals are bound in a new frame, which is stamped on its body
-    pub data CaseBinds : FormAt → ProcedureForm → Lambda → StateChange Noted → Type 0 where
-      binds_formals : {at : FormAt} {t : Tree} {ids : FormalIds} {forms : List Tree} {s v u : State} {formals : Formals}
+    pub data CaseBinds : FormPlace → ProcedureForm → Lambda → StateChange Noted → Type 0 where
+      binds_formals : {at : FormPlace} {t : Tree} {ids : FormalIds} {forms : List Tree} {s v u : State} {formals : Formals}
           {c : PlainCore} {refs : Noted}
           → bind_formals (record { 0 = s.names }) at.place at.level ids (counted s) ≡ Ok (formals, v)
           → IsBody at t (map (stamp (record { 0 = s.names })) forms) c (between v u refs)
           → CaseBinds at (procedure_parts t ids forms) (record { formals = formals; body = c }) (between s (cut (length s.scope) u) refs)
 
-    pub data ExpandedBind : FormAt → Tree → List LambdaCase → List Lambda → StateChange Noted → Type 0 where
-      no_case : {at : FormAt} {t : Tree} {s : State} → ExpandedBind at t [] [] (between s s nothing)
-      case : {at : FormAt} {t : Tree} {x : LambdaCase} {xs : List LambdaCase} {s v u : State} {c : Lambda} {cs : List Lambda} {refs others : Noted}
+    pub data ExpandedBind : FormPlace → Tree → List LambdaCase → List Lambda → StateChange Noted → Type 0 where
+      no_case : {at : FormPlace} {t : Tree} {s : State} → ExpandedBind at t [] [] (between s s nothing)
+      case : {at : FormPlace} {t : Tree} {x : LambdaCase} {xs : List LambdaCase} {s v u : State} {c : Lambda} {cs : List Lambda} {refs others : Noted}
           → CaseBinds at (procedure_parts t x.formals x.body) c (between s v refs) → ExpandedBind at t xs cs (between v u others)
           → ExpandedBind at t (x ∷ xs) (c ∷ cs) (between s u (both refs others))
 
     -- the expression of a variable
-    pub data Starts : FormAt → FrameNo → BoundSpec → Init → StateChange Noted → Type 0 where
-      starts_with : {at : FormAt} {f : FrameNo} {b : BoundSpec} {s u : State} {c : PlainCore} {refs : Noted}
+    pub data Starts : FormPlace → FrameNo → BoundSpec → Init → StateChange Noted → Type 0 where
+      starts_with : {at : FormPlace} {f : FrameNo} {b : BoundSpec} {s u : State} {c : PlainCore} {refs : Noted}
           → Expands at (stamp f b.init) c (between s u refs) → Starts at f b (record { label = b.label; value = c }) (between s u refs)
 
-    pub data ExpansionStart : FormAt → FrameNo → List BoundSpec → List Init → StateChange Noted → Type 0 where
-      no_init : {at : FormAt} {f : FrameNo} {s : State} → ExpansionStart at f [] [] (between s s nothing)
-      init : {at : FormAt} {f : FrameNo} {b : BoundSpec} {bs : List BoundSpec} {s v u : State} {i : Init} {is : List Init} {refs others : Noted}
+    pub data ExpansionStart : FormPlace → FrameNo → List BoundSpec → List Init → StateChange Noted → Type 0 where
+      no_init : {at : FormPlace} {f : FrameNo} {s : State} → ExpansionStart at f [] [] (between s s nothing)
+      init : {at : FormPlace} {f : FrameNo} {b : BoundSpec} {bs : List BoundSpec} {s v u : State} {i : Init} {is : List Init} {refs others : Noted}
           → Starts at f b i (between s v refs) → ExpansionStart at f bs is (between v u others)
           → ExpansionStart at f (b ∷ bs) (i ∷ is) (between s u (both refs others))
 
     -- a clause of `syntax-case`: the variables of its pattern have a frame, which is stamped on its fender and its output
-    pub data ExpandsClause : FormAt → List Tree → PatternCase → Clause → StateChange Noted → Type 0 where
-      matches_pattern : {at : FormAt} {literals : List Tree} {x : PatternCase} {s v w y u : State} {p : Compiled} {e : Unit {0}}
+    pub data ExpandsClause : FormPlace → List Tree → PatternCase → Clause → StateChange Noted → Type 0 where
+      matches_pattern : {at : FormPlace} {literals : List Tree} {x : PatternCase} {s v w y u : State} {p : Compiled} {e : Unit {0}}
           {o : Option PlainCore} {c : PlainCore} {refs others : Noted}
           → pattern_of literals at.place x.pattern (counted s) ≡ Ok (p, v) → bind_pattern (record { 0 = s.names }) at.place at.level p.variables v ≡ Ok (e, w)
           → Asks at (record { 0 = s.names }) x.fender o (between w y refs) → Expands at (stamp (record { 0 = s.names }) x.output) c (between y u others)
           → ExpandsClause at literals x (record { pattern = p.pattern; fender = o; output = c }) (between s (cut (length s.scope) u) (both refs others))
 
-    pub data Match : FormAt → List Tree → List PatternCase → List Clause → StateChange Noted → Type 0 where
-      no_clause : {at : FormAt} {literals : List Tree} {s : State} → Match at literals [] [] (between s s nothing)
-      clause : {at : FormAt} {literals : List Tree} {x : PatternCase} {xs : List PatternCase} {s v u : State} {c : Clause}
+    pub data Match : FormPlace → List Tree → List PatternCase → List Clause → StateChange Noted → Type 0 where
+      no_clause : {at : FormPlace} {literals : List Tree} {s : State} → Match at literals [] [] (between s s nothing)
+      clause : {at : FormPlace} {literals : List Tree} {x : PatternCase} {xs : List PatternCase} {s v u : State} {c : Clause}
           {cs : List Clause} {refs others : Noted}
           → ExpandsClause at literals x c (between s v refs) → Match at literals xs cs (between v u others)
           → Match at literals (x ∷ xs) (c ∷ cs) (between s u (both refs others))
 
     -- a fender
-    pub data Asks : FormAt → FrameNo → Option Tree → Option PlainCore → StateChange Noted → Type 0 where
-      asks_nothing : {at : FormAt} {f : FrameNo} {s : State} → Asks at f None None (between s s nothing)
-      asks_first : {at : FormAt} {f : FrameNo} {t : Tree} {s u : State} {c : PlainCore} {refs : Noted}
+    pub data Asks : FormPlace → FrameNo → Option Tree → Option PlainCore → StateChange Noted → Type 0 where
+      asks_nothing : {at : FormPlace} {f : FrameNo} {s : State} → Asks at f None None (between s s nothing)
+      asks_first : {at : FormPlace} {f : FrameNo} {t : Tree} {s u : State} {c : PlainCore} {refs : Noted}
           → Expands at (stamp f t) c (between s u refs) → Asks at f (Some t) (Some c) (between s u refs)
 
     -- The expression of a keyword is expanded one level up, with nothing in scope, and then evaluated and kept. The keywords that it binds itself come first.
-    pub data KeywordMeans : FormAt → BoundSpec → StateChange (List KeywordExpression) → Type 0 where
-      means : {at : FormAt} {b : BoundSpec} {s v u : State} {c : PlainCore} {x : Unit {0}} {refs : Noted}
+    pub data KeywordMeans : FormPlace → BoundSpec → StateChange (List KeywordExpression) → Type 0 where
+      means : {at : FormPlace} {b : BoundSpec} {s v u : State} {c : PlainCore} {x : Unit {0}} {refs : Noted}
           → Expands (placed at.place (at.level + 1)) b.init c (between (record s { scope = [] }) v refs)
           → evaluate_transformer rs (place_of b.init at.place) b.label c (record v { scope = s.scope }) ≡ Ok (x, u)
           → KeywordMeans at b (between s u (refs.expressions ++ record { keyword = b.label; code = c; references = refs.references; state = v } ∷ []))
 
     -- one after another; those of `letrec-syntax` see the keywords
-    pub data Mean : FormAt → Bool → FrameNo → List BoundSpec → StateChange (List KeywordExpression) → Type 0 where
-      no_keyword : {at : FormAt} {recursive : Bool} {f : FrameNo} {s : State} → Mean at recursive f [] (between s s [])
-      keyword : {at : FormAt} {recursive : Bool} {f : FrameNo} {b : BoundSpec} {bs : List BoundSpec} {s v u : State}
+    pub data Mean : FormPlace → Bool → FrameNo → List BoundSpec → StateChange (List KeywordExpression) → Type 0 where
+      no_keyword : {at : FormPlace} {recursive : Bool} {f : FrameNo} {s : State} → Mean at recursive f [] (between s s [])
+      keyword : {at : FormPlace} {recursive : Bool} {f : FrameNo} {b : BoundSpec} {bs : List BoundSpec} {s v u : State}
           {es others : List KeywordExpression}
           → KeywordMeans at (seen_in recursive f b) (between s v es) → Mean at recursive f bs (between v u others)
           → Mean at recursive f (b ∷ bs) (between s u (es ++ others))
 
     -- All keywords of `let-syntax` or `letrec-syntax` are bound in one frame, which is stamped on the forms.
-    pub data BindsKeywords : FormAt → LetSyntaxForm → List Tree → StateChange (List KeywordExpression) → Type 0 where
-      binds_keywords : {at : FormAt} {recursive : Bool} {bs : List BindingSpec} {forms : List Tree} {s v u : State}
+    pub data BindsKeywords : FormPlace → LetSyntaxForm → List Tree → StateChange (List KeywordExpression) → Type 0 where
+      binds_keywords : {at : FormPlace} {recursive : Bool} {bs : List BindingSpec} {forms : List Tree} {s v u : State}
           {xs : List BoundSpec} {es : List KeywordExpression}
           → bind_keywords (record { 0 = s.names }) at.place at.level bs (counted s) ≡ Ok (xs, v) → Mean at recursive (record { 0 = s.names }) xs (between v u es)
           → BindsKeywords at (let_syntax_parts recursive bs forms) (map (stamp (record { 0 = s.names })) forms) (between s u es)
@@ -244,8 +244,8 @@ module _ (rs : List CompiledLibrary) where
           → TakesForm at depth t (body_change done s after v es) → Take at depth ts (body_change after v end u others) → Take at depth (t ∷ ts) (body_change done s end u (es ++ others))
 
     -- A body: its frame is stamped on its forms, of which the first pass takes what waits for the second.
-    pub data IsBody : FormAt → Tree → List Tree → PlainCore → StateChange Noted → Type 0 where
-      is_body : {at : FormAt} {t : Tree} {forms : List Tree} {s v u : State} {d : Taken} {es : List KeywordExpression} {xs : List NotedLine}
+    pub data IsBody : FormPlace → Tree → List Tree → PlainCore → StateChange Noted → Type 0 where
+      is_body : {at : FormPlace} {t : Tree} {forms : List Tree} {s v u : State} {d : Taken} {es : List KeywordExpression} {xs : List NotedLine}
           → (depth : ℕ) → Take (lambda_at (record { 0 = s.names }) at.place at.level) depth (map (stamp (record { 0 = s.names })) forms) (body_change begun (counted s) d v es)
           → Finish at.level d.waiting v xs u → IsBody at t forms (body_core (lines xs)) (between s (cut (length s.scope) u) (of_body es xs))
 
@@ -255,13 +255,13 @@ module _ (rs : List CompiledLibrary) where
           → Ends (placed w.place level) w.what s x v → Finish level ws v xs u → Finish level (w ∷ ws) s (x ∷ xs) u
 
     -- what waits, at a place, becomes a line
-    pub data Ends : FormAt → Waits → State → NotedLine → State → Type 0 where
-      declares : {at : FormAt} {s : State} {l : Label}
+    pub data Ends : FormPlace → Waits → State → NotedLine → State → Type 0 where
+      declares : {at : FormPlace} {s : State} {l : Label}
           → Ends at (waits.Variable l None) s (record { line = line.Define l no_value; noted = nothing }) s
-      defines : {at : FormAt} {t : Tree} {s u : State} {l : Label} {c : PlainCore} {refs : Noted}
+      defines : {at : FormPlace} {t : Tree} {s u : State} {l : Label} {c : PlainCore} {refs : Noted}
           → Expands at t c (between s u refs) → Ends at (waits.Variable l (Some t)) s (record { line = line.Define l c; noted = refs }) u
-      defines_procedure : {at : FormAt} {t : Tree} {ids : FormalIds} {forms : List Tree} {s u : State} {l : Label} {c : Lambda} {refs : Noted}
+      defines_procedure : {at : FormPlace} {t : Tree} {ids : FormalIds} {forms : List Tree} {s u : State} {l : Label} {c : Lambda} {refs : Noted}
           → CaseBinds at (procedure_parts t ids forms) c (between (counted s) u refs)
           → Ends at (waits.Procedure l t ids forms) s (record { line = line.Define l (procedure (record { 0 = s.names }) (cases (c ∷ [])) true); noted = refs }) u
-      is_expression : {at : FormAt} {t : Tree} {s u : State} {c : PlainCore} {refs : Noted}
+      is_expression : {at : FormPlace} {t : Tree} {s u : State} {c : PlainCore} {refs : Noted}
           → Expands at t c (between s u refs) → Ends at (waits.Expression t) s (record { line = line.Expr c; noted = refs }) u

@@ -16,7 +16,7 @@ use Rattle.eval_pattern.specs.Keywords.{is_ellipsis}
 use Rattle.core_shapes.specs.Lists.{is_nil}
 use Rattle.expand_standing.specs.State.{State}
 use Rattle.eval_template.specs.Compile.{is_special}
-use Rattle.law_references.specs.Changes.{FormAt}
+use Rattle.law_references.specs.Changes.{FormPlace}
 use Rattle.law_references.specs.Namings.{template_namings}
 use Rattle.law_references.specs.Noted.{Reference, named}
 
@@ -121,7 +121,7 @@ pub record IsPatternVariable (s : State) (place : Span) (level : ℕ) (r : Refer
 
 -- A template of a form: its pattern variables are those that these leaves of the form stand for, which are all that stand for one of the level, in the order in
 -- which they stand there, and all other identifiers in it are identifiers of the form as they are.
-pub record IsTemplateOf (s : State) (at : FormAt) (t : Tree) (x : PlainTemplate) (refs : List Reference) : Type 0 where
+pub record IsTemplateOf (s : State) (at : FormPlace) (t : Tree) (x : PlainTemplate) (refs : List Reference) : Type 0 where
   pub are : refs ≡ variables_in s at.place at.level false t
   pub all : template_namings x ≡ named refs
   pub variables : Each (IsPatternVariable s at.place at.level) refs
