@@ -190,18 +190,18 @@ module _ (w : PlainSetting) where
     unfolding tried
     tried-none scope s n = refl
 
-    passed : (cs : PlainClauses) (scope : Place) (s : WorldState) (n : ℕ) (t : WorldState) (m : ℕ) → ArePassed w v scope cs s n t m → tried w E cs v scope s n ≡ faulted no_match t m
-    passed _ scope _ _ _ _ (c.none_is_left {s} {n}) = tried-none scope s n
-    passed _ scope _ _ _ _ (c.no_match {p} {output} {cs} {s} {t} {n} {m} e rest) =
-        tried-one p output cs scope s n ∙ ap (λ o. on_match w E (tried w E cs v) (output_given w E output scope) scope s n o) e ∙ passed cs scope s n t m rest
-    passed _ scope _ _ _ _ (c.no_match_before {p} {fender} {output} {cs} {s} {t} {n} {m} e rest) =
-        tried-fended p fender output cs scope s n ∙ ap (λ o. on_match w E (tried w E cs v) (fender_asked w E (tried w E cs v) fender output scope) scope s n o) e ∙ passed cs scope s n t m rest
-    passed _ scope _ _ _ _ (c.false_fender {p} {fender} {output} {cs} {f} {s} {r} {t} {n} {k} {m} e le false-is rest) =
+    passed : (scope : Place) (cs : PlainClauses) (s : WorldState) (n : ℕ) (t : WorldState) (m : ℕ) → ArePassed w v scope cs s n t m → tried w E cs v scope s n ≡ faulted no_match t m
+    passed scope _ _ _ _ _ (c.none_is_left {s} {n}) = tried-none scope s n
+    passed scope _ _ _ _ _ (c.no_match {p} {output} {cs} {s} {t} {n} {m} e rest) =
+        tried-one p output cs scope s n ∙ ap (λ o. on_match w E (tried w E cs v) (output_given w E output scope) scope s n o) e ∙ passed scope cs s n t m rest
+    passed scope _ _ _ _ _ (c.no_match_before {p} {fender} {output} {cs} {s} {t} {n} {m} e rest) =
+        tried-fended p fender output cs scope s n ∙ ap (λ o. on_match w E (tried w E cs v) (fender_asked w E (tried w E cs v) fender output scope) scope s n o) e ∙ passed scope cs s n t m rest
+    passed scope _ _ _ _ _ (c.false_fender {p} {fender} {output} {cs} {f} {s} {r} {t} {n} {k} {m} e le false-is rest) =
         tried-fended p fender output cs scope s n
         ∙ ap (λ o. on_match w E (tried w E cs v) (fender_asked w E (tried w E cs v) fender output scope) scope s n o) e
         ∙ charged_paid s (fender_asked w E (tried w E cs v) fender output scope f s) f.taken n le
         ∙ ap (λ o. then_do o (fender_passed w E (tried w E cs v) output scope (next_place s))) false-is
-        ∙ passed cs scope r k t m rest
+        ∙ passed scope cs r k t m rest
 
 pub causes-are-faults : CausesAreFaults
 causes-are-faults = record {
@@ -213,5 +213,5 @@ causes-are-faults = record {
   applications = λ w args s n f h. bad-apply w args s n f h;
   primitives = λ w op args s n f other text le h. refused-call w op args s n f other text le h;
   templates = λ w t span scope s n bs f g e. eval_of_is w (instance t span) scope s (suc n) ∙ template-fault w t scope s n bs f g e;
-  clauses = λ w e cs span scope v s r t n k m d h. eval_of_is w (matching e cs span) scope s (suc n) ∙ ap (λ o. then_do o (λ u. tried w (eval_of w) cs u scope)) d ∙ passed w v cs scope r k t m h;
+  clauses = λ w e cs span scope v s r t n k m d h. eval_of_is w (matching e cs span) scope s (suc n) ∙ ap (λ o. then_do o (λ u. tried w (eval_of w) cs u scope)) d ∙ passed w v scope cs r k t m h;
 }
