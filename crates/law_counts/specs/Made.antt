@@ -38,7 +38,8 @@ module _ {rs : List CompiledLibrary} where
     pub made : {place : Span} {level : ℕ} {t : Tree} {s u : State} {c : PlainCore} {x : Noted} → Expands rs (placed place level) t c (between s u x) → ℕ
     made (settles {s = s} {v = v} e h) = (s.uses_left - v.uses_left) + made_of h
 
-    pub made_of : {place : Span} {level : ℕ} {t : Tree} {p : Plan} {s u : State} {c : PlainCore} {x : Noted} → Performs rs (placed place level) t p c (between s u x) → ℕ
+    pub made_of : {place : Span} {level : ℕ} {t : Tree} {p : Plan} {s u : State} {c : PlainCore} {x : Noted}
+        → Performs rs (placed place level) t p c (between s u x) → ℕ
     made_of (refers a e r) = 0
     made_of (is_done a b) = 0
     made_of (is_template a b h) = 0
@@ -54,7 +55,8 @@ module _ {rs : List CompiledLibrary} where
     made_of (has_keywords h g) = scope_made h + all_made g
     made_of (fills e h g) = all_made h
 
-    pub all_made : {place : Span} {level : ℕ} {ts : List Tree} {s u : State} {cs : List PlainCore} {x : Noted} → Expand rs (placed place level) ts cs (between s u x) → ℕ
+    pub all_made : {place : Span} {level : ℕ} {ts : List Tree} {s u : State} {cs : List PlainCore} {x : Noted}
+        → Expand rs (placed place level) ts cs (between s u x) → ℕ
     all_made derivation.none = 0
     all_made (derivation.more h g) = made h + all_made g
 
@@ -90,7 +92,8 @@ module _ {rs : List CompiledLibrary} where
     fender_made derivation.asks_nothing = 0
     fender_made (derivation.asks_first h) = made h
 
-    pub keyword_made : {place : Span} {level : ℕ} {b : BoundSpec} {s u : State} {es : List KeywordExpression} → KeywordMeans rs (placed place level) b (between s u es) → ℕ
+    pub keyword_made : {place : Span} {level : ℕ} {b : BoundSpec} {s u : State} {es : List KeywordExpression}
+        → KeywordMeans rs (placed place level) b (between s u es) → ℕ
     keyword_made (means h e) = made h
 
     pub keywords_made : {place : Span} {level : ℕ} {recursive : Bool} {f : FrameNo} {bs : List BoundSpec} {s u : State} {es : List KeywordExpression}

@@ -62,7 +62,8 @@ module _ (s : State) (place : Span) (level : ℕ) where
         → TellsFault kind.OutOfContext id place (symbol_of id ∷ []) f → IsBadTarget form id f
     exported_target : {v : Variable} → standing_of s id ≡ standing.Variable v → IsVisible s level v → IsAmongForms v.label s.exports
         → TellsFault kind.AssignedExport form place (symbol_of id ∷ []) f → IsBadTarget form id f
-    imported_target : {v : Variable} → standing_of s id ≡ standing.Variable v → v.own ≡ false → v.top ≡ true → (IsAmongForms v.label s.exports → ⊥) → TellsFault kind.AssignedImport form place (symbol_of id ∷ []) f
+    imported_target : {v : Variable} → standing_of s id ≡ standing.Variable v → v.own ≡ false → v.top ≡ true → (IsAmongForms v.label s.exports → ⊥)
+        → TellsFault kind.AssignedImport form place (symbol_of id ∷ []) f
         → IsBadTarget form id f
 
 -- `(set! id value)`: the head stands for the keyword, and the form has its shape

@@ -69,7 +69,8 @@ module _ (w : PlainSetting) (f : Value) where
   -- Each call until one answers true ends, with a value or at a fault, whatever cells were added before it.
   abbrev pub SearchEnds : List Value → WorldState → Type 0
   SearchEnds [] s = Unit {0}
-  SearchEnds (x ∷ xs) s = (t : WorldState) → LaterWorld s t → (r : End) × (u : WorldState) × CallEnds w (call_to f (x ∷ [])) t r u × AfterFalse r (SearchEnds xs u)
+  SearchEnds (x ∷ xs) s = (t : WorldState) → LaterWorld s t
+      → (r : End) × (u : WorldState) × CallEnds w (call_to f (x ∷ [])) t r u × AfterFalse r (SearchEnds xs u)
 
   -- A fold from the left: each call is on what the one before it gave and the next value.
   pub data FoldLeft : Value → List Value → WorldState → Value → WorldState → Type 0 where
@@ -79,7 +80,8 @@ module _ (w : PlainSetting) (f : Value) where
 
   abbrev pub FoldLeftGives : Value → List Value → WorldState → Type 0
   FoldLeftGives z [] s = Unit {0}
-  FoldLeftGives z (x ∷ xs) s = (t : WorldState) → LaterWorld s t → (y : Value) × (u : WorldState) × Calls w (call_to f (z ∷ x ∷ [])) t y u × FoldLeftGives y xs u
+  FoldLeftGives z (x ∷ xs) s = (t : WorldState) → LaterWorld s t
+      → (y : Value) × (u : WorldState) × Calls w (call_to f (z ∷ x ∷ [])) t y u × FoldLeftGives y xs u
 
   -- A fold from the right: the call on the last value comes first.
   pub data FoldRight (z : Value) : List Value → WorldState → Value → WorldState → Type 0 where
@@ -125,7 +127,8 @@ module _ (w : PlainSetting) (f : Value) where
 
   -- Calls in their order, of which the last ends at a fault.
   pub data Stops : List Value → WorldState → Bare → WorldState → Type 0 where
-    stops_here : {x : Value} {xs : List Value} {e : Bare} {s t u : WorldState} → LaterWorld s t → CallEnds w (call_to f (x ∷ [])) t (Err e) u → Stops (x ∷ xs) s e u
+    stops_here : {x : Value} {xs : List Value} {e : Bare} {s t u : WorldState} → LaterWorld s t → CallEnds w (call_to f (x ∷ [])) t (Err e) u
+        → Stops (x ∷ xs) s e u
     stops_behind : {x y : Value} {xs : List Value} {e : Bare} {s t u v : WorldState} → LaterWorld s t → Calls w (call_to f (x ∷ [])) t y u
         → Stops xs u e v → Stops (x ∷ xs) s e v
 

@@ -32,7 +32,8 @@ module _ (w : PlainSetting) (f : Value) where
   -- Each of these calls ends, with a value or at a fault, whatever cells were added before it.
   abbrev pub AllEnd : List (List Value) → WorldState → Type 0
   AllEnd [] s = Unit {0}
-  AllEnd (row ∷ rows) s = (t : WorldState) → LaterWorld s t → (r : End) × (u : WorldState) × CallEnds w (call_to f row) t r u × AfterValue r (λ _. AllEnd rows u)
+  AllEnd (row ∷ rows) s = (t : WorldState) → LaterWorld s t
+      → (r : End) × (u : WorldState) × CallEnds w (call_to f row) t r u × AfterValue r (λ _. AllEnd rows u)
 
   -- Each of them gives a value.
   abbrev pub AllGive : List (List Value) → WorldState → Type 0
@@ -100,7 +101,8 @@ module _ (w : PlainSetting) (f : Value) where
 
   abbrev pub FoldLeftGives : Value → List (List Value) → WorldState → Type 0
   FoldLeftGives z [] s = Unit {0}
-  FoldLeftGives z (row ∷ rows) s = (t : WorldState) → LaterWorld s t → (y : Value) × (u : WorldState) × Calls w (call_to f (z ∷ row)) t y u × FoldLeftGives y rows u
+  FoldLeftGives z (row ∷ rows) s = (t : WorldState) → LaterWorld s t
+      → (y : Value) × (u : WorldState) × Calls w (call_to f (z ∷ row)) t y u × FoldLeftGives y rows u
 
   -- A fold from the right: the call on the last row comes first, and each is on its row and what the one before it gave.
   pub data FoldRightByRows (z : Value) : List (List Value) → WorldState → End → WorldState → Type 0 where

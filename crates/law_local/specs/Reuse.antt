@@ -134,7 +134,8 @@ module _ (base : RunBase) where
             → LibraryTurns (row ∷ rows) records store (all_turned (flag ∷ flags) result left)
         fault : {row : List ℕ × Found} {rows : Libraries} {records : List CompiledLibrary} {store : Paths} {f : Fault}
             → (quiet ≡ true → stored_for records store row.1 ≡ None)
-            → expand_behind base records row.1 (library_body row.1.opened.«data») ≡ Err f → LibraryTurns (row ∷ rows) records store (all_turned [] (Err f) store)
+            → expand_behind base records row.1 (library_body row.1.opened.«data») ≡ Err f
+            → LibraryTurns (row ∷ rows) records store (all_turned [] (Err f) store)
 
     -- the turns over some store
     pub record HasTurns (rows : Libraries) (records : List CompiledLibrary) (store : Paths) : Type 0 where

@@ -89,7 +89,8 @@ module _ (rs : List CompiledLibrary) where
     -- a form, at a place and a level: uses of keywords give other forms in its place until it is no use
     pub data Expands : FormPlace → Tree → PlainCore → StateChange Noted → Type 0 where
       settles : {at : FormPlace} {t : Tree} {s v u : State} {d : PlannedForm} {c : PlainCore} {refs : Noted}
-          → expand_uses rs at.place at.level t s ≡ Ok (d, v) → Performs (placed d.place at.level) d.form d.plan c (between v u refs) → Expands at t c (between s u refs)
+          → expand_uses rs at.place at.level t s ≡ Ok (d, v) → Performs (placed d.place at.level) d.form d.plan c (between v u refs)
+          → Expands at t c (between s u refs)
 
     -- what is to be done with a form
     pub data Performs : FormPlace → Tree → Plan → PlainCore → StateChange Noted → Type 0 where
@@ -115,7 +116,8 @@ module _ (rs : List CompiledLibrary) where
           → Performs at t (plans.Conditional test consequent (Some other)) (two_armed c d e) (between s u (both refs (both more last)))
       assigns : {at : FormPlace} {t id value : Tree} {s u : State} {l : Label} {c : PlainCore} {refs : Noted}
           → shape core_forms.Set t at.place ≡ Ok (shapes.Set id value) → stands s.frames id ≡ Some l → Expands at value c (between s u refs)
-          → Performs at t (plans.Assignment l value) (assignment l c) (between s u (both (only (record { leaf = id; state = s; label = l; code = variable l })) refs))
+          → Performs at t (plans.Assignment l value) (assignment l c)
+          (between s u (both (only (record { leaf = id; state = s; label = l; code = variable l })) refs))
       follows : {at : FormPlace} {t : Tree} {forms : List Tree} {s u : State} {cs : List PlainCore} {refs : Noted}
           → Expand at forms cs (between s u refs) → Performs at t (plans.Sequence forms) (sequence_of cs) (between s u refs)
       -- the number of the code is the next name, and the next one is that of the frame of the formals
@@ -128,7 +130,8 @@ module _ (rs : List CompiledLibrary) where
       -- all variables are bound in one frame, which is stamped on their expressions and on the body
       binds_all : {at : FormPlace} {t : Tree} {star : Bool} {bs : List BindingSpec} {forms : List Tree} {s v w u : State}
           {ls : List BoundSpec} {is : List Init} {c : PlainCore} {refs more : Noted}
-          → bind_specs (record { 0 = s.names }) at.place at.level bs (counted s) ≡ Ok (ls, v) → ExpansionStart at (record { 0 = s.names }) ls is (between v w refs)
+          → bind_specs (record { 0 = s.names }) at.place at.level bs (counted s) ≡ Ok (ls, v)
+          → ExpansionStart at (record { 0 = s.names }) ls is (between v w refs)
           → IsBody at t (map (stamp (record { 0 = s.names })) forms) c (between w u more)
           → Performs at t (plans.Letrec star bs forms) (letrec star (inits is) c) (between s (cut (length s.scope) u) (both refs more))
       matches_one : {at : FormPlace} {t subject : Tree} {literals : List Tree} {xs : List PatternCase} {span : Span}
@@ -143,7 +146,8 @@ module _ (rs : List CompiledLibrary) where
       -- all variables in the code are those of the expressions in the form, and all pattern variables behind them those of the template
       fills : {at : FormPlace} {t template : Tree} {which : Family} {s v w u : State} {q : QuasiForm} {c : PlainCore}
           {cs : List PlainCore} {refs others : Noted}
-          → quasi.form_of at.place t which template s ≡ Ok (q, v) → Expand at (expressions_of q) cs (between v w refs) → QuasiCodes at t q cs c (between w u others)
+          → quasi.form_of at.place t which template s ≡ Ok (q, v) → Expand at (expressions_of q) cs (between v w refs)
+          → QuasiCodes at t q cs c (between w u others)
           → Performs at t (plans.Quasi which template) c (between s u (both refs others))
 
     -- forms, one after another
@@ -217,7 +221,8 @@ module _ (rs : List CompiledLibrary) where
     pub data BindsKeywords : FormPlace → LetSyntaxForm → List Tree → StateChange (List KeywordExpression) → Type 0 where
       binds_keywords : {at : FormPlace} {recursive : Bool} {bs : List BindingSpec} {forms : List Tree} {s v u : State}
           {xs : List BoundSpec} {es : List KeywordExpression}
-          → bind_keywords (record { 0 = s.names }) at.place at.level bs (counted s) ≡ Ok (xs, v) → Mean at recursive (record { 0 = s.names }) xs (between v u es)
+          → bind_keywords (record { 0 = s.names }) at.place at.level bs (counted s) ≡ Ok (xs, v)
+          → Mean at recursive (record { 0 = s.names }) xs (between v u es)
           → BindsKeywords at (let_syntax_parts recursive bs forms) (map (stamp (record { 0 = s.names })) forms) (between s u es)
 
     -- a form of a body, in the first pass: uses of keywords give other forms in its place until it is no use
@@ -232,21 +237,26 @@ module _ (rs : List CompiledLibrary) where
       takes_forms : {at : BodyAt} {depth : ℕ} {done end : Taken} {t : Tree} {forms : List Tree} {s u : State} {es : List KeywordExpression}
           → Take at (deeper depth) forms (body_change done s end u es) → Acts at depth t (items.Forms forms) (body_change done s end u es)
       defines_keyword : {at : BodyAt} {depth : ℕ} {done : Taken} {t : Tree} {b : BindingSpec} {x : BoundSpec} {s v u : State} {es : List KeywordExpression}
-          → define_keyword at done t b s ≡ Ok (x, v) → KeywordMeans (placed at.place at.level) x (between v u es) → Acts at depth t (items.Keyword b) (body_change done s done u es)
+          → define_keyword at done t b s ≡ Ok (x, v) → KeywordMeans (placed at.place at.level) x (between v u es)
+          → Acts at depth t (items.Keyword b) (body_change done s done u es)
       takes_among : {at : BodyAt} {depth : ℕ} {done end : Taken} {t : Tree} {recursive : Bool} {bs : List BindingSpec}
           {forms stamped : List Tree} {s v u : State} {es others : List KeywordExpression}
-          → BindsKeywords (placed at.place at.level) (let_syntax_parts recursive bs forms) stamped (between s v es) → Take at (deeper depth) stamped (body_change done v end u others)
+          → BindsKeywords (placed at.place at.level) (let_syntax_parts recursive bs forms) stamped (between s v es)
+          → Take at (deeper depth) stamped (body_change done v end u others)
           → Acts at depth t (items.Keywords recursive bs forms) (body_change done s end u (es ++ others))
 
     pub data Take : BodyAt → ℕ → List Tree → BodyChange → Type 0 where
       none_taken : {at : BodyAt} {depth : ℕ} {done : Taken} {s : State} → Take at depth [] (body_change done s done s [])
       more_taken : {at : BodyAt} {depth : ℕ} {done after end : Taken} {t : Tree} {ts : List Tree} {s v u : State} {es others : List KeywordExpression}
-          → TakesForm at depth t (body_change done s after v es) → Take at depth ts (body_change after v end u others) → Take at depth (t ∷ ts) (body_change done s end u (es ++ others))
+          → TakesForm at depth t (body_change done s after v es) → Take at depth ts (body_change after v end u others)
+          → Take at depth (t ∷ ts) (body_change done s end u (es ++ others))
 
     -- A body: its frame is stamped on its forms, of which the first pass takes what waits for the second.
     pub data IsBody : FormPlace → Tree → List Tree → PlainCore → StateChange Noted → Type 0 where
       is_body : {at : FormPlace} {t : Tree} {forms : List Tree} {s v u : State} {d : Taken} {es : List KeywordExpression} {xs : List NotedLine}
-          → (depth : ℕ) → Take (lambda_at (record { 0 = s.names }) at.place at.level) depth (map (stamp (record { 0 = s.names })) forms) (body_change begun (counted s) d v es)
+          → (depth : ℕ)
+          → Take (lambda_at (record { 0 = s.names }) at.place at.level) depth (map (stamp (record { 0 = s.names })) forms)
+          (body_change begun (counted s) d v es)
           → Finish at.level d.waiting v xs u → IsBody at t forms (body_core (lines xs)) (between s (cut (length s.scope) u) (of_body es xs))
 
     pub data Finish : ℕ → List Waiting → State → List NotedLine → State → Type 0 where
@@ -262,6 +272,7 @@ module _ (rs : List CompiledLibrary) where
           → Expands at t c (between s u refs) → Ends at (waits.Variable l (Some t)) s (record { line = line.Define l c; noted = refs }) u
       defines_procedure : {at : FormPlace} {t : Tree} {ids : FormalIds} {forms : List Tree} {s u : State} {l : Label} {c : Lambda} {refs : Noted}
           → CaseBinds at (procedure_parts t ids forms) c (between (counted s) u refs)
-          → Ends at (waits.Procedure l t ids forms) s (record { line = line.Define l (procedure (record { 0 = s.names }) (cases (c ∷ [])) true); noted = refs }) u
+          → Ends at (waits.Procedure l t ids forms) s
+          (record { line = line.Define l (procedure (record { 0 = s.names }) (cases (c ∷ [])) true); noted = refs }) u
       is_expression : {at : FormPlace} {t : Tree} {s u : State} {c : PlainCore} {refs : Noted}
           → Expands at t c (between s u refs) → Ends at (waits.Expression t) s (record { line = line.Expr c; noted = refs }) u

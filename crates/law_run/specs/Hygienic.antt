@@ -48,7 +48,8 @@ FormsWereRead = (place : Span) (body : List PlainDatum) (forms : List Tree) → 
 module _ (prelude : Result Codes Fault) where
   -- A library is expanded behind these records: what its imports name is known, the forms of its body are trees; and the references of its record
   -- are those of identifiers of this expansion, each of which names what it stood for, and both sentences of hygiene hold of it.
-  pub record IsHygienicBehind (records : List CompiledLibrary) (path : List ℕ) (form : LibraryForm) (body : List PlainDatum) (r : CompiledLibrary) : Type 0 where
+  pub record IsHygienicBehind (records : List CompiledLibrary) (path : List ℕ) (form : LibraryForm)
+      (body : List PlainDatum) (r : CompiledLibrary) : Type 0 where
     pub names : Labelled
     pub named : form_names records form.imports ≡ Ok names
     pub forms : List Tree

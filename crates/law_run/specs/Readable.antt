@@ -35,18 +35,21 @@ RunsAreReadable = (files : Paths) (roots : List (List ℕ)) (path : List ℕ) (f
 abbrev pub ConstantsAreRead : Type 0
 ConstantsAreRead = (files : Paths) (roots : List (List ℕ)) (path : List ℕ) (found : Found) (s : Loading) (records : List CompiledLibrary)
     (program : CompiledLibrary)
-    → IsRun (run_inputs prelude_table files roots path) found s records program → Each (λ l. Each CanBeRead (constants (line_core l))) (run_lines records program)
+    → IsRun (run_inputs prelude_table files roots path) found s records program
+    → Each (λ l. Each CanBeRead (constants (line_core l))) (run_lines records program)
 
 -- And the whole text is.
 abbrev pub TextsAreReadBack : Type 0
 TextsAreReadBack = (files : Paths) (roots : List (List ℕ)) (path : List ℕ) (found : Found) (s : Loading) (records : List CompiledLibrary)
     (program : CompiledLibrary) (text : List ℕ)
-    → GivesText (run_inputs prelude_table files roots path) found s records program text → IsTextReadBack (run_names records program) (run_lines records program) text
+    → GivesText (run_inputs prelude_table files roots path) found s records program text
+    → IsTextReadBack (run_names records program) (run_lines records program) text
 
 -- Two such runs with one text have the same lines but for their variables, of which the text tells the names.
 abbrev pub TextsTellTheirLines : Type 0
 TextsTellTheirLines = (files files' : Paths) (roots roots' : List (List ℕ)) (path path' : List ℕ) (found found' : Found) (s s' : Loading)
     (records records' : List CompiledLibrary) (program program' : CompiledLibrary) (text : List ℕ)
-    → GivesText (run_inputs prelude_table files roots path) found s records program text → GivesText (run_inputs prelude_table files' roots' path') found' s' records' program' text
+    → GivesText (run_inputs prelude_table files roots path) found s records program text
+    → GivesText (run_inputs prelude_table files' roots' path') found' s' records' program' text
     → map (line_by_names (run_names records program)) (run_lines records program)
     ≡ map (line_by_names (run_names records' program')) (run_lines records' program')
