@@ -33,7 +33,7 @@ use Rattle.eval_code.specs.Meaning.{eval_of, applied, tried, on_match, output_gi
 use Rattle.eval_code.specs.Procedures.{has_text}
 use Rattle.eval_code.specs.Setting.{PlainSetting}
 use Rattle.eval_code.specs.State.{WorldState, charged, next_place}
-use Rattle.law_given.specs.Calls.{End, Ends, Gives, Calls}
+use Rattle.law_given.specs.Calls.{End, Ends, Gives, call_to, Calls}
 use Rattle.law_given.proofs.Calling.{plain-called}
 use Rattle.law_given.proofs.Giving.{ends-same, ends-then, ends-charged, ends-step, Evaluates, Operands, operand, primitive-is, call-is}
 use Rattle.expand_quasi.specs.Filled.{call_of}
@@ -46,7 +46,7 @@ unfolding delta row_answer gathered_made primitive_of
 list_answer cells frames xs = ap (λ b. if b && true then or_refused names.LIST (Some (made.List xs nil)) else Err (wrong_count (length xs))) (le-leb 0 (length xs) (omega arith))
 
 module _ (w : PlainSetting) (scope : Place) where
-  list_called : (vs : List Value) (t : WorldState) → Calls w (value.Prim list_op) vs t (pairs_stored vs (nil, t.cells)).0 (with_list vs t)
+  list_called : (vs : List Value) (t : WorldState) → Calls w (call_to (value.Prim list_op) vs) t (pairs_stored vs (nil, t.cells)).0 (with_list vs t)
   unfolding has_text
   list_called vs t = plain-called w list_op vs t (made.List vs nil) refl refl refl (list_answer t.cells w.frames vs)
 
