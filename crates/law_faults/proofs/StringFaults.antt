@@ -181,8 +181,8 @@ module _ (file : List ℕ) (quote : ℕ) where
   BadRest at bytes f = BadBehind NextElement (BadElement file quote) at bytes f
 
   string_step : (k : ℕ) (out bytes : List ℕ) (at : ℕ) (f : Fault) (r : Result Decoded Fault) → length bytes < suc k → slice_index bytes 0 ≢ 0x22
-      → ((longer rest : List ℕ) (place : ℕ) → length rest < k → string_from k file quote longer rest place ≡ Err f → BadRest place rest f)
-      → Part bytes at r → (r >>= λ p. string_from k file quote (out ++ char_text p.char) (drop p.size bytes) (at + p.size)) ≡ Err f → BadRest at bytes f
+      → ((longer rest : List ℕ) (place : ℕ) → length rest < k → string_from file quote k longer rest place ≡ Err f → BadRest place rest f)
+      → Part bytes at r → (r >>= λ p. string_from file quote k (out ++ char_text p.char) (drop p.size bytes) (at + p.size)) ≡ Err f → BadRest at bytes f
   string_step k out bytes at f (Err g) enough inside further tells given =
       let same : g ≡ f = cc in
       behind.here at bytes f (subst (λ (h : Fault). BadElement file quote at bytes h) same tells)
@@ -192,27 +192,27 @@ module _ (file : List ℕ) (quote : ℕ) where
       behind.more at p.size bytes f (NextElement.element bytes p.char p.size inside tells) rest
 
   string_test : (k : ℕ) (out bytes : List ℕ) (at : ℕ) (f : Fault) (t : Bool) → length bytes < suc k → slice_index bytes 0 == 0x22 ≡ t
-      → ((longer rest : List ℕ) (place : ℕ) → length rest < k → string_from k file quote longer rest place ≡ Err f → BadRest place rest f)
-      → cond t (Ok (string_lexeme out quote (at + 1))) (string_part file quote bytes at >>= λ p. string_from k file quote (out ++ char_text p.char) (drop p.size bytes) (at + p.size)) ≡ Err f
+      → ((longer rest : List ℕ) (place : ℕ) → length rest < k → string_from file quote k longer rest place ≡ Err f → BadRest place rest f)
+      → cond t (Ok (string_lexeme out quote (at + 1))) (string_part file quote bytes at >>= λ p. string_from file quote k (out ++ char_text p.char) (drop p.size bytes) (at + p.size)) ≡ Err f
       → BadRest at bytes f
   string_test k out bytes at f true enough first further given = absurd (cc)
   string_test k out bytes at f false enough first further given =
       let inside = differs (slice_index bytes 0) 0x22 first in
       string_step k out bytes at f (string_part file quote bytes at) enough inside further (part_tells bytes at inside) given
 
-  string_blamed : (k : ℕ) (out bytes : List ℕ) (at : ℕ) (f : Fault) → length bytes < k → string_from k file quote out bytes at ≡ Err f → BadRest at bytes f
+  string_blamed : (k : ℕ) (out bytes : List ℕ) (at : ℕ) (f : Fault) → length bytes < k → string_from file quote k out bytes at ≡ Err f → BadRest at bytes f
   unfolding string_from
   string_blamed zero out bytes at f enough given = absurd (omega arith)
   string_blamed (suc k) out bytes at f enough given =
       string_test k out bytes at f (slice_index bytes 0 == 0x22) enough refl (λ longer rest place fewer e. string_blamed k longer rest place f fewer e) given
 
-  stops_here : (bytes out : List ℕ) (k at : ℕ) (f : Fault) → length bytes < k → BadElement file quote at bytes f → string_from k file quote out bytes at ≡ Err f
+  stops_here : (bytes out : List ℕ) (k at : ℕ) (f : Fault) → length bytes < k → BadElement file quote at bytes f → string_from file quote k out bytes at ≡ Err f
   unfolding string_from
   stops_here bytes out zero at f enough bad = absurd (omega arith)
   stops_here bytes out (suc k) at f enough bad = rw (bad_goes_on at bytes f bad, element_refused at bytes f bad) refl
 
   stops_later : (bytes out : List ℕ) (k at size : ℕ) (char : Option ℕ) (f : Fault) → length bytes < k → slice_index bytes 0 ≢ 0x22 → StringElement bytes char size
-      → ((longer : List ℕ) (j : ℕ) → length (drop size bytes) < j → string_from j file quote longer (drop size bytes) (at + size) ≡ Err f) → string_from k file quote out bytes at ≡ Err f
+      → ((longer : List ℕ) (j : ℕ) → length (drop size bytes) < j → string_from file quote j longer (drop size bytes) (at + size) ≡ Err f) → string_from file quote k out bytes at ≡ Err f
   unfolding string_from
   stops_later bytes out zero at size char f enough inside element further = absurd (omega arith)
   stops_later bytes out (suc k) at size char f enough inside element further =
@@ -221,11 +221,11 @@ module _ (file : List ℕ) (quote : ℕ) where
       (further (out ++ char_text char) k (omega (arith, left.0, left.1, length-drop size bytes)))
 
   after_element : (at size : ℕ) (bytes : List ℕ) (f : Fault) → NextElement bytes size
-      → ((longer : List ℕ) (j : ℕ) → length (drop size bytes) < j → string_from j file quote longer (drop size bytes) (at + size) ≡ Err f)
-      → (out : List ℕ) (k : ℕ) → length bytes < k → string_from k file quote out bytes at ≡ Err f
+      → ((longer : List ℕ) (j : ℕ) → length (drop size bytes) < j → string_from file quote j longer (drop size bytes) (at + size) ≡ Err f)
+      → (out : List ℕ) (k : ℕ) → length bytes < k → string_from file quote k out bytes at ≡ Err f
   after_element at _ _ f (NextElement.element bytes char size inside element) further out k enough = stops_later bytes out k at size char f enough inside element further
 
-  string_refused : (at : ℕ) (bytes : List ℕ) (f : Fault) → BadRest at bytes f → (out : List ℕ) (k : ℕ) → length bytes < k → string_from k file quote out bytes at ≡ Err f
+  string_refused : (at : ℕ) (bytes : List ℕ) (f : Fault) → BadRest at bytes f → (out : List ℕ) (k : ℕ) → length bytes < k → string_from file quote k out bytes at ≡ Err f
   string_refused _ _ _ (behind.here at bytes f bad) out k enough = stops_here bytes out k at f enough bad
   string_refused _ _ _ (behind.more at size bytes f part rest) out k enough =
       after_element at size bytes f part (λ longer j fewer. string_refused (at + size) (drop size bytes) f rest longer j fewer) out k enough

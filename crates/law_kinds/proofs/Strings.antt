@@ -46,12 +46,12 @@ part file quote bytes at =
     r-if (slice_index bytes 0 == 0x5C) _ _ (escaped file quote bytes at (simple_escape (slice_index bytes 1)))
     (r-if (line_end bytes == 0) _ _ (character file quote at (characters bytes)) tt)
 
-from : (k : ℕ) (file : List ℕ) (quote : ℕ) (out bytes : List ℕ) (at : ℕ) → Tells IsOfReading (string_from k file quote out bytes at)
+from : (k : ℕ) (file : List ℕ) (quote : ℕ) (out bytes : List ℕ) (at : ℕ) → Tells IsOfReading (string_from file quote k out bytes at)
 unfolding string_from
 from zero file quote out bytes at = tt
 from (suc k) file quote out bytes at =
     r-if (slice_index bytes 0 == 0x22) _ _ tt
-    (r-then (string_part file quote bytes at) (λ p. string_from k file quote (out ++ char_text p.char) (drop p.size bytes) (at + p.size)) (part file quote bytes at)
+    (r-then (string_part file quote bytes at) (λ p. string_from file quote k (out ++ char_text p.char) (drop p.size bytes) (at + p.size)) (part file quote bytes at)
     (λ p. from k file quote (out ++ char_text p.char) (drop p.size bytes) (at + p.size)))
 
 pub tells-string : (file bytes : List ℕ) (at : ℕ) → Tells IsOfReading (string_at file bytes at)

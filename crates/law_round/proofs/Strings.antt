@@ -112,19 +112,19 @@ character_part c h =
 module _ (file : List ℕ) (quote : ℕ) where
   -- from here a string goes on to this lexeme
   record Goes (out bytes : List ℕ) (at : ℕ) (l : Lexeme) : Type 0 where
-    same : (k : ℕ) → length bytes < k → string_from k file quote out bytes at ≡ Ok l
+    same : (k : ℕ) → length bytes < k → string_from file quote k out bytes at ≡ Ok l
 
   goes_end : (out rest : List ℕ) (at : ℕ) → Goes out (0x22 ∷ rest) at (string_lexeme out quote (at + 1))
   unfolding string_from
   goes_end out rest at = record { same = turn } where
-    turn : (k : ℕ) → length (0x22 ∷ rest) < k → string_from k file quote out (0x22 ∷ rest) at ≡ Ok (string_lexeme out quote (at + 1))
+    turn : (k : ℕ) → length (0x22 ∷ rest) < k → string_from file quote k out (0x22 ∷ rest) at ≡ Ok (string_lexeme out quote (at + 1))
     turn zero few = absurd (omega arith)
     turn (suc k) few = refl
 
   goes_on : (w : List ℕ) (c : ℕ) (out rest : List ℕ) (at : ℕ) (l : Lexeme) → IsPart w c → Goes (out ++ encode_utf8 c) rest (at + length w) l → Goes out (w ++ rest) at l
   unfolding string_from
   goes_on w c out rest at l p others = record { same = turn } where
-    turn : (k : ℕ) → length (w ++ rest) < k → string_from k file quote out (w ++ rest) at ≡ Ok l
+    turn : (k : ℕ) → length (w ++ rest) < k → string_from file quote k out (w ++ rest) at ≡ Ok l
     turn zero few = absurd (omega arith)
     turn (suc k) few = rw (p.other rest, p.part file rest quote at, drop-append_seam w rest, others.same k (omega (arith, p.some, length-append w rest))) refl
 

@@ -105,12 +105,12 @@ text_utf8 : (o : Option ℕ) → IsChar o → IsUtf8 (char_text o)
 text_utf8 None h = IsUtf8-nil
 text_utf8 (Some c) h = IsUtf8-encode c h
 
-string_from_good : (k : ℕ) (file : List ℕ) (quote : ℕ) (out bytes : List ℕ) (at : ℕ) → IsUtf8 out → GoodLexeme (string_from k file quote out bytes at)
+string_from_good : (k : ℕ) (file : List ℕ) (quote : ℕ) (out bytes : List ℕ) (at : ℕ) → IsUtf8 out → GoodLexeme (string_from file quote k out bytes at)
 unfolding string_from
 string_from_good zero file quote out bytes at h = tt
 string_from_good (suc k) file quote out bytes at h =
     branch GoodLexeme (slice_index bytes 0 == 0x22) (λ _. h)
-    (λ _. bind (λ p. IsChar p.char) (λ l. IsGood l.token) (string_part file quote bytes at) (λ p. string_from k file quote (out ++ char_text p.char) (drop p.size bytes) (at + p.size)) (part_good file quote bytes at)
+    (λ _. bind (λ p. IsChar p.char) (λ l. IsGood l.token) (string_part file quote bytes at) (λ p. string_from file quote k (out ++ char_text p.char) (drop p.size bytes) (at + p.size)) (part_good file quote bytes at)
     (λ p q. string_from_good k file quote (out ++ char_text p.char) (drop p.size bytes) (at + p.size) (IsUtf8-append out (char_text p.char) h (text_utf8 p.char q))))
 
 string_good : (file bytes : List ℕ) (from : ℕ) → GoodLexeme (string_at file bytes from)

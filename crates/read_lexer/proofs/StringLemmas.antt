@@ -243,8 +243,8 @@ module _ (file : List ℕ) (quote : ℕ) where
   ElementsTo out bytes at l = (n : ℕ) × (text : List ℕ) × (string_lexeme (out ++ text) quote (at + n) ≡ l) × StringElements bytes n text
 
   string_step : (k : ℕ) (out bytes : List ℕ) (at : ℕ) (l : Lexeme) (r : Result Decoded Fault) → length bytes < suc k → slice_index bytes 0 ≢ 0x22
-      → ((longer rest : List ℕ) (here : ℕ) → length rest < k → string_from k file quote longer rest here ≡ Ok l → ElementsTo longer rest here l)
-      → string_part file quote bytes at ≡ r → (r >>= λ p. string_from k file quote (out ++ char_text p.char) (drop p.size bytes) (at + p.size)) ≡ Ok l → ElementsTo out bytes at l
+      → ((longer rest : List ℕ) (here : ℕ) → length rest < k → string_from file quote k longer rest here ≡ Ok l → ElementsTo longer rest here l)
+      → string_part file quote bytes at ≡ r → (r >>= λ p. string_from file quote k (out ++ char_text p.char) (drop p.size bytes) (at + p.size)) ≡ Ok l → ElementsTo out bytes at l
   string_step k out bytes at l (Err f) enough first further is given = absurd (cc)
   string_step k out bytes at l (Ok p) enough first further is given =
       let element = part_sound bytes at p is in
@@ -255,28 +255,28 @@ module _ (file : List ℕ) (quote : ℕ) where
       (p.size + r.0, char_text p.char ++ r.1, rw (text, size) r.2, StringElements.more bytes r.1 p.char p.size r.0 first element r.3)
 
   string_test : (k : ℕ) (out bytes : List ℕ) (at : ℕ) (l : Lexeme) (t : Bool) → length bytes < suc k → slice_index bytes 0 == 0x22 ≡ t
-      → ((longer rest : List ℕ) (here : ℕ) → length rest < k → string_from k file quote longer rest here ≡ Ok l → ElementsTo longer rest here l)
-      → cond t (Ok (string_lexeme out quote (at + 1))) (string_part file quote bytes at >>= λ p. string_from k file quote (out ++ char_text p.char) (drop p.size bytes) (at + p.size)) ≡ Ok l
+      → ((longer rest : List ℕ) (here : ℕ) → length rest < k → string_from file quote k longer rest here ≡ Ok l → ElementsTo longer rest here l)
+      → cond t (Ok (string_lexeme out quote (at + 1))) (string_part file quote bytes at >>= λ p. string_from file quote k (out ++ char_text p.char) (drop p.size bytes) (at + p.size)) ≡ Ok l
       → ElementsTo out bytes at l
   string_test k out bytes at l true enough first further given =
       (1, [], rw (append-nil out) (lexeme_same (string_lexeme out quote (at + 1)) l given), StringElements.close bytes (eqb-true (slice_index bytes 0) 0x22 first))
   string_test k out bytes at l false enough first further given =
       string_step k out bytes at l (string_part file quote bytes at) enough (differs (slice_index bytes 0) 0x22 first) further refl given
 
-  string_sound : (k : ℕ) (out bytes : List ℕ) (at : ℕ) (l : Lexeme) → length bytes < k → string_from k file quote out bytes at ≡ Ok l → ElementsTo out bytes at l
+  string_sound : (k : ℕ) (out bytes : List ℕ) (at : ℕ) (l : Lexeme) → length bytes < k → string_from file quote k out bytes at ≡ Ok l → ElementsTo out bytes at l
   unfolding string_from
   string_sound zero out bytes at l enough given = absurd (omega arith)
   string_sound (suc k) out bytes at l enough given =
       string_test k out bytes at l (slice_index bytes 0 == 0x22) enough refl (λ longer rest here fewer e. string_sound k longer rest here l fewer e) given
 
-  close_complete : (bytes out : List ℕ) (k at : ℕ) → length bytes < k → slice_index bytes 0 ≡ 0x22 → string_from k file quote out bytes at ≡ Ok (string_lexeme (out ++ []) quote (at + 1))
+  close_complete : (bytes out : List ℕ) (k at : ℕ) → length bytes < k → slice_index bytes 0 ≡ 0x22 → string_from file quote k out bytes at ≡ Ok (string_lexeme (out ++ []) quote (at + 1))
   unfolding string_from
   close_complete bytes out zero at enough first = absurd (omega arith)
   close_complete bytes out (suc k) at enough first = rw (equal (slice_index bytes 0) 0x22 first, append-nil out) refl
 
   more_complete : (bytes out text : List ℕ) (k at size n : ℕ) (char : Option ℕ) → length bytes < k → slice_index bytes 0 ≢ 0x22 → StringElement bytes char size
-      → ((j : ℕ) → length (drop size bytes) < j → string_from j file quote (out ++ char_text char) (drop size bytes) (at + size) ≡ Ok (string_lexeme (out ++ char_text char ++ text) quote (at + size + n)))
-      → string_from k file quote out bytes at ≡ Ok (string_lexeme (out ++ (char_text char ++ text)) quote (at + (size + n)))
+      → ((j : ℕ) → length (drop size bytes) < j → string_from file quote j (out ++ char_text char) (drop size bytes) (at + size) ≡ Ok (string_lexeme (out ++ char_text char ++ text) quote (at + size + n)))
+      → string_from file quote k out bytes at ≡ Ok (string_lexeme (out ++ (char_text char ++ text)) quote (at + (size + n)))
   unfolding string_from
   more_complete bytes out text zero at size n char enough first element further = absurd (omega arith)
   more_complete bytes out text (suc k) at size n char enough first element further =
@@ -286,7 +286,7 @@ module _ (file : List ℕ) (quote : ℕ) where
       rw (not_equal (slice_index bytes 0) 0x22 first, part_complete bytes at char size element, joined, sum) (further k (omega (arith, left.0, left.1, length-drop size bytes)))
 
   string_complete : (bytes : List ℕ) (n : ℕ) (text : List ℕ) → StringElements bytes n text → (k at : ℕ) (out : List ℕ) → length bytes < k
-      → string_from k file quote out bytes at ≡ Ok (string_lexeme (out ++ text) quote (at + n))
+      → string_from file quote k out bytes at ≡ Ok (string_lexeme (out ++ text) quote (at + n))
   string_complete _ _ _ (StringElements.close bytes first) k at out enough = close_complete bytes out k at enough first
   string_complete _ _ _ (StringElements.more bytes text char size n first element elements) k at out enough =
       more_complete bytes out text k at size n char enough first element

@@ -12,7 +12,7 @@ use Rattle.read_lexer.specs.declared.token.Lexeme.{Lexeme}
 
 -- what is left of a string from here gives this in all
 abbrev pub StringGoesOn : List ℕ → ℕ → List ℕ → List ℕ → ℕ → Result Lexeme Fault → Type 0
-StringGoesOn file quote out bytes at total = (k : ℕ) × (length bytes < k) × (string_from k file quote out bytes at ≡ total)
+StringGoesOn file quote out bytes at total = (k : ℕ) × (length bytes < k) × (string_from file quote k out bytes at ≡ total)
 
 is_other : (b : ℕ) → (b ≡ 0x22 → ⊥) → b == 0x22 ≡ false
 is_other b h = grind (arith, nat_tests)

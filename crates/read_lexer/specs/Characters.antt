@@ -40,27 +40,28 @@ character_but file from to text None = hex_character file from to text
 abbrev pub long_character : List ℕ → ℕ → ℕ → List ℕ → Result ℕ Fault
 long_character file from to text = character_but file from to text (named text)
 
--- c is the first character and size its bytes; the token goes up to the offset to, before a delimiter
-abbrev pub character_to : List ℕ → List ℕ → ℕ → ℕ → ℕ → ℕ → Result ℕ Fault
-character_to file bytes from c size to = if is_delimited (characters (drop (to - from) bytes))
-    then (if to == from + 2 + size then Ok c else long_character file from to (drop 2 (take (to - from) bytes)))
-    else refused file kind.BadToken from to
-
 abbrev pub lexeme_of_char : ℕ → ℕ → ℕ → Lexeme
 lexeme_of_char from to c = record { token = token.Atom (atom.Char c); from = from; to = to }
 
 abbrev pub character_end : List ℕ → ℕ → ℕ → ℕ
 character_end bytes from size = run_end (from + 2 + size) (characters (drop (2 + size) bytes))
 
-abbrev pub character_with : List ℕ → List ℕ → ℕ → Option ℕ → ℕ → Result Lexeme Fault
-character_with file bytes from None size = refused file kind.BadUtf8 (from + 2) (from + 3)
-character_with file bytes from (Some c) size = character_to file bytes from c size (character_end bytes from size)
-    >>= λ d. Ok (lexeme_of_char from (character_end bytes from size) d)
+-- the character whose `#\` is the first of the bytes and stands at the offset from
+module _ (file bytes : List ℕ) (from : ℕ) where
+  -- c is the first character and size its bytes; the token goes up to the offset to, before a delimiter
+  abbrev pub character_to : ℕ → ℕ → ℕ → Result ℕ Fault
+  character_to c size to = if is_delimited (characters (drop (to - from) bytes))
+      then (if to == from + 2 + size then Ok c else long_character file from to (drop 2 (take (to - from) bytes)))
+      else refused file kind.BadToken from to
 
-abbrev pub character_behind : List ℕ → List ℕ → ℕ → List Decoded → Result Lexeme Fault
-character_behind file bytes from [] = refused file kind.BadToken from (from + 2)
-character_behind file bytes from (p ∷ ps) = character_with file bytes from p.char p.size
+  abbrev pub character_with : Option ℕ → ℕ → Result Lexeme Fault
+  character_with None size = refused file kind.BadUtf8 (from + 2) (from + 3)
+  character_with (Some c) size = character_to c size (character_end bytes from size)
+      >>= λ d. Ok (lexeme_of_char from (character_end bytes from size) d)
 
--- the character whose `#\` is the first of the bytes
-abbrev pub character_at : List ℕ → List ℕ → ℕ → Result Lexeme Fault
-character_at file bytes from = character_behind file bytes from (characters (drop 2 bytes))
+  abbrev pub character_behind : List Decoded → Result Lexeme Fault
+  character_behind [] = refused file kind.BadToken from (from + 2)
+  character_behind (p ∷ ps) = character_with p.char p.size
+
+  abbrev pub character_at : Result Lexeme Fault
+  character_at = character_behind (characters (drop 2 bytes))
