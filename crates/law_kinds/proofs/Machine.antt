@@ -43,12 +43,13 @@ module _ (file : List ℕ) where
   delivers (f ∷ fs) ds d at = by f.parts (λ k. delivers fs ds (abbreviated file k f.opening d (through f.opening at)) (through f.opening at))
     where
       by : (p : OpenParts) → ((k : Abbreviation) → Tells IsOfReading (deliver file fs ds (abbreviated file k f.opening d (through f.opening at)) (through f.opening at)))
-          → Tells IsOfReading (on_parts p
-          (λ b items tail. list_with file b items tail d >>= λ q. Ok (state (with_parts f q ∷ fs) ds))
-          (λ items. Ok (state (with_parts f (parts.Vector (items ++ d ∷ [])) ∷ fs) ds))
-          (λ ns. bytes_with file ns (byte_of d) at >>= λ q. Ok (state (with_parts f q ∷ fs) ds))
-          (λ k. deliver file fs ds (abbreviated file k f.opening d (through f.opening at)) (through f.opening at))
-          (Ok (state fs ds)))
+          → Tells IsOfReading (on_parts p (record {
+            list = λ b items tail. list_with file b items tail d >>= λ q. Ok (state (with_parts f q ∷ fs) ds);
+            vector = λ items. Ok (state (with_parts f (parts.Vector (items ++ d ∷ [])) ∷ fs) ds);
+            bytes = λ ns. bytes_with file ns (byte_of d) at >>= λ q. Ok (state (with_parts f q ∷ fs) ds);
+            abbreviation = λ k. deliver file fs ds (abbreviated file k f.opening d (through f.opening at)) (through f.opening at);
+            skipped = Ok (state fs ds);
+          }))
       by (parts.List b items e) further = r-then (list_with file b items e d) (λ q. Ok (state (with_parts f q ∷ fs) ds)) (in-list b items e d) (λ q. tt)
       by (parts.Vector items) further = tt
       by (parts.Bytes ns) further = r-then (bytes_with file ns (byte_of d) at) (λ q. Ok (state (with_parts f q ∷ fs) ds)) (in-bytes ns (byte_of d) at) (λ q. tt)
@@ -123,12 +124,13 @@ module _ (file : List ℕ) where
   dots (f ∷ fs) ds at = by f.parts
     where
       by : (p : OpenParts)
-          → Tells IsOfReading (on_parts p
-          (λ b items tail. dot_in file items tail at >>= λ u. Ok (state (with_parts f (parts.List b items u) ∷ fs) ds))
-          (λ items. Err (fault_at file fault.BadDot at))
-          (λ ns. Err (fault_at file fault.BadDot at))
-          (λ k. Err (fault_at file fault.BadDot at))
-          (Err (fault_at file fault.BadDot at)))
+          → Tells IsOfReading (on_parts p (record {
+            list = λ b items tail. dot_in file items tail at >>= λ u. Ok (state (with_parts f (parts.List b items u) ∷ fs) ds);
+            vector = λ items. Err (fault_at file fault.BadDot at);
+            bytes = λ ns. Err (fault_at file fault.BadDot at);
+            abbreviation = λ k. Err (fault_at file fault.BadDot at);
+            skipped = Err (fault_at file fault.BadDot at);
+          }))
       by (parts.List b items e) = r-then (dot_in file items e at) (λ u. Ok (state (with_parts f (parts.List b items u) ∷ fs) ds)) (dot-behind items e at) (λ u. tt)
       by (parts.Vector items) = tt
       by (parts.Bytes ns) = tt

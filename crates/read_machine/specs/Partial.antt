@@ -13,13 +13,21 @@ use Rattle.read_machine.specs.declared.partial.OpenParts.{OpenParts}
 use Rattle.read_machine.specs.declared.partial.OpenParts.TheVariants as parts
 use Rattle.read_machine.specs.declared.partial.Partial.{Partial}
 
+-- what comes of each kind of open form
+pub record PartsCases (A : Type 0) : Type 0 where
+  pub list : Bracket → List PlainDatum → OpenTail → A
+  pub vector : List PlainDatum → A
+  pub bytes : List ℕ → A
+  pub abbreviation : Abbreviation → A
+  pub skipped : A
+
 -- by what is open
-abbrev pub on_parts : {A : Type 0} → OpenParts → (Bracket → List PlainDatum → OpenTail → A) → (List PlainDatum → A) → (List ℕ → A) → (Abbreviation → A) → A → A
-on_parts (parts.List b ds t) list vector bytes abbreviation skipped = list b ds t
-on_parts (parts.Vector ds) list vector bytes abbreviation skipped = vector ds
-on_parts (parts.Bytes ns) list vector bytes abbreviation skipped = bytes ns
-on_parts (parts.Abbreviation a) list vector bytes abbreviation skipped = abbreviation a
-on_parts parts.Skipped list vector bytes abbreviation skipped = skipped
+abbrev pub on_parts : {A : Type 0} → OpenParts → PartsCases A → A
+on_parts (parts.List b ds t) cases = cases.list b ds t
+on_parts (parts.Vector ds) cases = cases.vector ds
+on_parts (parts.Bytes ns) cases = cases.bytes ns
+on_parts (parts.Abbreviation a) cases = cases.abbreviation a
+on_parts parts.Skipped cases = cases.skipped
 
 -- how many more forms may be opened, where so many may be at the top
 abbrev pub room_in : ℕ → List Partial → ℕ
@@ -35,7 +43,11 @@ misplaced_by (tail.Dotted dot) = None
 misplaced_by (tail.Given dot e) = wrong fault.BadDot dot
 
 abbrev pub misplaced_in : OpenParts → Extent → Option Misplaced
-misplaced_in p at = on_parts p (λ b ds tail. misplaced_by tail) (λ ds. None) (λ ns. wrong fault.BadNumber at) (λ k. None) None
+misplaced_in (parts.List b ds tail) at = misplaced_by tail
+misplaced_in (parts.Vector ds) at = None
+misplaced_in (parts.Bytes ns) at = wrong fault.BadNumber at
+misplaced_in (parts.Abbreviation k) at = None
+misplaced_in parts.Skipped at = None
 
 -- what is wrong where a form other than a comment begins here: in a bytevector stands no form, and behind a dot stands one
 abbrev pub misplaced : List Partial → Extent → Option Misplaced

@@ -43,12 +43,13 @@ bytes_with file ns None at = Err (fault_at file fault.BadNumber at)
 -- a datum, which stands here, is complete
 abbrev pub deliver : List ℕ → List Partial → List PlainDatum → PlainDatum → Extent → Result ReaderState Fault
 deliver file [] ds d at = Ok (state [] (ds ++ d ∷ []))
-deliver file (f ∷ fs) ds d at = on_parts f.parts
-    (λ b items tail. list_with file b items tail d >>= λ p. Ok (state (with_parts f p ∷ fs) ds))
-    (λ items. Ok (state (with_parts f (parts.Vector (items ++ d ∷ [])) ∷ fs) ds))
-    (λ ns. bytes_with file ns (byte_of d) at >>= λ p. Ok (state (with_parts f p ∷ fs) ds))
-    (λ k. deliver file fs ds (abbreviated file k f.opening d (through f.opening at)) (through f.opening at))
-    (Ok (state fs ds))
+deliver file (f ∷ fs) ds d at = on_parts f.parts (record {
+  list = λ b items tail. list_with file b items tail d >>= λ p. Ok (state (with_parts f p ∷ fs) ds);
+  vector = λ items. Ok (state (with_parts f (parts.Vector (items ++ d ∷ [])) ∷ fs) ds);
+  bytes = λ ns. bytes_with file ns (byte_of d) at >>= λ p. Ok (state (with_parts f p ∷ fs) ds);
+  abbreviation = λ k. deliver file fs ds (abbreviated file k f.opening d (through f.opening at)) (through f.opening at);
+  skipped = Ok (state fs ds);
+})
 
 abbrev pub same_bracket : Bracket → Bracket → Bool
 same_bracket bracket.Round bracket.Round = true
@@ -64,12 +65,14 @@ tail_of file (tail.Given dot e) = Ok e
 
 -- the datum that a close ends; the close stands here, the datum there
 abbrev pub ended : List ℕ → OpenParts → Bracket → Extent → Extent → Result PlainDatum Fault
-ended file p b at all = on_parts p
-    (λ c ds tail. tail_of file tail >>= λ e. if same_bracket b c then Ok (joined (span_at file all) ds e) else Err (fault_at file fault.StrayClose at))
-    (λ ds. if same_bracket b bracket.Round then Ok (vector (span_at file all) (chain ds nil)) else Err (fault_at file fault.StrayClose at))
-    (λ ns. if same_bracket b bracket.Round then Ok (atom (span_at file all) (a.Bytes ns)) else Err (fault_at file fault.StrayClose at))
-    (λ k. Err (fault_at file fault.StrayClose at))
-    (Err (fault_at file fault.StrayClose at))
+ended file (parts.List c ds tail) b at all =
+    tail_of file tail >>= λ e. if same_bracket b c then Ok (joined (span_at file all) ds e) else Err (fault_at file fault.StrayClose at)
+ended file (parts.Vector ds) b at all =
+    if same_bracket b bracket.Round then Ok (vector (span_at file all) (chain ds nil)) else Err (fault_at file fault.StrayClose at)
+ended file (parts.Bytes ns) b at all =
+    if same_bracket b bracket.Round then Ok (atom (span_at file all) (a.Bytes ns)) else Err (fault_at file fault.StrayClose at)
+ended file (parts.Abbreviation k) b at all = Err (fault_at file fault.StrayClose at)
+ended file parts.Skipped b at all = Err (fault_at file fault.StrayClose at)
 
 abbrev pub closed : List ℕ → List Partial → List PlainDatum → Bracket → Extent → Result ReaderState Fault
 closed file [] ds b at = Err (fault_at file fault.StrayClose at)
@@ -102,12 +105,13 @@ dot_in file ds (tail.Given dot e) at = Err (fault_at file fault.BadDot dot)
 
 abbrev pub dotted : List ℕ → List Partial → List PlainDatum → Extent → Result ReaderState Fault
 dotted file [] ds at = Err (fault_at file fault.BadDot at)
-dotted file (f ∷ fs) ds at = on_parts f.parts
-    (λ b items tail. dot_in file items tail at >>= λ u. Ok (state (with_parts f (parts.List b items u) ∷ fs) ds))
-    (λ items. Err (fault_at file fault.BadDot at))
-    (λ ns. Err (fault_at file fault.BadDot at))
-    (λ k. Err (fault_at file fault.BadDot at))
-    (Err (fault_at file fault.BadDot at))
+dotted file (f ∷ fs) ds at = on_parts f.parts (record {
+  list = λ b items tail. dot_in file items tail at >>= λ u. Ok (state (with_parts f (parts.List b items u) ∷ fs) ds);
+  vector = λ items. Err (fault_at file fault.BadDot at);
+  bytes = λ ns. Err (fault_at file fault.BadDot at);
+  abbreviation = λ k. Err (fault_at file fault.BadDot at);
+  skipped = Err (fault_at file fault.BadDot at);
+})
 
 abbrev pub extent_of : Lexeme → Extent
 extent_of l = record { from = l.from; to = l.to }
