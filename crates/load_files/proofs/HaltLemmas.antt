@@ -29,8 +29,8 @@ halts_at stops.Memory h t x y k e given = subst (λ j. Halts j t y) (sym e) tt
 
 -- a turn that goes on in a file, unless memory runs out
 pub turns_on : (files : Paths) (roots : List (List ℕ)) (r : Result Turn LoadHalt) (o : Open) (stack : List Open) (s : Loading) (given : Loads (Found × Loading))
-    → IfOk r (λ t. t ≡ turn.On o) → OnErr r (r ≡ Err halt.Memory) → given ≡ meaning files roots o (reverse stack) s → Turns files roots r stack s given
-turns_on files roots (Ok t) o stack s given is err e = subst (λ u. Turns files roots (Ok u) stack s given) (sym is) e
+    → IfOk r (λ t. t ≡ turn.On o) → OnErr r (r ≡ Err halt.Memory) → given ≡ meaning files roots o (reverse stack) s → Turns (meaning files roots) r stack s given
+turns_on files roots (Ok t) o stack s given is err e = subst (λ u. Turns (meaning files roots) (Ok u) stack s given) (sym is) e
 turns_on files roots (Err h) o stack s given is err e =
     let memory : h ≡ halt.Memory = cc in
     subst (λ j. Halts j s given) (sym memory) tt

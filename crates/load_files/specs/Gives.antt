@@ -1,8 +1,6 @@
 -- What a call of loading answers, against what its definition gives: want of memory and failed reads are free.
-use Rattle.std.specs.Prelude.{◌≡◌, ℕ, List, reverse, Result, Ok, Err}
-use Rattle.base_outside.specs.Contents.{Paths}
+use Rattle.std.specs.Prelude.{◌≡◌, List, reverse, Result, Ok, Err}
 use Rattle.load_files.specs.Load.{Loads}
-use Rattle.load_files.specs.Stack.{meaning}
 use Rattle.load_files.specs.declared.found.Found.{Found}
 use Rattle.load_files.specs.declared.found.Loading.{Loading}
 use Rattle.load_files.specs.declared.found.Open.{Open}
@@ -21,8 +19,12 @@ abbrev pub LoadsAfter : {A : Type 0} → Result A LoadHalt → Loading → Loads
 LoadsAfter (Ok x) new given = given ≡ Ok (x, new)
 LoadsAfter (Err h) new given = Halts h new given
 
+-- what open files come to: the innermost, and those that it was opened in, innermost first
+abbrev pub WalkMeaning : Type 0
+WalkMeaning = Open → List Open → Loading → Loads (Found × Loading)
+
 -- a turn leaves the meaning as it is
-abbrev pub Turns : Paths → List (List ℕ) → Result Turn LoadHalt → List Open → Loading → Loads (Found × Loading) → Type 0
-Turns files roots (Ok (turn.On o)) stack new given = given ≡ meaning files roots o (reverse stack) new
-Turns files roots (Ok (turn.Done found)) stack new given = given ≡ Ok (found, new)
-Turns files roots (Err h) stack new given = Halts h new given
+abbrev pub Turns : WalkMeaning → Result Turn LoadHalt → List Open → Loading → Loads (Found × Loading) → Type 0
+Turns means (Ok (turn.On o)) stack new given = given ≡ means o (reverse stack) new
+Turns means (Ok (turn.Done found)) stack new given = given ≡ Ok (found, new)
+Turns means (Err h) stack new given = Halts h new given

@@ -141,7 +141,7 @@ fn close(
     stack: &mut Vec<Open>,
     loading: &mut Loading,
 ) -> Result<Turn, LoadHalt>
-    ensures given { (fs : Paths) (roots : List (List ℕ)) → Turns fs roots result stack.new.items loading.new
+    ensures given { (fs : Paths) (roots : List (List ℕ)) → Turns (meaning fs roots) result stack.new.items loading.new
         (unwind fs roots (reverse stack.old.items) (found_of at.opened at.needs loading.old, loading.old)) }
     ensures unread { result ≢ Err LoadHalt.Read }
 {
@@ -189,7 +189,8 @@ fn enter<F: Files>(
     requires { known_next at loading.old ≡ Ok (Some Known.New) }
     ensures same { F.told files.new ≡ F.told files.old }
     ensures given { (fs : Paths) → F.told files.old ≡ Some fs
-        → Turns fs search.now.roots.now result stack.new.items loading.new (meaning fs search.now.roots.now at (reverse stack.old.items) loading.old) }
+        → Turns (meaning fs search.now.roots.now) result stack.new.items loading.new
+        (meaning fs search.now.roots.now at (reverse stack.old.items) loading.old) }
     ensures later { F.faults files.old ≤ F.faults files.new }
     ensures failed { result ≡ Err LoadHalt.Read → Rose (F.faults files.old) (F.faults files.new) }
 {
@@ -245,7 +246,8 @@ fn step<F: Files>(
 ) -> Result<Turn, LoadHalt>
     ensures same { F.told files.new ≡ F.told files.old }
     ensures given { (fs : Paths) → F.told files.old ≡ Some fs
-        → Turns fs search.now.roots.now result stack.new.items loading.new (meaning fs search.now.roots.now at (reverse stack.old.items) loading.old) }
+        → Turns (meaning fs search.now.roots.now) result stack.new.items loading.new
+        (meaning fs search.now.roots.now at (reverse stack.old.items) loading.old) }
     ensures later { F.faults files.old ≤ F.faults files.new }
     ensures failed { result ≡ Err LoadHalt.Read → Rose (F.faults files.old) (F.faults files.new) }
 {

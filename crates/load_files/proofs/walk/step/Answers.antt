@@ -16,7 +16,7 @@ returns-in-Err-clause-given g c = λ fs h.
 pub returns-in-Ok-None-clause-given : goal.returns-in-Ok-None-clause-given
 returns-in-Ok-None-clause-given g c = λ fs h.
     let seen : known_next c.args.at c.args.loading.now ≡ Ok None = cc (c.in-Ok-None.ensures, c.in-Ok-None.field-0-is) in
-    subst (λ y. Turns fs c.args.search.now.roots.now c.close.result c.close.new.stack.items c.close.new.loading y)
+    subst (λ y. Turns (meaning fs c.args.search.now.roots.now) c.close.result c.close.new.stack.items c.close.new.loading y)
     (sym (turn_end fs c.args.search.now.roots.now c.args.at (reverse c.args.stack.now.items) c.args.loading.now seen))
     (c.close.ensures.given fs c.args.search.now.roots.now)
 
