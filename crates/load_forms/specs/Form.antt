@@ -56,18 +56,20 @@ abbrev pub library_of : List ℕ → Span → List PlainDatum → List PlainDatu
 library_of file place exports imports n =
     export_specs file [] exports >>= (λ es. import_specs file [] imports >>= (λ is. exported es >>= (λ names. Ok (library_with n place is names))))
 
-abbrev pub library_parts : List ℕ → Fault → PlainDatum → Option VersionedName → Option (List PlainDatum) → Option (List PlainDatum) → Result LibraryForm Fault
-library_parts file fault name None exports imports = Err fault
-library_parts file fault name (Some n) None imports = Err fault
-library_parts file fault name (Some n) (Some es) None = Err fault
-library_parts file fault name (Some n) (Some es) (Some is) = library_of file (datum_place file name) es is n
+-- a library form of this file; anything else is this fault
+module _ (file : List ℕ) (fault : Fault) where
+  abbrev pub library_parts : PlainDatum → Option VersionedName → Option (List PlainDatum) → Option (List PlainDatum) → Result LibraryForm Fault
+  library_parts name None exports imports = Err fault
+  library_parts name (Some n) None imports = Err fault
+  library_parts name (Some n) (Some es) None = Err fault
+  library_parts name (Some n) (Some es) (Some is) = library_of file (datum_place file name) es is n
 
-abbrev pub library_in : List ℕ → Fault → List PlainDatum → Result LibraryForm Fault
-library_in file fault [] = Err fault
-library_in file fault (name ∷ []) = Err fault
-library_in file fault (name ∷ exports ∷ []) = Err fault
-library_in file fault (name ∷ exports ∷ imports ∷ body) =
-    library_parts file fault name (named name) (form_of (codes "export") exports) (form_of (codes "import") imports)
+  abbrev pub library_in : List PlainDatum → Result LibraryForm Fault
+  library_in [] = Err fault
+  library_in (name ∷ []) = Err fault
+  library_in (name ∷ exports ∷ []) = Err fault
+  library_in (name ∷ exports ∷ imports ∷ body) =
+      library_parts name (named name) (form_of (codes "export") exports) (form_of (codes "import") imports)
 
 -- a file is one library form
 abbrev pub read_library : List ℕ → List PlainDatum → Result LibraryForm Fault
