@@ -12,7 +12,7 @@ use Rattle.core_shapes.specs.Lists.{is_nil, elements, tail_of}
 use Rattle.core_quasi.proofs.Levels.{elements_chain}
 use Rattle.core_quasi.specs.Words.{inner, reach}
 use Rattle.core_quasi.specs.Parts.{rest_at, splits, first_word, operand_of}
-use Rattle.core_quasi.specs.QuasiSyntax.{Looked, then_insert, Element, Tail, forms, no_trees, unchanged, walked, begun_by, begins, finished, flat, escapes, list_made, vector_made, syntax_at, elements_made, tail_made, element, tail_element, forms_begun, flat_list, split_list, vector_at}
+use Rattle.core_quasi.specs.QuasiSyntax.{Looked, then_insert, Element, Tail, forms, no_trees, unchanged, walked, begun_by, begins, finished, flat, escapes, list_made, vector_made, syntax_at, elements_made, tail_made, element, tail_element, forms_begun, flat_list, last_list, split_list, vector_at}
 use Rattle.core_quasi.specs.declared.quasi_syntax.Insert.{Insert}
 use Rattle.core_quasi.specs.declared.quasi_syntax.QuasiPart.{QuasiPart}
 
@@ -64,7 +64,7 @@ module _ (w : Looked) where
 
   abbrev on_split : Tree → List Tree → Tree → ℕ → List Insert → Bool → Result (QuasiPart × List Insert) Bare
   on_split t ts tail n is b =
-      if b then split_list w t (take (length ts - 2) ts) (rest_at (length ts - 2) t) (drop (length ts - 2) ts) tail n is else flat_list w t ts tail n is
+      if b then split_list w t (take (length ts - 2) ts) (last_list w (rest_at (length ts - 2) t) (drop (length ts - 2) ts) tail) n is else flat_list w t ts tail n is
 
   abbrev on_list : Tree → List Tree → Tree → ℕ → List Insert → Bool → Bool → Result (QuasiPart × List Insert) Bare
   on_list t ts tail n is e b = if e then Ok (unchanged t, is) else on_split t ts tail n is b
@@ -74,7 +74,7 @@ module _ (w : Looked) where
 
   split_on : (t : Tree) (ts : List Tree) (tail : Tree) (n k : ℕ) (is : List Insert)
       → flat w t (take k (map (element w) ts)) (record { ends = false; made = flat w (rest_at k t) (drop k (map (element w) ts)) (tail_element w tail) }) n is
-      ≡ split_list w t (take k ts) (rest_at k t) (drop k ts) tail n is
+      ≡ split_list w t (take k ts) (last_list w (rest_at k t) (drop k ts) tail) n is
   split_on t ts tail n k is =
       (λ i. flat w t (take-map (element w) k ts i) (record { ends = false; made = flat w (rest_at k t) (drop-map (element w) k ts i) (tail_element w tail) }) n is)
       ∙ (λ i. flat w t (map (element w) (take k ts)) (record { ends = false; made = flat_on (rest_at k t) (drop k ts) tail i }) n is)
@@ -85,7 +85,7 @@ module _ (w : Looked) where
       else flat w t (map (element w) ts) (tail_element w tail) n is) ≡ on_list t ts tail n is e b
   by_split t ts tail n k is h true b = refl
   by_split t ts tail n k is h false true =
-      split_on t ts tail n (k - 2) is ∙ ap (λ m. split_list w t (take (m - 2) ts) (rest_at (m - 2) t) (drop (m - 2) ts) tail n is) h
+      split_on t ts tail n (k - 2) is ∙ ap (λ m. split_list w t (take (m - 2) ts) (last_list w (rest_at (m - 2) t) (drop (m - 2) ts) tail) n is) h
   by_split t ts tail n k is h false false = flat_is t ts (tail_element w tail) n is
 
   list_is : (t : Tree) (ts : List Tree) (tail : Tree) (n : ℕ) (is : List Insert) → list_made w t (map (element w) ts) (tail_element w tail) n is
@@ -113,7 +113,7 @@ module _ (w : Looked) where
       not_escaped b k = made_list n is t h ∙ (λ i. on_list t (elements t) (tail_of t) n is (e i) (k i))
 
       pub list_split : splits w.words (is_nil (tail_of t)) (elements t) ≡ true
-          → syntax_at w t n is ≡ split_list w t (take (length (elements t) - 2) (elements t)) (rest_at (length (elements t) - 2) t) (drop (length (elements t) - 2) (elements t)) (tail_of t) n is
+          → syntax_at w t n is ≡ split_list w t (take (length (elements t) - 2) (elements t)) (last_list w (rest_at (length (elements t) - 2) t) (drop (length (elements t) - 2) (elements t)) (tail_of t)) n is
       list_split k = not_escaped true k
 
       pub list_flat : splits w.words (is_nil (tail_of t)) (elements t) ≡ false → syntax_at w t n is ≡ flat_list w t (elements t) (tail_of t) n is
@@ -137,8 +137,8 @@ module _ (w : Looked) where
     found_flat k e = list_flat n is t h (escapes_are false k) (splits_are false e) ∙ (λ i. flat_list w t (sym are i) (sym last i) n is)
 
     pub found_split : (rest : Tree) → false ≡ escapes (first_word w.words ts) ends ts → true ≡ splits w.words ends ts → rest ≡ rest_at (length ts - 2) t
-        → syntax_at w t n is ≡ split_list w t (take (length ts - 2) ts) rest (drop (length ts - 2) ts) tail n is
+        → syntax_at w t n is ≡ split_list w t (take (length ts - 2) ts) (last_list w rest (drop (length ts - 2) ts) tail) n is
     found_split rest k e behind =
         list_split n is t h (escapes_are false k) (splits_are true e)
-        ∙ (λ i. split_list w t (take (length (sym are i) - 2) (sym are i)) (rest_at (length (sym are i) - 2) t) (drop (length (sym are i) - 2) (sym are i)) (sym last i) n is)
-        ∙ ap (λ r. split_list w t (take (length ts - 2) ts) r (drop (length ts - 2) ts) tail n is) (sym behind)
+        ∙ (λ i. split_list w t (take (length (sym are i) - 2) (sym are i)) (last_list w (rest_at (length (sym are i) - 2) t) (drop (length (sym are i) - 2) (sym are i)) (sym last i)) n is)
+        ∙ ap (λ r. split_list w t (take (length ts - 2) ts) (last_list w r (drop (length ts - 2) ts) tail) n is) (sym behind)

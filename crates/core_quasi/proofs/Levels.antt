@@ -13,7 +13,7 @@ use Rattle.core_shapes.specs.Lists.{is_nil, elements, tail_of}
 use Rattle.core_quasi.specs.Words.{Words, inner, reach}
 use Rattle.core_quasi.specs.Parts.{rest_at, splits, first_word, operand_of}
 use Rattle.core_quasi.specs.Plan.{PlainQuasi, constant}
-use Rattle.core_quasi.specs.Quasi.{Element, Tail, forms, no_pieces, walked, begun_by, begins, finished, flat, list_made, vector_made, quasi_at, elements_made, tail_made, element, tail_element, forms_begun, flat_list, split_list, vector_at}
+use Rattle.core_quasi.specs.Quasi.{Element, Tail, forms, no_pieces, walked, begun_by, begins, finished, flat, list_made, vector_made, quasi_at, elements_made, tail_made, element, tail_element, forms_begun, flat_list, last_list, split_list, vector_at}
 
 pub elements_chain : (ts : List Tree) → elements (chain ts nil) ≡ ts
 elements_chain [] = refl
@@ -65,13 +65,13 @@ module _ (w : Words) where
         ap (λ (xs : List Element). vector_made w (vector p d) xs n) same
 
   abbrev on_list : Tree → List Tree → Tree → ℕ → Bool → Result PlainQuasi Bare
-  on_list t ts tail n b = if b then split_list w t (take (length ts - 2) ts) (rest_at (length ts - 2) t) (drop (length ts - 2) ts) tail n else flat_list w t ts tail n
+  on_list t ts tail n b = if b then split_list w t (take (length ts - 2) ts) (last_list w (rest_at (length ts - 2) t) (drop (length ts - 2) ts) tail) n else flat_list w t ts tail n
 
   flat_on : (t : Tree) (ts : List Tree) (tail : Tree) → flat w t (map (element w) ts) (tail_element w tail) ≡ flat_list w t ts tail
   flat_on t ts tail = λ i n. flat_is t ts (tail_element w tail) n i
 
   split_on : (t : Tree) (ts : List Tree) (tail : Tree) (n k : ℕ) → flat w t (take k (map (element w) ts)) (record { ends = false; made = flat w (rest_at k t) (drop k (map (element w) ts)) (tail_element w tail) }) n
-      ≡ split_list w t (take k ts) (rest_at k t) (drop k ts) tail n
+      ≡ split_list w t (take k ts) (last_list w (rest_at k t) (drop k ts) tail) n
   split_on t ts tail n k =
       (λ i. flat w t (take-map (element w) k ts i) (record { ends = false; made = flat w (rest_at k t) (drop-map (element w) k ts i) (tail_element w tail) }) n)
       ∙ (λ i. flat w t (map (element w) (take k ts)) (record { ends = false; made = flat_on (rest_at k t) (drop k ts) tail i }) n)
@@ -81,7 +81,7 @@ module _ (w : Words) where
       → (if b then flat w t (take (k - 2) (map (element w) ts)) (record { ends = false; made = flat w (rest_at (k - 2) t) (drop (k - 2) (map (element w) ts)) (tail_element w tail) }) n
       else flat w t (map (element w) ts) (tail_element w tail) n) ≡ on_list t ts tail n b
   by_split t ts tail n k e true =
-      split_on t ts tail n (k - 2) ∙ ap (λ m. split_list w t (take (m - 2) ts) (rest_at (m - 2) t) (drop (m - 2) ts) tail n) e
+      split_on t ts tail n (k - 2) ∙ ap (λ m. split_list w t (take (m - 2) ts) (last_list w (rest_at (m - 2) t) (drop (m - 2) ts) tail) n) e
   by_split t ts tail n k e false = flat_is t ts (tail_element w tail) n
 
   list_is : (t : Tree) (ts : List Tree) (tail : Tree) (n : ℕ) → list_made w t (map (element w) ts) (tail_element w tail) n ≡ on_list t ts tail n (splits w (is_nil tail) ts)
@@ -99,7 +99,7 @@ module _ (w : Words) where
 
   module _ (n : ℕ) (t : Tree) (h : is_pair t ≡ true) where
     pub list_split : splits w (is_nil (tail_of t)) (elements t) ≡ true
-        → quasi_at w t n ≡ split_list w t (take (length (elements t) - 2) (elements t)) (rest_at (length (elements t) - 2) t) (drop (length (elements t) - 2) (elements t)) (tail_of t) n
+        → quasi_at w t n ≡ split_list w t (take (length (elements t) - 2) (elements t)) (last_list w (rest_at (length (elements t) - 2) t) (drop (length (elements t) - 2) (elements t)) (tail_of t)) n
     list_split e = made_list n t h ∙ ap (on_list t (elements t) (tail_of t) n) e
 
     pub list_flat : splits w (is_nil (tail_of t)) (elements t) ≡ false → quasi_at w t n ≡ flat_list w t (elements t) (tail_of t) n
@@ -114,8 +114,8 @@ module _ (w : Words) where
     found_flat e = list_flat n t h (splits_are false e) ∙ (λ i. flat_list w t (sym are i) (sym last i) n)
 
     pub found_split : (rest : Tree) → true ≡ splits w ends ts → rest ≡ rest_at (length ts - 2) t
-        → quasi_at w t n ≡ split_list w t (take (length ts - 2) ts) rest (drop (length ts - 2) ts) tail n
+        → quasi_at w t n ≡ split_list w t (take (length ts - 2) ts) (last_list w rest (drop (length ts - 2) ts) tail) n
     found_split rest e behind =
         list_split n t h (splits_are true e)
-        ∙ (λ i. split_list w t (take (length (sym are i) - 2) (sym are i)) (rest_at (length (sym are i) - 2) t) (drop (length (sym are i) - 2) (sym are i)) (sym last i) n)
-        ∙ ap (λ r. split_list w t (take (length ts - 2) ts) r (drop (length ts - 2) ts) tail n) (sym behind)
+        ∙ (λ i. split_list w t (take (length (sym are i) - 2) (sym are i)) (last_list w (rest_at (length (sym are i) - 2) t) (drop (length (sym are i) - 2) (sym are i)) (sym last i)) n)
+        ∙ ap (λ r. split_list w t (take (length ts - 2) ts) (last_list w r (drop (length ts - 2) ts) tail) n) (sym behind)

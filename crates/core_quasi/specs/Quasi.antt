@@ -175,9 +175,13 @@ forms_begun w ts ends n = begun_by (operand_of ends ts) (forms_walked w (inner (
 abbrev pub flat_list : Words → Tree → List Tree → Tree → ℕ → Result PlainQuasi Bare
 flat_list w t ts tail n = forms_begun w ts (is_nil tail) n >>= finished t (tail_element w tail) n
 
--- these elements before the list of the last two, which the tail ends
-abbrev pub split_list : Words → Tree → List Tree → Tree → List Tree → Tree → ℕ → Result PlainQuasi Bare
-split_list w t front rest last tail n = forms_begun w front false n >>= finished t (record { ends = false; made = flat_list w rest last tail }) n
+-- the tail that a list of the last elements is, which ends with this tail itself
+abbrev pub last_list : Words → Tree → List Tree → Tree → Tail
+last_list w t ts tail = record { ends = false; made = flat_list w t ts tail }
+
+-- these elements before the list of the last two
+abbrev pub split_list : Words → Tree → List Tree → Tail → ℕ → Result PlainQuasi Bare
+split_list w t front last n = forms_begun w front false n >>= finished t last n
 
 abbrev pub vector_at : Words → Tree → List Tree → ℕ → Result PlainQuasi Bare
 vector_at w t ts n = forms_walked w n ts >>= λ p. Ok (vector_joined t p)

@@ -207,10 +207,13 @@ forms_begun w ts ends n = begun_by (operand_of ends ts) (forms_walked w (inner (
 abbrev pub flat_list : Looked → Tree → List Tree → Tree → ℕ → Inserts QuasiPart
 flat_list w t ts tail n inserts = then_insert (forms_begun w ts (is_nil tail) n inserts) (finished t (tail_element w tail) n)
 
--- these elements before the list of the last two, which the tail ends
-abbrev pub split_list : Looked → Tree → List Tree → Tree → List Tree → Tree → ℕ → Inserts QuasiPart
-split_list w t front rest last tail n inserts =
-    then_insert (forms_begun w front false n inserts) (finished t (record { ends = false; made = flat_list w rest last tail }) n)
+-- the tail that a list of the last elements is, which ends with this tail itself
+abbrev pub last_list : Looked → Tree → List Tree → Tree → Tail
+last_list w t ts tail = record { ends = false; made = flat_list w t ts tail }
+
+-- these elements before the list of the last two
+abbrev pub split_list : Looked → Tree → List Tree → Tail → ℕ → Inserts QuasiPart
+split_list w t front last n inserts = then_insert (forms_begun w front false n inserts) (finished t last n)
 
 abbrev pub vector_at : Looked → Tree → List Tree → ℕ → Inserts QuasiPart
 vector_at w t ts n inserts = then_insert (forms_walked w n ts inserts) (λ r. joined (vector_joined t r))

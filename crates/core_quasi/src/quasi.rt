@@ -6,7 +6,7 @@ ghost use Rattle.stx_tree.specs.Tree.{is_pair, nil};
 ghost use Rattle.core_quasi.specs.Words.{word_of};
 ghost use Rattle.core_quasi.specs.Plan.{constant, expression, call, quasis};
 ghost use Rattle.core_quasi.specs.declared.word.Family.TheVariants as family;
-ghost use Rattle.core_quasi.specs.Quasi.{no_pieces, closed, expressions, with_each, with_splices, is_constant, with_item, is_end, without_splices, made_of, list_joined, vector_joined, element, step, operand_or_bad, quasi_at, forms_begun, forms_walked, flat_list, split_list, vector_at, StopsAt, quasi};
+ghost use Rattle.core_quasi.specs.Quasi.{no_pieces, closed, expressions, with_each, with_splices, is_constant, with_item, is_end, without_splices, made_of, list_joined, vector_joined, element, step, operand_or_bad, quasi_at, forms_begun, forms_walked, flat_list, last_list, split_list, vector_at, StopsAt, quasi};
 
 use crate::maker::Maker;
 use crate::parts::{ListParts, QuasiTaken, bad, first_word, operand_of, rest_at, splits, taken_at};
@@ -310,7 +310,7 @@ fn split_list(
 ) -> Result<Quasi, BareStop>
     requires { 0 < length last.now.elements.now }
     ensures { BareGives (λ q. q) result (split_list (word_of family.Quote frames.now) front.now.form.now front.now.elements.now
-        last.now.form.now last.now.elements.now last.now.tail.now level) }
+        (last_list (word_of family.Quote frames.now) last.now.form.now last.now.elements.now last.now.tail.now) level) }
 {
     match open_list(alloc, front.elements, false, level, frames)? {
         Begun::Whole(whole) => Ok(Quasi {

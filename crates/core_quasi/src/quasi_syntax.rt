@@ -4,7 +4,7 @@ ghost use Rattle.std.specs.Prelude.{◌≡◌, ◌<◌, ◌++◌, ◌∷◌, [],
 ghost use Rattle.base_data.specs.Gives.{BareGives, Gives};
 ghost use Rattle.stx_tree.specs.Tree.{is_pair, span_of, spanned, list_of, vector_of};
 ghost use Rattle.stx_tree.specs.Measures.{within};
-ghost use Rattle.core_quasi.specs.QuasiSyntax.{seen, insert_leaf, insert, no_trees, leaves, spliced, as_row, with_part, unchanged, rebuilt, list_joined, vector_joined, element, step, leaf_part, operand_or_bad, escapes, syntax_at, forms_begun, forms_walked, flat_list, split_list, vector_at, quasi_syntax};
+ghost use Rattle.core_quasi.specs.QuasiSyntax.{seen, insert_leaf, insert, no_trees, leaves, spliced, as_row, with_part, unchanged, rebuilt, list_joined, vector_joined, element, step, leaf_part, operand_or_bad, escapes, syntax_at, forms_begun, forms_walked, flat_list, last_list, split_list, vector_at, quasi_syntax};
 
 use crate::parts::{ListParts, QuasiTaken, bad, first_word, operand_of, rest_at, splits, taken_at};
 use crate::quasi::at_form;
@@ -369,8 +369,8 @@ fn split_list(
     inserts: &mut Items<Insert>,
 ) -> Result<QuasiPart, BareStop>
     requires { 0 < length last.now.elements.now }
-    ensures { BareGives (λ p. (p, inserts.new)) result (split_list
-        (seen context.now) front.now.form.now front.now.elements.now last.now.form.now last.now.elements.now last.now.tail.now level inserts.old) }
+    ensures { BareGives (λ p. (p, inserts.new)) result (split_list (seen context.now) front.now.form.now front.now.elements.now
+        (last_list (seen context.now) last.now.form.now last.now.elements.now last.now.tail.now) level inserts.old) }
 {
     match open_list(context, front.elements, false, level, inserts)? {
         Begun::Whole(part) => Ok(part),

@@ -11,7 +11,7 @@ use Rattle.core_quasi.specs.Words.{Words, inner, reach}
 use Rattle.core_quasi.specs.Parts.{rest_at, taken_at, first_word, operand_of}
 use Rattle.core_quasi.specs.Plan.{PlainQuasi, constant, call, quasis}
 use Rattle.core_quasi.specs.declared.maker.Maker.TheVariants as maker
-use Rattle.core_quasi.specs.Quasi.{Tail, no_pieces, with_item, is_constant, step_by, step, walked, operand_or_bad, begun_by, finished, made_of, list_joined, vector_joined, vector_made, quasi_at, element, tail_element, forms_walked, forms_begun, flat_list, split_list}
+use Rattle.core_quasi.specs.Quasi.{Tail, no_pieces, with_item, is_constant, step_by, step, walked, operand_or_bad, begun_by, finished, made_of, list_joined, vector_joined, vector_made, quasi_at, element, tail_element, forms_walked, forms_begun, flat_list, last_list, split_list}
 use Rattle.core_quasi.specs.declared.parts.QuasiTaken.{QuasiTaken}
 use Rattle.core_quasi.specs.declared.parts.QuasiTaken.TheVariants as taken
 use Rattle.core_quasi.specs.declared.quasi.Pieces.{Pieces}
@@ -210,14 +210,14 @@ module _ (w : Words) (f : Given) where
 
     split_means : (s : Option Span) (a d : Tree) (n : ℕ) → forms_size (a ∷ elements d) + size (tail_of d) ≤ k → has_tail w d ≡ true
         → Means (filled w f (pair s a d) n) (pair s a d)
-        (split_list w (pair s a d) (a ∷ take (cut w d) (elements d)) (rest_at (cut w d) d) (elements (rest_at (cut w d) d)) (tail_of (rest_at (cut w d) d)) n)
+        (split_list w (pair s a d) (a ∷ take (cut w d) (elements d)) (last_list w (rest_at (cut w d) d) (elements (rest_at (cut w d) d)) (tail_of (rest_at (cut w d) d))) n)
     split_means s a d n b h =
         let c = cut w d in
         let r = rest_at (cut w d) d in
         let is : forms_size (take (cut w d) (elements d)) + forms_size (elements (rest_at (cut w d) d)) ≡ forms_size (elements d) =
         ap (λ ts. forms_size (take (cut w d) (elements d)) + forms_size ts) (sym (elements_at (cut w d) d)) ∙ split_size (cut w d) (elements d) in
         let last : size (tail_of d) ≡ size (tail_of (rest_at (cut w d) d)) = ap size (tail_at (cut w d) d) in
-        subst (λ v. Means v (pair s a d) (split_list w (pair s a d) (a ∷ take (cut w d) (elements d)) (rest_at (cut w d) d) (elements (rest_at (cut w d) d)) (tail_of (rest_at (cut w d) d)) n))
+        subst (λ v. Means v (pair s a d) (split_list w (pair s a d) (a ∷ take (cut w d) (elements d)) (last_list w (rest_at (cut w d) d) (elements (rest_at (cut w d) d)) (tail_of (rest_at (cut w d) d))) n))
         (sym (split_filled s a d n h))
         (list_means (pair s a d) (a ∷ take (cut w d) (elements d)) (rest_at (cut w d) d) (ap (pair None (plain a)) (plain_at (cut w d) d))
         (record { ends = false; made = flat_list w (rest_at (cut w d) d) (elements (rest_at (cut w d) d)) (tail_of (rest_at (cut w d) d)) }) n (filled w f (rest_at (cut w d) d) n)
@@ -237,8 +237,8 @@ module _ (w : Words) (f : Given) where
             let e : length (a ∷ elements d) - 2 ≡ suc (cut w d) = omega (arith, cut_length w d h) in
             subst (λ r. Means (filled w f (pair s a d) n) (pair s a d) r)
             (sym (list_split w n (pair s a d) refl (splits_is w a d ∙ h)
-            ∙ ap (λ c. split_list w (pair s a d) (take c (a ∷ elements d)) (rest_at c (pair s a d)) (drop c (a ∷ elements d)) (tail_of d) n) e
-            ∙ (λ i. split_list w (pair s a d) (a ∷ take (cut w d) (elements d)) (rest_at (cut w d) d) (elements_at (cut w d) d i) (tail_at (cut w d) d i) n)))
+            ∙ ap (λ c. split_list w (pair s a d) (take c (a ∷ elements d)) (last_list w (rest_at c (pair s a d)) (drop c (a ∷ elements d)) (tail_of d)) n) e
+            ∙ (λ i. split_list w (pair s a d) (a ∷ take (cut w d) (elements d)) (last_list w (rest_at (cut w d) d) (elements_at (cut w d) d i) (tail_at (cut w d) d i)) n)))
             (split_means s a d n within h)
 
     items_are : (d : Tree) (n : ℕ) → items_filled w f d n ≡ put_all n (elements d) nil
