@@ -47,18 +47,18 @@ only_id _ = None
 unfoldable pub descriptor_form : Tree → Span → Tree → Result Tree Fault
 descriptor_form t place word = or_bad t place (if_some (proper_elements t) only_id) >>= (λ id. at_form t place (list_of_two id word))
 
--- `(define-record-type names clause ...)`
+-- `(define-record-type names clause ...)`, in these frames, at this place and with this uid
+module _ (fs : Scope) (t : Tree) (place : Span) (own : List ℕ) where
+  unfoldable pub definitions_for : RecordNames → List Tree → Result Tree Fault
+  definitions_for names clauses = all_clauses fs names.name place no_clauses clauses >>= (λ cs. at_form t place (definitions own names cs))
 
-unfoldable pub definitions_for : Scope → Tree → Span → List ℕ → RecordNames → List Tree → Result Tree Fault
-definitions_for fs t place own names clauses = all_clauses fs names.name place no_clauses clauses >>= (λ cs. at_form t place (definitions own names cs))
+  -- the names, which stand before the clauses, are looked at first
+  unfoldable pub named_form : Tree → List Tree → Result Tree Fault
+  named_form spec clauses = or_bad t place (names_of spec) >>= (λ names. definitions_for names clauses)
 
--- the names, which stand before the clauses, are looked at first
-unfoldable pub named_form : Scope → Tree → Span → List ℕ → Tree → List Tree → Result Tree Fault
-named_form fs t place own spec clauses = or_bad t place (names_of spec) >>= (λ names. definitions_for fs t place own names clauses)
-
-abbrev pub defining_form : Scope → Tree → Span → List ℕ → Option (List Tree) → Result Tree Fault
-defining_form fs t place own (Some (head ∷ (spec ∷ clauses))) = named_form fs t place own spec clauses
-defining_form fs t place own _ = bad_form t place
+  abbrev pub defining_form : Option (List Tree) → Result Tree Fault
+  defining_form (Some (head ∷ (spec ∷ clauses))) = named_form spec clauses
+  defining_form _ = bad_form t place
 
 -- What comes in place of a form of this keyword; the uid is that of the form. Other keywords have no such forms.
 unfoldable pub record_forms : Scope → Tree → CoreForm → Span → List ℕ → Result Tree Fault
