@@ -1,5 +1,5 @@
 -- A store of which one put is torn: it writes a part of its piece and fails.
-use Rattle.std.specs.Prelude.{◌≡◌, ℕ, ◌-◌, ◌==◌, Bool, if◌then◌else◌, List, Option, Some, None, Result, Ok, Err, OnErr}
+use Rattle.std.specs.Prelude.{◌≡◌, ℕ, ◌-◌, ◌==◌, Bool, if◌then◌else◌, List, Option, Some, None, Result, Ok, Err, OnErr, take}
 use Rattle.base_outside.specs.Calls.{KeptMap, CountsCall, faulted}
 use Rattle.base_outside.specs.Store.{Sets}
 use Rattle.base_outside.specs.declared.causes.OutsideError.{OutsideError}
@@ -41,11 +41,22 @@ Tears place part before (Ok done) after = ⊥
 Tears place part before (Err Failed) after = Sets place part before.contents after.contents × (after.calls ≡ faulted before.calls)
 Tears place part before (Err Memory) after = after ≡ before
 
--- a put by its turn, with the part of its piece that the torn one writes
-abbrev pub PutsAt : PutTurn → List ℕ → List ℕ → KeptMap → Result Unit OutsideError → KeptMap → Type 0
-PutsAt Within place part before result after = CountsCall before.calls result after.calls × OnErr result (after.contents ≡ before.contents)
-PutsAt Tear place part before result after = Tears place part before result after
-PutsAt Stopped place part before result after = StopsCalls before result after
+-- a put to the store within
+abbrev pub PutsWithin : KeptMap → Result Unit OutsideError → KeptMap → Type 0
+PutsWithin before result after = CountsCall before.calls result after.calls × OnErr result (after.contents ≡ before.contents)
+
+-- by the turn of a put
+abbrev pub AtTurn : PutTurn → Type 0 → Type 0 → Type 0 → Type 0
+AtTurn Within within tear stopped = within
+AtTurn Tear within tear stopped = tear
+AtTurn Stopped within tear stopped = stopped
+
+-- a put of a piece at a place, by its turn, and the store within after it; the torn one writes a part of its piece
+abbrev pub PutsAt : TornRecord → List ℕ → List ℕ → Result Unit OutsideError → KeptMap → Type 0
+PutsAt torn place piece result after = AtTurn (turn_of torn)
+    (PutsWithin torn.inner result after)
+    (Tears place (take torn.keep piece) torn.inner result after)
+    (StopsCalls torn.inner result after)
 
 -- the puts left after a put
 abbrev pub left_after : Option ℕ → Option ℕ

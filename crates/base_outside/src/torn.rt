@@ -1,6 +1,6 @@
 //! A store of which one put is torn: it writes a part of its piece and fails.
 
-ghost use Rattle.std.specs.Prelude.{◌≡◌, ◌≤◌, Some, IfOk, OnOk, take};
+ghost use Rattle.std.specs.Prelude.{◌≡◌, ◌≤◌, Some, IfOk, OnOk};
 ghost use Rattle.base_outside.specs.Calls.{faulted};
 ghost use Rattle.base_outside.specs.Causes.{Rose};
 ghost use Rattle.base_outside.specs.Contents.{at_path, read_of};
@@ -110,8 +110,7 @@ impl Store for TornStore {
         ensures failed { result ≡ Err OutsideError.Failed →
             Rose self.old.inner.calls.faults self.new.inner.calls.faults }
 
-        ensures turn { PutsAt (turn_of self.old) place.now
-            (take self.old.keep bytes.now) self.old.inner result self.new.inner }
+        ensures turn { PutsAt self.old place.now bytes.now result self.new.inner }
         ensures rest { self.new ≡
             record self.old { inner = self.new.inner; left = left_after self.old.left } }
     {
