@@ -56,9 +56,10 @@ Fits (parts.Bytes ns) x fs = misplaced fs x ≡ None
 Fits (parts.Abbreviation k) x fs = misplaced fs x ≡ None
 Fits parts.Skipped x fs = Unit {0}
 
--- these lexemes have come to these open forms, innermost first, and to these data that stand in no other; the number is how many more forms may be nested there
-pub data ComesTo (file : List ℕ) (nesting : ℕ) : ℕ → List Lexeme → List Partial → List PlainDatum → Type 0 where
-  at_top : {ls : List Lexeme} {ds : List PlainDatum} {n : ℕ} → n ≡ nesting → AreItems file n ls ds → ComesTo file nesting n ls [] ds
-  within : {n : ℕ} {ls ms : List Lexeme} {p : OpenParts} {fs : List Partial} {found : List PlainDatum} (x : Extent)
-      → ComesTo file nesting (room_round p n) ls fs found → Fits p x fs → InsideForm file n ms p
-      → ComesTo file nesting n (ls ++ (lexeme (opening_of p) x ∷ ms)) (partial x n p ∷ fs) found
+module _ (file : List ℕ) (nesting : ℕ) where
+  -- these lexemes have come to these open forms, innermost first, and to these data that stand in no other; the number is how many more forms may be nested there
+  pub data ComesTo : ℕ → List Lexeme → List Partial → List PlainDatum → Type 0 where
+    at_top : {ls : List Lexeme} {ds : List PlainDatum} {n : ℕ} → n ≡ nesting → AreItems file n ls ds → ComesTo n ls [] ds
+    within : {n : ℕ} {ls ms : List Lexeme} {p : OpenParts} {fs : List Partial} {found : List PlainDatum} (x : Extent)
+        → ComesTo (room_round p n) ls fs found → Fits p x fs → InsideForm file n ms p
+        → ComesTo n (ls ++ (lexeme (opening_of p) x ∷ ms)) (partial x n p ∷ fs) found
