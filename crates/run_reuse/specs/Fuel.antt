@@ -66,7 +66,8 @@ module _ (k : CacheInputs) (prelude : Result Codes Fault) where
   writes_spent (stopped derived fault given stops) = 0
   writes_spent (unready fault given same) = 0
 
+module _ (k : CacheInputs) (prelude : Result Codes Fault) (c : Came) (fs : List Found) where
   -- the turns come to a text, and this is spent
-  pub record WritesSpending (c : Came) (fs : List Found) (change : StoreChange) (made : Result Text Fault) (fuel_before fuel_after : ℕ) : Type 0 where
+  pub record WritesSpending (change : StoreChange) (made : Result Text Fault) (fuel_before fuel_after : ℕ) : Type 0 where
     pub writes : Writes k prelude c fs change made
-    pub rose : fuel_after ≡ fuel_before + writes_spent writes
+    pub rose : fuel_after ≡ fuel_before + writes_spent k prelude writes
