@@ -22,7 +22,7 @@ module _ (c : PatternScope) (depth : ℕ) (parts : PatternParts) (t : Tree) wher
   on_pattern e ts p u = added c.place e parts p >>= λ more. walked c depth false more (map (with_pattern c) (behind_ellipsis e ts)) u
 
   stepped : (e : Option Tree) (ts : List Tree) (s : Taken) → e ≡ first_ellipsis c.frames ts
-      → after (step c.place depth false (with_pattern c t) e parts s) (λ w. walked c depth w.0 w.1 (map (with_pattern c) ts)) ≡ after (pattern c t (inner_depth depth e) s) (on_pattern e ts)
+      → after (step c depth false (with_pattern c t) e parts s) (λ w. walked c depth w.0 w.1 (map (with_pattern c) ts)) ≡ after (pattern c t (inner_depth depth e) s) (on_pattern e ts)
   stepped None ts s h = go (pattern c t depth s)
     where
       go : (r : Result (PlainPattern × Taken) Fault)
@@ -47,7 +47,7 @@ module _ (c : PatternScope) (depth : ℕ) (parts : PatternParts) (t : Tree) wher
     here : total ≡ after (pattern c t inner s) (on_pattern e ts)
     here =
         sym so_far ∙ ap (λ us. walked c depth false parts (map (with_pattern c) us) s) is
-        ∙ ap (λ o. after (step c.place depth false (with_pattern c t) o parts s) (λ w. walked c depth w.0 w.1 (map (with_pattern c) ts))) (next_is_first c ts ∙ sym next)
+        ∙ ap (λ o. after (step c depth false (with_pattern c t) o parts s) (λ w. walked c depth w.0 w.1 (map (with_pattern c) ts))) (next_is_first c ts ∙ sym next)
         ∙ stepped e ts s next ∙ ap (λ n. after (pattern c t n s) (on_pattern e ts)) (sym deep)
 
     -- an element is at fault: so is the whole

@@ -118,19 +118,20 @@ Walked = Bool × PatternParts
 abbrev pub repeated_part : Span → Tree → PatternParts → PlainPattern → Act Taken Walked
 repeated_part place e parts p s = with_repeated place e parts.repeated parts p >>= λ more. Ok ((true, more), s)
 
--- an element: with an ellipsis behind it, there is one more round its variables
-abbrev pub element : Span → ℕ → Element → Option Tree → PatternParts → Act Taken Walked
-element place depth x None parts s = after (x.1 depth s) (λ p s. Ok ((false, with_part parts.repeated parts p), s))
-element place depth x (Some e) parts s = after (x.1 (depth + 1) s) (repeated_part place e parts)
+-- The elements of one list or vector, round which so many ellipses stand.
+module _ (c : PatternScope) (depth : ℕ) where
+  -- an element: with an ellipsis behind it, there is one more round its variables
+  abbrev pub element : Element → Option Tree → PatternParts → Act Taken Walked
+  element x None parts s = after (x.1 depth s) (λ p s. Ok ((false, with_part parts.repeated parts p), s))
+  element x (Some e) parts s = after (x.1 (depth + 1) s) (repeated_part c.place e parts)
 
-abbrev pub step : Span → ℕ → Bool → Element → Option Tree → PatternParts → Act Taken Walked
-step place depth true x e parts s = Ok ((false, parts), s)
-step place depth false x e parts s = element place depth x e parts s
+  abbrev pub step : Bool → Element → Option Tree → PatternParts → Act Taken Walked
+  step true x e parts s = Ok ((false, parts), s)
+  step false x e parts s = element x e parts s
 
-abbrev pub walked : PatternScope → ℕ → Bool → PatternParts → List Element → Act Taken PatternParts
-walked c depth skips parts [] s = Ok (parts, s)
-walked c depth skips parts (x ∷ xs) s =
-    after (step c.place depth skips x (next_ellipsis c.frames xs) parts s) (λ w. walked c depth w.0 w.1 xs)
+  abbrev pub walked : Bool → PatternParts → List Element → Act Taken PatternParts
+  walked skips parts [] s = Ok (parts, s)
+  walked skips parts (x ∷ xs) s = after (step skips x (next_ellipsis c.frames xs) parts s) (λ w. walked w.0 w.1 xs)
 
 -- the same by what is known of the forms: how many ellipses stand round an element, where one stands behind it; the forms behind
 -- that; and the parts with the element's own

@@ -188,7 +188,7 @@ module _ (own : LibName) where
           alone = λ bad. absurd (cc);
         }
 
-    element-takes : (depth : ℕ) (x : Element) (e : Option Tree) (start : Taken) (parts : PatternParts) (s : Taken) → IsElement x → HasParts depth start parts s → GaveBy (PartsGiven depth start) (element c.place depth x e parts s)
+    element-takes : (depth : ℕ) (x : Element) (e : Option Tree) (start : Taken) (parts : PatternParts) (s : Taken) → IsElement x → HasParts depth start parts s → GaveBy (PartsGiven depth start) (element c depth x e parts s)
     element-takes depth x None start parts s one h =
         by-after (IsOf depth s) (PartsGiven depth start) (x.1 depth s) (λ p s. Ok ((false, with_part parts.repeated parts p), s)) (one depth s h.takes.library) (λ p u k. part-takes depth start parts s p u h k)
     element-takes depth x (Some e) start parts s one h =
@@ -196,14 +196,14 @@ module _ (own : LibName) where
         (let is : depth + 1 ≡ suc depth = omega arith in subst (λ n. GaveBy (IsOf n s) (x.1 (depth + 1) s)) is (one (depth + 1) s h.takes.library))
         (λ p u k. repeated-takes depth start parts s e p u h k)
 
-    step-takes : (depth : ℕ) (skips : Bool) (x : Element) (e : Option Tree) (start : Taken) (parts : PatternParts) (s : Taken) → IsElement x → HasParts depth start parts s → GaveBy (PartsGiven depth start) (step c.place depth skips x e parts s)
+    step-takes : (depth : ℕ) (skips : Bool) (x : Element) (e : Option Tree) (start : Taken) (parts : PatternParts) (s : Taken) → IsElement x → HasParts depth start parts s → GaveBy (PartsGiven depth start) (step c depth skips x e parts s)
     step-takes depth true x e start parts s one h = h
     step-takes depth false x e start parts s one h = element-takes depth x e start parts s one h
 
     walked-takes : (depth : ℕ) (skips : Bool) (start : Taken) (parts : PatternParts) (xs : List Element) (s : Taken) → Each IsElement xs → HasParts depth start parts s → GaveBy (HasParts depth start) (walked c depth skips parts xs s)
     walked-takes depth skips start parts [] s all h = h
     walked-takes depth skips start parts (x ∷ xs) s all h =
-        by-after (PartsGiven depth start) (HasParts depth start) (step c.place depth skips x (next_ellipsis c.frames xs) parts s) (λ w. walked c depth w.0 w.1 xs) (step-takes depth skips x (next_ellipsis c.frames xs) start parts s all.0 h)
+        by-after (PartsGiven depth start) (HasParts depth start) (step c depth skips x (next_ellipsis c.frames xs) parts s) (λ w. walked c depth w.0 w.1 xs) (step-takes depth skips x (next_ellipsis c.frames xs) start parts s all.0 h)
         (λ w v k. walked-takes depth w.0 start w.1 xs v all.1 k)
 
     vector-takes : (depth : ℕ) (xs : List Element) (s : Taken) → Each IsElement xs → s.1.library ≡ own → GaveBy (IsOf depth s) (vector_with (walked c depth false no_parts xs) s)

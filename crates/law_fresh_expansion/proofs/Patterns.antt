@@ -99,20 +99,20 @@ module _ (P : LeafContext → Type 0) (own : LibName) where
         by (Some r) = tt
         by None = ((h.0, (k, h.1.1)), j)
 
-    element-holds : (depth n : ℕ) (x : Element) (e : Option Tree) (parts : PatternParts) (s : Taken) → IsElement x → PartsFrom n parts s → GaveBy (WalkedFrom n) (element c.place depth x e parts s)
+    element-holds : (depth n : ℕ) (x : Element) (e : Option Tree) (parts : PatternParts) (s : Taken) → IsElement x → PartsFrom n parts s → GaveBy (WalkedFrom n) (element c depth x e parts s)
     element-holds depth n x None parts s one h =
         by-after (PatternFrom n) (WalkedFrom n) (x.1 depth s) (λ p s. Ok ((false, with_part parts.repeated parts p), s)) (one depth n s h.1) (λ p u k. (with-part-holds parts.repeated parts p h.0 k.0, k.1))
     element-holds depth n x (Some e) parts s one h =
         by-after (PatternFrom n) (WalkedFrom n) (x.1 (depth + 1) s) (repeated_part c.place e parts) (one (depth + 1) n s h.1) (λ p u k. repeated-holds n parts e p u h.0 k.0 k.1)
 
-    step-holds : (depth n : ℕ) (skips : Bool) (x : Element) (e : Option Tree) (parts : PatternParts) (s : Taken) → IsElement x → PartsFrom n parts s → GaveBy (WalkedFrom n) (step c.place depth skips x e parts s)
+    step-holds : (depth n : ℕ) (skips : Bool) (x : Element) (e : Option Tree) (parts : PatternParts) (s : Taken) → IsElement x → PartsFrom n parts s → GaveBy (WalkedFrom n) (step c depth skips x e parts s)
     step-holds depth n true x e parts s one h = h
     step-holds depth n false x e parts s one h = element-holds depth n x e parts s one h
 
     walked-holds : (depth n : ℕ) (skips : Bool) (parts : PatternParts) (xs : List Element) (s : Taken) → Each IsElement xs → PartsFrom n parts s → GaveBy (PartsFrom n) (walked c depth skips parts xs s)
     walked-holds depth n skips parts [] s all h = h
     walked-holds depth n skips parts (x ∷ xs) s all h =
-        by-after (WalkedFrom n) (PartsFrom n) (step c.place depth skips x (next_ellipsis c.frames xs) parts s) (λ w. walked c depth w.0 w.1 xs) (step-holds depth n skips x (next_ellipsis c.frames xs) parts s all.0 h)
+        by-after (WalkedFrom n) (PartsFrom n) (step c depth skips x (next_ellipsis c.frames xs) parts s) (λ w. walked c depth w.0 w.1 xs) (step-holds depth n skips x (next_ellipsis c.frames xs) parts s all.0 h)
         (λ w v k. walked-holds depth n w.0 w.1 xs v all.1 k)
 
     vector-holds : (depth n : ℕ) (xs : List Element) (s : Taken) → Each IsElement xs → TakenFrom n s → GaveBy (PatternFrom n) (vector_with (walked c depth false no_parts xs) s)

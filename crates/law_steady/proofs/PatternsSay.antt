@@ -31,19 +31,19 @@ module _ (c : PatternScope) where
   says-repeated e None parts p = tt
   says-repeated e (Some r) parts p = tt
 
-  says-element : (depth : ℕ) (x : Element) (o : Option Tree) (parts : _) (s : Taken) → Quiet x → Says (element c.place depth x o parts s)
+  says-element : (depth : ℕ) (x : Element) (o : Option Tree) (parts : _) (s : Taken) → Quiet x → Says (element c depth x o parts s)
   says-element depth x None parts s h = says-after (x.1 depth s) _ (h depth s) (λ p u. tt)
   says-element depth x (Some e) parts s h =
       says-after (x.1 (depth + 1) s) (repeated_part c.place e parts) (h (depth + 1) s) (λ p u. says-then (with_repeated c.place e parts.repeated parts p) (λ more. Ok ((true, more), u)) (says-repeated e parts.repeated parts p) (λ more. tt))
 
-  says-step : (depth : ℕ) (skips : Bool) (x : Element) (o : Option Tree) (parts : _) (s : Taken) → Quiet x → Says (step c.place depth skips x o parts s)
+  says-step : (depth : ℕ) (skips : Bool) (x : Element) (o : Option Tree) (parts : _) (s : Taken) → Quiet x → Says (step c depth skips x o parts s)
   says-step depth true x o parts s h = tt
   says-step depth false x o parts s h = says-element depth x o parts s h
 
   says-walked : (depth : ℕ) (skips : Bool) (parts : _) (xs : List Element) (s : Taken) → Each Quiet xs → Says (walked c depth skips parts xs s)
   says-walked depth skips parts [] s h = tt
   says-walked depth skips parts (x ∷ xs) s h =
-      says-after (step c.place depth skips x (next_ellipsis c.frames xs) parts s) (λ w. walked c depth w.0 w.1 xs) (says-step depth skips x (next_ellipsis c.frames xs) parts s h.0) (λ w u. says-walked depth w.0 w.1 xs u h.1)
+      says-after (step c depth skips x (next_ellipsis c.frames xs) parts s) (λ w. walked c depth w.0 w.1 xs) (says-step depth skips x (next_ellipsis c.frames xs) parts s h.0) (λ w u. says-walked depth w.0 w.1 xs u h.1)
 
   says-vector : (depth : ℕ) (xs : List Element) (s : Taken) → Each Quiet xs → Says (vector_with (walked c depth false no_parts xs) s)
   says-vector depth xs s h = says-after (walked c depth false no_parts xs s) _ (says-walked depth false no_parts xs s h) (λ parts u. tt)
