@@ -9,7 +9,7 @@ use crate::links::link;
 use crate::transformers::Transformers;
 use base_data::fault::{FaultKind, Stop};
 use base_data::memory::Memory;
-use base_data::name::{FrameNo, Label};
+use base_data::name::Label;
 use base_data::span::Span;
 use core_shapes::at::place_of;
 use expand_heads::item::{HeadItem, Item};
@@ -53,17 +53,6 @@ pub struct PlannedItem {
     pub item: Item,
 }
 
-/// A use of a keyword, and what the keyword is. The rest is a `UsedForm`.
-#[derive(Drop)]
-struct PendingUse<'a> {
-    form: &'a Syn,
-    keyword: &'a KeywordUse,
-    /// That of the body, where the use stands in one.
-    frame: Option<FrameNo>,
-    /// Where a form without a span stands.
-    place: &'a Span,
-}
-
 /// The target of an assignment to a keyword, and what it stands for.
 #[derive(Drop)]
 struct AssignedKeyword {
@@ -74,23 +63,38 @@ struct AssignedKeyword {
 /// The form that a use gives, of a keyword with a transformer or of a record form.
 fn used_form<M: Transformers, N: Ledger, L: Ledger>(
     state: &mut Expansion<L>,
-    used: PendingUse,
+    used: UsedForm<&KeywordUse>,
     means: &M,
     counts: &mut Counts<N, L>,
 ) -> Result<Syn, Stop>
     ensures { GivesAfter (λ t. t) result state.new (used_form
         (M.records means.now) used.entry.place.now used.entry.form.now used.entry.keyword.now used.entry.frame state.old) }
 {
-    let PendingUse {
-        form,
+    let UsedForm {
         keyword,
+        form,
         frame,
         place,
     } = used;
-    let used = UsedForm { form, frame, place };
     match keyword {
-        KeywordUse::Macro(label) => means.use_keyword(state, used, label, counts),
-        KeywordUse::Record(which) => state.use_record(used, *which, counts.nodes),
+        KeywordUse::Macro(label) => {
+            let used = UsedForm {
+                keyword: label,
+                form,
+                frame,
+                place,
+            };
+            means.use_keyword(state, used, counts)
+        }
+        KeywordUse::Record(which) => {
+            let used = UsedForm {
+                keyword: *which,
+                form,
+                frame,
+                place,
+            };
+            state.use_record(used, counts.nodes)
+        }
     }
 }
 
@@ -99,7 +103,7 @@ fn used_form<M: Transformers, N: Ledger, L: Ledger>(
 fn next_form<M: Transformers, N: Ledger, L: Ledger>(
     state: &mut Expansion<L>,
     left: u32,
-    used: PendingUse,
+    used: UsedForm<&KeywordUse>,
     means: &M,
     counts: &mut Counts<N, L>,
 ) -> Result<Syn, Stop>
@@ -107,19 +111,8 @@ fn next_form<M: Transformers, N: Ledger, L: Ledger>(
         (M.records means.now) left used.entry.place.now used.entry.form.now used.entry.keyword.now used.entry.frame state.old) }
 {
     state.leave_uses(left);
-    let PendingUse {
-        form,
-        keyword,
-        frame,
-        place,
-    } = used;
-    let at = place_of(form, place)?;
-    let used = PendingUse {
-        form,
-        keyword,
-        frame,
-        place: &at,
-    };
+    let at = place_of(used.form, used.place)?;
+    let used = UsedForm { place: &at, ..used };
     used_form(state, used, means, counts)
 }
 
@@ -216,9 +209,9 @@ pub(crate) fn expand_uses<M: Transformers, N: Ledger, L: Ledger>(
             return Err(state.fault_form(FaultKind::TooManyExpansions, &form, &place));
         }
         left -= 1;
-        let used = PendingUse {
-            form: &form,
+        let used = UsedForm {
             keyword: &keyword,
+            form: &form,
             frame: None,
             place: &place,
         };
@@ -349,9 +342,9 @@ pub(crate) fn expand_item_uses<M: Transformers, N: Ledger, L: Ledger>(
         }
         left -= 1;
         let frame = body.frame.share()?;
-        let used = PendingUse {
-            form: &form,
+        let used = UsedForm {
             keyword: &keyword,
+            form: &form,
             frame: Some(frame),
             place: &body.place,
         };

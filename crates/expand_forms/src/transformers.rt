@@ -23,16 +23,15 @@ pub trait Transformers {
     /// The records before the library.
     ghost records: { Self → List CompiledLibrary };
 
-    /// What comes of a use of the keyword with this label. Faults of evaluation stand at the place in `used`.
+    /// What comes of a use of the keyword with this label. Faults of evaluation stand at its place.
     fn use_keyword<N: Ledger, L: Ledger>(
         &self,
         state: &mut Expansion<L>,
-        used: UsedForm,
-        label: &Label,
+        used: UsedForm<&Label>,
         counts: &mut Counts<N, L>,
     ) -> Result<Syn, Stop>
         ensures { GivesAfter (λ t. t) result state.new (use_keyword
-            (records self.now) used.entry.place.now used.entry.form.now label.now used.entry.frame state.old) };
+            (records self.now) used.entry.place.now used.entry.form.now used.entry.keyword.now used.entry.frame state.old) };
 
     /// Whether an assignment to a keyword is a use of it.
     fn asks_variable<N: Ledger, L: Ledger>(
@@ -61,11 +60,10 @@ impl<'a> Transformers for Means<'a> {
     fn use_keyword<N: Ledger, L: Ledger>(
         &self,
         state: &mut Expansion<L>,
-        used: UsedForm,
-        label: &Label,
+        used: UsedForm<&Label>,
         counts: &mut Counts<N, L>,
     ) -> Result<Syn, Stop> {
-        state.use_keyword(used, label, self, counts)
+        state.use_keyword(used, self, counts)
     }
 
     fn asks_variable<N: Ledger, L: Ledger>(

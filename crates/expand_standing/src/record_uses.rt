@@ -64,16 +64,21 @@ impl<L: Ledger> Expansion<L> {
     #[tactic(auto, unfolding(crate::specs::RecordUses::record_marked))]
     fn record_marked<N: Ledger>(
         &mut self,
-        used: UsedForm,
-        which: CoreForm,
+        used: UsedForm<CoreForm>,
         mark: Mark,
         nodes: &mut Steps<N>,
     ) -> Result<Syn, Stop>
-        ensures given { GivesAfter (λ t. t) result self.new (record_marked used.entry.place.now used.entry.form.now which used.entry.frame mark self.old) }
+        ensures given { GivesAfter (λ t. t) result self.new
+            (record_marked used.entry.place.now used.entry.form.now used.entry.keyword used.entry.frame mark self.old) }
         ensures made { OnOk result (nodes.new ≡ nodes.old + 2) }
         ensures refused { OnErr result (nodes.new ≤ nodes.old + 1) }
     {
-        let UsedForm { form, frame, place } = used;
+        let UsedForm {
+            keyword: which,
+            form,
+            frame,
+            place,
+        } = used;
         let before = self.count_record_type(which)?;
         let entered = form.enter(self.alloc, mark.share()?, nodes)?;
         let made = self.record_tree(&entered, which, before, place)?;
@@ -86,15 +91,14 @@ impl<L: Ledger> Expansion<L> {
     #[tactic(auto, unfolding(crate::specs::RecordUses::use_record))]
     pub fn use_record<N: Ledger>(
         &mut self,
-        used: UsedForm,
-        which: CoreForm,
+        used: UsedForm<CoreForm>,
         nodes: &mut Steps<N>,
     ) -> Result<Syn, Stop>
-        ensures given { GivesAfter (λ t. t) result self.new (use_record used.entry.place.now used.entry.form.now which used.entry.frame self.old) }
+        ensures given { GivesAfter (λ t. t) result self.new (use_record used.entry.place.now used.entry.form.now used.entry.keyword used.entry.frame self.old) }
         ensures made { OnOk result (nodes.new ≡ nodes.old + 2) }
         ensures refused { OnErr result (nodes.new ≤ nodes.old + 1) }
     {
         let mark = Mark(self.fresh()?);
-        self.record_marked(used, which, mark, nodes)
+        self.record_marked(used, mark, nodes)
     }
 }

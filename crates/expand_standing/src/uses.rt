@@ -27,9 +27,10 @@ use eval_stage::uses::MacroUse;
 use std::sync::ledger::Ledger;
 use stx_object::syn::Syn;
 
-/// A form that is used.
+/// A use of a keyword, and what is known of the keyword.
 #[derive(Drop)]
-pub struct UsedForm<'a> {
+pub struct UsedForm<'a, K> {
+    pub keyword: K,
     pub form: &'a Syn,
     /// That of the body, where the use stands in one.
     pub frame: Option<FrameNo>,
@@ -78,17 +79,21 @@ impl<L: Ledger> Expansion<L> {
     #[tactic(auto, unfolding(crate::specs::Uses::use_keyword), using(crate::proofs::Staged::staged_gives))]
     pub fn use_keyword<N: Ledger>(
         &mut self,
-        used: UsedForm,
-        label: &Label,
+        used: UsedForm<&Label>,
         means: &Means,
         counts: &mut Counts<N, L>,
     ) -> Result<Syn, Stop>
         ensures given { GivesAfter (λ t. t) result self.new
-            (use_keyword (earlier_in means.now.earlier) used.entry.place.now used.entry.form.now label.now used.entry.frame self.old) }
+            (use_keyword (earlier_in means.now.earlier) used.entry.place.now used.entry.form.now used.entry.keyword.now used.entry.frame self.old) }
         ensures made { OnOk result (counts.new.nodes.now ≡ counts.old.nodes.now + 2) }
         ensures refused { OnErr result (counts.new.nodes.now ≤ counts.old.nodes.now + 1) }
     {
-        let UsedForm { form, frame, place } = used;
+        let UsedForm {
+            keyword: label,
+            form,
+            frame,
+            place,
+        } = used;
         let expression = self.macro_expression(label)?;
         let earlier = Earlier {
             records: means.earlier.records,
