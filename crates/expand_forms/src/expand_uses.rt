@@ -12,13 +12,13 @@ use base_data::memory::Memory;
 use base_data::name::Label;
 use base_data::span::Span;
 use core_shapes::at::place_of;
+use eval_stage::uses::MacroUse;
 use expand_heads::item::{HeadItem, Item};
 use expand_heads::items::{item_plan, wait};
 use expand_heads::plan::{HeadPlan, KeywordUse, Plan, plan_of};
 use expand_heads::taken::{BodyAt, Taken};
 use expand_standing::expansion::Expansion;
 use expand_standing::means::Counts;
-use expand_standing::uses::UsedForm;
 use std::sync::ledger::Ledger;
 use stx_object::syn::Syn;
 
@@ -63,14 +63,14 @@ struct AssignedKeyword {
 /// The form that a use gives, of a keyword with a transformer or of a record form.
 fn used_form<M: Transformers, N: Ledger, L: Ledger>(
     state: &mut Expansion<L>,
-    used: UsedForm<&KeywordUse>,
+    used: MacroUse<&KeywordUse>,
     means: &M,
     counts: &mut Counts<N, L>,
 ) -> Result<Syn, Stop>
     ensures { GivesAfter (λ t. t) result state.new (used_form
         (M.records means.now) used.entry.place.now used.entry.form.now used.entry.keyword.now used.entry.frame state.old) }
 {
-    let UsedForm {
+    let MacroUse {
         keyword,
         form,
         frame,
@@ -78,7 +78,7 @@ fn used_form<M: Transformers, N: Ledger, L: Ledger>(
     } = used;
     match keyword {
         KeywordUse::Macro(label) => {
-            let used = UsedForm {
+            let used = MacroUse {
                 keyword: label,
                 form,
                 frame,
@@ -87,7 +87,7 @@ fn used_form<M: Transformers, N: Ledger, L: Ledger>(
             means.use_keyword(state, used, counts)
         }
         KeywordUse::Record(which) => {
-            let used = UsedForm {
+            let used = MacroUse {
                 keyword: *which,
                 form,
                 frame,
@@ -103,7 +103,7 @@ fn used_form<M: Transformers, N: Ledger, L: Ledger>(
 fn next_form<M: Transformers, N: Ledger, L: Ledger>(
     state: &mut Expansion<L>,
     left: u32,
-    used: UsedForm<&KeywordUse>,
+    used: MacroUse<&KeywordUse>,
     means: &M,
     counts: &mut Counts<N, L>,
 ) -> Result<Syn, Stop>
@@ -112,7 +112,7 @@ fn next_form<M: Transformers, N: Ledger, L: Ledger>(
 {
     state.leave_uses(left);
     let at = place_of(used.form, used.place)?;
-    let used = UsedForm { place: &at, ..used };
+    let used = MacroUse { place: &at, ..used };
     used_form(state, used, means, counts)
 }
 
@@ -209,7 +209,7 @@ pub(crate) fn expand_uses<M: Transformers, N: Ledger, L: Ledger>(
             return Err(state.fault_form(FaultKind::TooManyExpansions, &form, &place));
         }
         left -= 1;
-        let used = UsedForm {
+        let used = MacroUse {
             keyword: &keyword,
             form: &form,
             frame: None,
@@ -342,7 +342,7 @@ pub(crate) fn expand_item_uses<M: Transformers, N: Ledger, L: Ledger>(
         }
         left -= 1;
         let frame = body.frame.share()?;
-        let used = UsedForm {
+        let used = MacroUse {
             keyword: &keyword,
             form: &form,
             frame: Some(frame),

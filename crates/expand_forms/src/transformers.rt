@@ -10,9 +10,10 @@ use base_data::fault::Stop;
 use base_data::name::Label;
 use base_data::span::Span;
 use core_language::code::Core;
+use eval_stage::uses::MacroUse;
 use expand_standing::expansion::Expansion;
 use expand_standing::means::{Counts, Means};
-use expand_standing::uses::{KeywordAt, UsedForm};
+use expand_standing::uses::KeywordAt;
 use std::sync::ledger::Ledger;
 use stx_object::syn::Syn;
 
@@ -27,7 +28,7 @@ pub trait Transformers {
     fn use_keyword<N: Ledger, L: Ledger>(
         &self,
         state: &mut Expansion<L>,
-        used: UsedForm<&Label>,
+        used: MacroUse<&Label>,
         counts: &mut Counts<N, L>,
     ) -> Result<Syn, Stop>
         ensures { GivesAfter (λ t. t) result state.new (use_keyword
@@ -60,7 +61,7 @@ impl<'a> Transformers for Means<'a> {
     fn use_keyword<N: Ledger, L: Ledger>(
         &self,
         state: &mut Expansion<L>,
-        used: UsedForm<&Label>,
+        used: MacroUse<&Label>,
         counts: &mut Counts<N, L>,
     ) -> Result<Syn, Stop> {
         state.use_keyword(used, self, counts)

@@ -5,7 +5,6 @@ ghost use Rattle.base_data.specs.Act.{GivesAfter};
 ghost use Rattle.expand_standing.specs.RecordUses.{defines_type, count_record_type, record_tree, record_marked, use_record};
 
 use crate::expansion::Expansion;
-use crate::uses::UsedForm;
 use base_data::fault::Stop;
 use base_data::name::Mark;
 use base_data::span::Span;
@@ -14,6 +13,7 @@ use core_language::core_form::CoreForm;
 use core_records::context::RecordContext;
 use core_records::forms::record_forms;
 use core_records::names::record_uid;
+use eval_stage::uses::MacroUse;
 use std::sync::ledger::Ledger;
 use stx_object::syn::Syn;
 
@@ -64,7 +64,7 @@ impl<L: Ledger> Expansion<L> {
     #[tactic(auto, unfolding(crate::specs::RecordUses::record_marked))]
     fn record_marked<N: Ledger>(
         &mut self,
-        used: UsedForm<CoreForm>,
+        used: MacroUse<CoreForm>,
         mark: Mark,
         nodes: &mut Steps<N>,
     ) -> Result<Syn, Stop>
@@ -73,7 +73,7 @@ impl<L: Ledger> Expansion<L> {
         ensures made { OnOk result (nodes.new ≡ nodes.old + 2) }
         ensures refused { OnErr result (nodes.new ≤ nodes.old + 1) }
     {
-        let UsedForm {
+        let MacroUse {
             keyword: which,
             form,
             frame,
@@ -91,7 +91,7 @@ impl<L: Ledger> Expansion<L> {
     #[tactic(auto, unfolding(crate::specs::RecordUses::use_record))]
     pub fn use_record<N: Ledger>(
         &mut self,
-        used: UsedForm<CoreForm>,
+        used: MacroUse<CoreForm>,
         nodes: &mut Steps<N>,
     ) -> Result<Syn, Stop>
         ensures given { GivesAfter (λ t. t) result self.new (use_record used.entry.place.now used.entry.form.now used.entry.keyword used.entry.frame self.old) }

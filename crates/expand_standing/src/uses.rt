@@ -14,7 +14,7 @@ use crate::means::{Counts, Means};
 use base_data::fault::{FaultKind, Stop};
 use base_data::items::Items;
 use base_data::memory::Memory;
-use base_data::name::{FrameNo, Label, Name};
+use base_data::name::{Label, Name};
 use base_data::span::Span;
 use core_language::binding::{Binding, Expression};
 use core_language::code::Core;
@@ -23,20 +23,9 @@ use core_shapes::lists::is_id;
 use core_shapes::shape::BindingSpec;
 use eval_stage::context::StageContext;
 use eval_stage::earlier::Earlier;
-use eval_stage::uses::MacroUse;
+use eval_stage::uses::{BoundKeyword, MacroUse};
 use std::sync::ledger::Ledger;
 use stx_object::syn::Syn;
-
-/// A use of a keyword, and what is known of the keyword.
-#[derive(Drop)]
-pub struct UsedForm<'a, K> {
-    pub keyword: K,
-    pub form: &'a Syn,
-    /// That of the body, where the use stands in one.
-    pub frame: Option<FrameNo>,
-    /// Where a form without a span stands, and faults of evaluation.
-    pub place: &'a Span,
-}
 
 /// A keyword that waits for its expression, which stands at the place.
 #[derive(Drop)]
@@ -79,7 +68,7 @@ impl<L: Ledger> Expansion<L> {
     #[tactic(auto, unfolding(crate::specs::Uses::use_keyword), using(crate::proofs::Staged::staged_gives))]
     pub fn use_keyword<N: Ledger>(
         &mut self,
-        used: UsedForm<&Label>,
+        used: MacroUse<&Label>,
         means: &Means,
         counts: &mut Counts<N, L>,
     ) -> Result<Syn, Stop>
@@ -88,7 +77,7 @@ impl<L: Ledger> Expansion<L> {
         ensures made { OnOk result (counts.new.nodes.now ≡ counts.old.nodes.now + 2) }
         ensures refused { OnErr result (counts.new.nodes.now ≤ counts.old.nodes.now + 1) }
     {
-        let UsedForm {
+        let MacroUse {
             keyword: label,
             form,
             frame,
@@ -104,11 +93,15 @@ impl<L: Ledger> Expansion<L> {
             prims: means.prims,
             place,
         };
-        let one = MacroUse {
-            form,
+        let keyword = BoundKeyword {
             label,
             expression: &expression,
+        };
+        let one = MacroUse {
+            keyword,
+            form,
             frame,
+            place,
         };
         self.stage.used(&context, one, counts.nodes, counts.book)
     }
