@@ -49,9 +49,9 @@ module _ (c : TemplateScope) where
     made_atom e (pair p a d) h = absurd h
     made_atom e (vector p d) h = absurd h
 
-    pub made_leaf : (x : List ℕ) (t : Tree) → Opens (opened.Symbol x) t → template c t escaped under ≡ leaf_made c escaped x t under
+    pub made_leaf : (x : List ℕ) (t : Tree) → Opens (opened.Symbol x) t → template c t escaped under ≡ leaf_made c escaped (record { symbol = x; form = t }) under
     made_leaf x (atom p b) h = absurd h
-    made_leaf x (leaf p y k) h = ap (λ z. leaf_made c escaped z (leaf p y k) under) (sym h)
+    made_leaf x (leaf p y k) h = ap (λ z. leaf_made c escaped (record { symbol = z; form = leaf p y k }) under) (sym h)
     made_leaf x (pair p a d) h = absurd h
     made_leaf x (vector p d) h = absurd h
 
@@ -68,7 +68,7 @@ module _ (c : TemplateScope) where
   on_form escaped under t ts (Some u) = template c u true under >>= λ m. Ok (unescaped m)
 
   by_form : (escaped : Bool) (under : ℕ) (t : Tree) (ts : List Tree) (ends : Bool)
-      → list_made c escaped t (map (with_template c) ts) (template c (tail_of t)) under (escape_of c.frames escaped (map (with_template c) ts) ends)
+      → list_made c escaped (record { form = t; elements = map (with_template c) ts; tail = template c (tail_of t) }) under (escape_of c.frames escaped (map (with_template c) ts) ends)
       ≡ on_form escaped under t ts (escaped_form (first_label c.frames ts) escaped ts ends)
   by_form true under t ts ends = refl
   by_form false under t [] ends = refl
@@ -76,7 +76,7 @@ module _ (c : TemplateScope) where
   by_form false under t (x ∷ (y ∷ [])) false = refl
   by_form false under t (x ∷ (y ∷ [])) true = go (is_ellipsis c.frames x)
     where
-      go : (b : Bool) → list_made c false t (map (with_template c) (x ∷ (y ∷ []))) (template c (tail_of t)) under (if b then Some (with_template c y) else None)
+      go : (b : Bool) → list_made c false (record { form = t; elements = map (with_template c) (x ∷ (y ∷ [])); tail = template c (tail_of t) }) under (if b then Some (with_template c y) else None)
           ≡ on_form false under t (x ∷ (y ∷ [])) (if b then Some y else None)
       go true = refl
       go false = refl
@@ -87,8 +87,8 @@ module _ (c : TemplateScope) where
   made_list escaped under (atom p b) h = absurd (cc)
   made_list escaped under (leaf p y k) h = absurd (cc)
   made_list escaped under (pair p a d) h =
-      ap (λ (xs : List TemplateElement). list_made c escaped (pair p a d) ((a, template c a) ∷ xs) (tail_made c d) under (escape_of c.frames escaped ((a, template c a) ∷ xs) (is_nil (tail_of d)))) (elements_are d)
-      ∙ ap (λ (go : Bool → ℕ → Result CompiledForm Fault). list_made c escaped (pair p a d) (map (with_template c) (a ∷ elements d)) go under (escape_of c.frames escaped (map (with_template c) (a ∷ elements d)) (is_nil (tail_of d)))) (tail_is d)
+      ap (λ (xs : List TemplateElement). list_made c escaped (record { form = pair p a d; elements = (a, template c a) ∷ xs; tail = tail_made c d }) under (escape_of c.frames escaped ((a, template c a) ∷ xs) (is_nil (tail_of d)))) (elements_are d)
+      ∙ ap (λ (go : Bool → ℕ → Result CompiledForm Fault). list_made c escaped (record { form = pair p a d; elements = map (with_template c) (a ∷ elements d); tail = go }) under (escape_of c.frames escaped (map (with_template c) (a ∷ elements d)) (is_nil (tail_of d)))) (tail_is d)
       ∙ by_form escaped under (pair p a d) (a ∷ elements d) (is_nil (tail_of d))
   made_list escaped under (vector p d) h = absurd (cc)
 

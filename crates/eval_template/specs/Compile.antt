@@ -25,8 +25,10 @@ use Rattle.core_shapes.specs.Lists.{is_nil, elements, tail_of}
 use Rattle.eval_pattern.specs.Keywords.{is_form, is_ellipsis}
 use Rattle.eval_template.specs.declared.compile.CompiledForm.{CompiledForm}
 use Rattle.eval_template.specs.declared.compile.CompiledForm.TheVariants.{Fixed, Varied}
+use Rattle.eval_template.specs.declared.compile.Identifier.{Identifier}
 use Rattle.eval_template.specs.declared.compile.MadeItem.{MadeItem}
 use Rattle.eval_template.specs.declared.compile.TemplateContext.{TemplateContext}
+use Rattle.eval_template.specs.declared.compile.TemplateVariable.{TemplateVariable}
 
 -- what is known round a template: frames, bindings, the level of the template, and the place round it
 pub record TemplateScope : Type 0 where
@@ -43,28 +45,37 @@ bad place t = fault_at kind.BadTemplate t place []
 
 -- Identifiers.
 
+-- an identifier of a template, and its symbol
+pub record PlainIdentifier : Type 0 where
+  pub symbol : List ℕ
+  pub form : Tree
+
+abbrev pub seen_id : Identifier → PlainIdentifier
+seen_id id = record { symbol = id.symbol.now; form = id.form.now }
+
 -- a variable of another level is the fault before one under too few ellipses
-abbrev pub variable_made : TemplateScope → ℕ → List ℕ → Tree → Label → (level depth : ℕ) → Result CompiledForm Fault
-variable_made c under x t l level depth =
-    if nat_eq level c.level
-    then (if nat_lt under depth then Err (bad c.place t) else Ok (Varied (variable l depth) depth))
-    else Err (fault_at kind.OutOfContext t c.place (x ∷ []))
+abbrev pub variable_made : TemplateScope → ℕ → PlainIdentifier → TemplateVariable → Result CompiledForm Fault
+variable_made c under id v =
+    if nat_eq v.level c.level
+    then (if nat_lt under v.depth then Err (bad c.place id.form) else Ok (Varied (variable v.label v.depth) v.depth))
+    else Err (fault_at kind.OutOfContext id.form c.place (id.symbol ∷ []))
 
-abbrev pub bound_made : TemplateScope → ℕ → List ℕ → Tree → Label → Option Binding → Result CompiledForm Fault
-bound_made c under x t l (Some (binding.PatternVariable level depth)) = variable_made c under x t l level depth
-bound_made c under x t l _ = Ok (Fixed false t)
+abbrev pub bound_made : TemplateScope → ℕ → PlainIdentifier → Label → Option Binding → Result CompiledForm Fault
+bound_made c under id l (Some (binding.PatternVariable level depth)) =
+    variable_made c under id (record { label = l; level = level; depth = depth })
+bound_made c under id l _ = Ok (Fixed false id.form)
 
-abbrev pub label_made : TemplateScope → ℕ → List ℕ → Tree → Option Label → Result CompiledForm Fault
-label_made c under x t None = Ok (Fixed false t)
-label_made c under x t (Some l) = bound_made c under x t l (bound_to c.bindings l)
+abbrev pub label_made : TemplateScope → ℕ → PlainIdentifier → Option Label → Result CompiledForm Fault
+label_made c under id None = Ok (Fixed false id.form)
+label_made c under id (Some l) = bound_made c under id l (bound_to c.bindings l)
 
 -- in an escaped template an ellipsis is an identifier as any other
 abbrev pub is_special : Bool → Option Label → Bool
 is_special escaped o = if escaped then false else is_form form.Ellipsis o
 
-abbrev pub leaf_made : TemplateScope → Bool → List ℕ → Tree → ℕ → Result CompiledForm Fault
-leaf_made c escaped x t under =
-    if is_special escaped (stands c.frames t) then Err (bad c.place t) else label_made c under x t (stands c.frames t)
+abbrev pub leaf_made : TemplateScope → Bool → PlainIdentifier → ℕ → Result CompiledForm Fault
+leaf_made c escaped id under =
+    if is_special escaped (stands c.frames id.form) then Err (bad c.place id.form) else label_made c under id (stands c.frames id.form)
 
 -- Elements.
 
@@ -102,22 +113,23 @@ with_ellipses place es m (Some e) = Err (bad place e)
 abbrev pub fitted : Span → List Tree → CompiledForm → Result MadeItem Fault
 fitted place es m = with_ellipses place es m (slice_get es (reach m))
 
--- an element with the ellipses behind it
-abbrev pub item_made : TemplateScope → Bool → ℕ → TemplateElement → List Tree → Result MadeItem Fault
-item_made c escaped under x es = x.1 escaped (under + length es) >>= fitted c.place es
-
 -- how many of the next elements are ellipses that were taken with one before them, and the items so far
 abbrev pub Walked : Type 0
 Walked = ℕ × List MadeItem
 
-abbrev pub step : TemplateScope → Bool → ℕ → ℕ → TemplateElement → List Tree → List MadeItem → Result Walked Fault
-step c escaped under (suc skips) x es items = Ok (skips, items)
-step c escaped under zero x es items = item_made c escaped under x es >>= λ i. Ok (length es, items ++ i ∷ [])
+-- The elements of one list or vector, in an escaped template or not, under so many ellipses.
+module _ (c : TemplateScope) (escaped : Bool) (under : ℕ) where
+  -- an element with the ellipses behind it
+  abbrev pub item_made : TemplateElement → List Tree → Result MadeItem Fault
+  item_made x es = x.1 escaped (under + length es) >>= fitted c.place es
 
-abbrev pub walked : TemplateScope → Bool → ℕ → ℕ → List MadeItem → List TemplateElement → Result (List MadeItem) Fault
-walked c escaped under skips items [] = Ok items
-walked c escaped under skips items (x ∷ xs) =
-    step c escaped under skips x (dots_behind c.frames escaped xs) items >>= λ w. walked c escaped under w.0 w.1 xs
+  abbrev pub step : ℕ → TemplateElement → List Tree → List MadeItem → Result Walked Fault
+  step (suc skips) x es items = Ok (skips, items)
+  step zero x es items = item_made x es >>= λ i. Ok (length es, items ++ i ∷ [])
+
+  abbrev pub walked : ℕ → List MadeItem → List TemplateElement → Result (List MadeItem) Fault
+  walked skips items [] = Ok items
+  walked skips items (x ∷ xs) = step skips x (dots_behind c.frames escaped xs) items >>= λ w. walked w.0 w.1 xs
 
 -- Lists and vectors.
 
@@ -205,14 +217,19 @@ abbrev pub unescaped : CompiledForm → CompiledForm
 unescaped (Fixed changed t) = Fixed true t
 unescaped (Varied t r) = Varied t r
 
-abbrev pub list_parts : TemplateScope → Bool → Tree → List TemplateElement → (Bool → ℕ → Result CompiledForm Fault) → ℕ → Result CompiledForm Fault
-list_parts c escaped t xs tail under =
-    walked c escaped under 0 [] xs >>= λ items. tail escaped under >>= list_joined c.place t items
+-- a list, with its elements and what is made of its end
+pub record TemplateList : Type 0 where
+  pub form : Tree
+  pub elements : List TemplateElement
+  pub tail : Bool → ℕ → Result CompiledForm Fault
 
-abbrev pub list_made : TemplateScope → Bool → Tree → List TemplateElement → (Bool → ℕ → Result CompiledForm Fault) → ℕ
-    → Option TemplateElement → Result CompiledForm Fault
-list_made c escaped t xs tail under None = list_parts c escaped t xs tail under
-list_made c escaped t xs tail under (Some y) = y.1 true under >>= λ m. Ok (unescaped m)
+abbrev pub list_parts : TemplateScope → Bool → TemplateList → ℕ → Result CompiledForm Fault
+list_parts c escaped l under =
+    walked c escaped under 0 [] l.elements >>= λ items. l.tail escaped under >>= list_joined c.place l.form items
+
+abbrev pub list_made : TemplateScope → Bool → TemplateList → ℕ → Option TemplateElement → Result CompiledForm Fault
+list_made c escaped l under None = list_parts c escaped l under
+list_made c escaped l under (Some y) = y.1 true under >>= λ m. Ok (unescaped m)
 
 abbrev pub vector_made : TemplateScope → Bool → Tree → List TemplateElement → ℕ → Result CompiledForm Fault
 vector_made c escaped t xs under = walked c escaped under 0 [] xs >>= vector_joined c.place t
@@ -220,9 +237,9 @@ vector_made c escaped t xs under = walked c escaped under 0 [] xs >>= vector_joi
 abbrev mutual
   pub template : TemplateScope → Tree → Bool → ℕ → Result CompiledForm Fault
   template c (tree.atom s a) escaped under = Ok (Fixed false (tree.atom s a))
-  template c (tree.leaf s x k) escaped under = leaf_made c escaped x (tree.leaf s x k) under
+  template c (tree.leaf s x k) escaped under = leaf_made c escaped (record { symbol = x; form = tree.leaf s x k }) under
   template c (tree.pair s a d) escaped under =
-      list_made c escaped (tree.pair s a d) ((a, template c a) ∷ elements_made c d) (tail_made c d) under
+      list_made c escaped (record { form = tree.pair s a d; elements = (a, template c a) ∷ elements_made c d; tail = tail_made c d }) under
       (escape_of c.frames escaped ((a, template c a) ∷ elements_made c d) (is_nil (tail_of d)))
   template c (tree.vector s d) escaped under = vector_made c escaped (tree.vector s d) (elements_made c d) under
 
@@ -236,7 +253,7 @@ abbrev mutual
   -- what is made of the end of a list
   pub tail_made : TemplateScope → Tree → Bool → ℕ → Result CompiledForm Fault
   tail_made c (tree.atom s a) escaped under = Ok (Fixed false (tree.atom s a))
-  tail_made c (tree.leaf s x k) escaped under = leaf_made c escaped x (tree.leaf s x k) under
+  tail_made c (tree.leaf s x k) escaped under = leaf_made c escaped (record { symbol = x; form = tree.leaf s x k }) under
   tail_made c (tree.pair s a d) escaped under = tail_made c d escaped under
   tail_made c (tree.vector s d) escaped under = vector_made c escaped (tree.vector s d) (elements_made c d) under
 

@@ -10,7 +10,7 @@ ghost use Rattle.core_language.specs.Bindings.{bound_to};
 ghost use Rattle.stx_scope.specs.Stands.{stands};
 ghost use Rattle.core_shapes.specs.Lists.{tail_of, elements};
 ghost use Rattle.eval_template.specs.declared.compile.CompiledForm.TheVariants.{Fixed, Varied};
-ghost use Rattle.eval_template.specs.Compile.{seen, bad, variable_made, bound_made, label_made, is_special, leaf_made, dot_count, first_label, reach, fitted, item_made, constant_of, template_of, items_of, reaches, is_fixed, all_fixed, is_changed, any_changed, tree_before, trees, StopsAt, rebuilt, fixed_list, list_joined, fixed_vector, vector_joined, unescaped, template, with_template, forms_walked, escaped_form, list_template, escaped_template, vector_template, compiled};
+ghost use Rattle.eval_template.specs.Compile.{seen, seen_id, bad, variable_made, bound_made, label_made, is_special, leaf_made, dot_count, first_label, reach, fitted, item_made, constant_of, template_of, items_of, reaches, is_fixed, all_fixed, is_changed, any_changed, tree_before, trees, StopsAt, rebuilt, fixed_list, list_joined, fixed_vector, vector_joined, unescaped, template, with_template, forms_walked, escaped_form, list_template, escaped_template, vector_template, compiled};
 
 use base_data::fault::{Bare, BareStop, Fault, FaultKind, Stop};
 use base_data::items::Items;
@@ -119,7 +119,7 @@ fn variable_made(
     under: u64,
     variable: TemplateVariable,
 ) -> Result<CompiledForm, Stop>
-    ensures { Gives (λ m. m) result (variable_made (seen context.now) under id.now.symbol.now id.now.form.now variable.label variable.level variable.depth) }
+    ensures { Gives (λ m. m) result (variable_made (seen context.now) under (seen_id id.now) variable) }
 {
     let TemplateVariable {
         label,
@@ -148,7 +148,7 @@ fn label_made(
     under: u64,
     label: Option<Label>,
 ) -> Result<CompiledForm, Stop>
-    ensures { Gives (λ m. m) result (label_made (seen context.now) under id.now.symbol.now id.now.form.now label) }
+    ensures { Gives (λ m. m) result (label_made (seen context.now) under (seen_id id.now) label) }
 {
     let Some(label) = label else {
         let form = id.form.share()?;
@@ -188,7 +188,7 @@ fn leaf_made(
     under: u64,
 ) -> Result<CompiledForm, Stop>
     requires { label ≡ stands context.now.frames.now id.now.form.now }
-    ensures { Gives (λ m. m) result (leaf_made (seen context.now) escaped id.now.symbol.now id.now.form.now under) }
+    ensures { Gives (λ m. m) result (leaf_made (seen context.now) escaped (seen_id id.now) under) }
 {
     if is_special(escaped, &label) {
         return Err(bad_template(context, id.form));

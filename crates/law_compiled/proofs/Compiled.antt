@@ -95,7 +95,7 @@ module _ (c : TemplateScope) where
       abbrev itself : PlainTemplate
       itself = template_of_core.constant (unspanned t)
 
-      by-binding : (l : Label) (o : Option Binding) → stands c.frames t ≡ Some l → bound_to c.bindings l ≡ o → Tells (Is itself) IsDeep (bound_made c under x t l o)
+      by-binding : (l : Label) (o : Option Binding) → stands c.frames t ≡ Some l → bound_to c.bindings l ≡ o → Tells (Is itself) IsDeep (bound_made c under (record { symbol = x; form = t }) l o)
       by-binding l None e b = refl
       by-binding l (Some (binding.Variable v)) e b = refl
       by-binding l (Some (binding.PatternVariable level depth)) e b = absurd (other.other l level depth (record { label = e; bound = b }))
@@ -103,7 +103,7 @@ module _ (c : TemplateScope) where
       by-binding l (Some (binding.Core f)) e b = refl
       by-binding l (Some (binding.Primitive o)) e b = refl
 
-      by-label : (o : Option Label) → stands c.frames t ≡ o → Tells (Is itself) IsDeep (label_made c under x t o)
+      by-label : (o : Option Label) → stands c.frames t ≡ o → Tells (Is itself) IsDeep (label_made c under (record { symbol = x; form = t }) o)
       by-label None e = refl
       by-label (Some l) e = by-binding l (bound_to c.bindings l) e refl
 
@@ -116,8 +116,8 @@ module _ (c : TemplateScope) where
 
       leaf-varies : ComesTo escaped under t this
       leaf-varies = special-tells escaped t this _ _ free
-          (subst (λ o. Tells (Is this) IsDeep (label_made c under x t o)) (sym b.label)
-          (subst (λ o. Tells (Is this) IsDeep (bound_made c under x t l o)) (sym b.bound)
+          (subst (λ o. Tells (Is this) IsDeep (label_made c under (record { symbol = x; form = t }) o)) (sym b.label)
+          (subst (λ o. Tells (Is this) IsDeep (bound_made c under (record { symbol = x; form = t }) l o)) (sym b.bound)
           (tells-if (Is this) IsDeep (nat_eq c.level c.level) _ _
           (λ e. tells-if (Is this) IsDeep (nat_lt under depth) _ _ (λ lt. let a = sym lt ∙ not-less under depth le in absurd (cc)) (λ h. refl))
           (λ e. let a = sym e ∙ (unsigned_Decides c.level c.level).1 refl in absurd (cc)))))
@@ -201,7 +201,7 @@ module _ (c : TemplateScope) where
         weaken (Ok y) h = h.template ∙ (λ j. list_by (same j) (constants (same j)) (e j))
         weaken (Err f) h = deep-is f t c.place h
 
-    parts-come : Tells (AreAll is []) IsDeep (walked c escaped under 0 [] (map (with_template c) (x ∷ xs))) → ComesTo escaped under u q → Tells (Is made-list) IsDeep (list_parts c escaped t (map (with_template c) (x ∷ xs)) (template c u) under)
+    parts-come : Tells (AreAll is []) IsDeep (walked c escaped under 0 [] (map (with_template c) (x ∷ xs))) → ComesTo escaped under u q → Tells (Is made-list) IsDeep (list_parts c escaped (record { form = t; elements = map (with_template c) (x ∷ xs); tail = template c u }) under)
     parts-come items tail =
         then-tells (λ i. Walks c escaped under (x ∷ xs) [] i × AreAll is [] i) IsDeep (Is made-list) IsDeep (walked c escaped under 0 [] (map (with_template c) (x ∷ xs))) (λ i. template c u escaped under >>= list_joined c.place t i)
         (both-tell (Walks c escaped under (x ∷ xs) []) (AreAll is []) (IsBadIn c (x ∷ xs)) IsDeep (walked c escaped under 0 [] (map (with_template c) (x ∷ xs))) (walk-told c escaped under (x ∷ xs) all none_skipped []) items)
@@ -211,7 +211,7 @@ module _ (c : TemplateScope) where
 
     list-comes : Tells (AreAll is []) IsDeep (walked c escaped under 0 [] (map (with_template c) (x ∷ xs))) → ComesTo escaped under u q → Tells (Is made-list) IsDeep (list-template c t (x ∷ xs) u escaped under)
     list-comes items tail =
-        subst (λ o. Tells (Is made-list) IsDeep (list_made c escaped t (map (with_template c) (x ∷ xs)) (template c u) under o)) (sym (no-escape escaped under x xs is (is_nil u) are)) (parts-come items tail)
+        subst (λ o. Tells (Is made-list) IsDeep (list_made c escaped (record { form = t; elements = map (with_template c) (x ∷ xs); tail = template c u }) under o)) (sym (no-escape escaped under x xs is (is_nil u) are)) (parts-come items tail)
 
   vector-comes : (escaped : Bool) (under : ℕ) (s : Option Span) (d : Tree) (xs : List Tree) (is : PlainItems) → IsList xs d → Each (Told c) xs → Tells (AreAll is []) IsDeep (walked c escaped under 0 [] (map (with_template c) xs))
       → Tells (Is (vector_by is (constants is))) IsDeep (vector_made c escaped (vector s d) (map (with_template c) xs) under)
@@ -232,7 +232,7 @@ module _ (c : TemplateScope) where
 
   escape-comes : (under : ℕ) (t e u : Tree) (q : PlainTemplate) → IsKeywordIdentifier c.frames form.Ellipsis e → IsList (e ∷ (u ∷ [])) t → ComesTo true under u q → ComesTo false under t q
   escape-comes under _ e u q w (g.next {span = s} (g.next {span = o} (g.end {span = z}))) h =
-      subst (λ b. Tells (Is q) IsDeep (list_made c false (pair s e (pair o u (atom z Nil))) (map (with_template c) (e ∷ (u ∷ []))) (tail_made c (pair o u (atom z Nil))) under (if b then Some (with_template c u) else None)))
+      subst (λ b. Tells (Is q) IsDeep (list_made c false (record { form = pair s e (pair o u (atom z Nil)); elements = map (with_template c) (e ∷ (u ∷ [])); tail = tail_made c (pair o u (atom z Nil)) }) under (if b then Some (with_template c u) else None)))
       (sym (ellipsis-is c.frames e w))
       (then-tells (Is q) IsDeep (Is q) IsDeep (template c u true under) (λ m. Ok (unescaped m)) h (λ m k. unescaped-template m ∙ k) (λ f k. k))
 

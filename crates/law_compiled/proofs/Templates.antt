@@ -118,7 +118,7 @@ module _ (c : TemplateScope) where
     Leaves x = Tells (Gave escaped under t) (IsBadTemplate c t) x
 
     module _ (x : List ℕ) (distant : (l : Label) (level depth : ℕ) → IsBoundAt c t l level depth → (level ≡ c.level → ⊥) → IsBadPart c t (fault_at kind.OutOfContext t c.place (x ∷ []))) where
-      variable-told : (l : Label) (level depth : ℕ) → IsBoundAt c t l level depth → Leaves (variable_made c under x t l level depth)
+      variable-told : (l : Label) (level depth : ℕ) → IsBoundAt c t l level depth → Leaves (variable_made c under (record { symbol = x; form = t }) (record { label = l; level = level; depth = depth }))
       variable-told l level depth b =
           tells-if (Gave escaped under t) (IsBadTemplate c t) (nat_eq level c.level) _ _
           (λ at. let same = (unsigned_Decides level c.level).0 at in
@@ -131,7 +131,7 @@ module _ (c : TemplateScope) where
           }))
           (λ other. bad-at t (fault_at kind.OutOfContext t c.place (x ∷ [])) (distant l level depth b (λ e. let a = sym other ∙ (unsigned_Decides level c.level).1 e in absurd (cc))))
 
-      bound-told : (l : Label) (o : Option Binding) → stands c.frames t ≡ Some l → bound_to c.bindings l ≡ o → Leaves (bound_made c under x t l o)
+      bound-told : (l : Label) (o : Option Binding) → stands c.frames t ≡ Some l → bound_to c.bindings l ≡ o → Leaves (bound_made c under (record { symbol = x; form = t }) l o)
       bound-told l None e k = itself-gave (unbound l None e k tt) _ refl refl
       bound-told l (Some (binding.Variable v)) e k = itself-gave (unbound l (Some (binding.Variable v)) e k tt) _ refl refl
       bound-told l (Some (binding.PatternVariable level depth)) e k = variable-told l level depth (record { label = e; bound = k })
@@ -139,7 +139,7 @@ module _ (c : TemplateScope) where
       bound-told l (Some (binding.Core f)) e k = itself-gave (unbound l (Some (binding.Core f)) e k tt) _ refl refl
       bound-told l (Some (binding.Primitive q)) e k = itself-gave (unbound l (Some (binding.Primitive q)) e k tt) _ refl refl
 
-      label-told : (o : Option Label) → stands c.frames t ≡ o → Leaves (label_made c under x t o)
+      label-told : (o : Option Label) → stands c.frames t ≡ o → Leaves (label_made c under (record { symbol = x; form = t }) o)
       label-told None e = itself-gave (stands-for-nothing e) _ refl refl
       label-told (Some l) e = bound-told l (bound_to c.bindings l) e refl
 
@@ -354,12 +354,12 @@ module _ (c : TemplateScope) where
 
   -- the list of these elements and this tail
   abbrev pub list-template : Tree → List Tree → Tree → Bool → ℕ → Result Made Fault
-  list-template t ts u escaped under = list_made c escaped t (map (with_template c) ts) (template c u) under (escape_of c.frames escaped (map (with_template c) ts) (is_nil u))
+  list-template t ts u escaped under = list_made c escaped (record { form = t; elements = map (with_template c) ts; tail = template c u }) under (escape_of c.frames escaped (map (with_template c) ts) (is_nil u))
 
   pub list-template-is : (s : Option Span) (a d : Tree) (escaped : Bool) (under : ℕ) → template c (pair s a d) escaped under ≡ list-template (pair s a d) (a ∷ elements d) (tail_of d) escaped under
   list-template-is s a d escaped under =
-      ap (λ (xs : List TemplateElement). list_made c escaped (pair s a d) ((a, template c a) ∷ xs) (tail_made c d) under (escape_of c.frames escaped ((a, template c a) ∷ xs) (is_nil (tail_of d)))) (elements_are c d)
-      ∙ ap (λ (go : Bool → ℕ → Result Made Fault). list_made c escaped (pair s a d) (map (with_template c) (a ∷ elements d)) go under (escape_of c.frames escaped (map (with_template c) (a ∷ elements d)) (is_nil (tail_of d)))) (tail_is c d)
+      ap (λ (xs : List TemplateElement). list_made c escaped (record { form = pair s a d; elements = (a, template c a) ∷ xs; tail = tail_made c d }) under (escape_of c.frames escaped ((a, template c a) ∷ xs) (is_nil (tail_of d)))) (elements_are c d)
+      ∙ ap (λ (go : Bool → ℕ → Result Made Fault). list_made c escaped (record { form = pair s a d; elements = map (with_template c) (a ∷ elements d); tail = go }) under (escape_of c.frames escaped (map (with_template c) (a ∷ elements d)) (is_nil (tail_of d)))) (tail_is c d)
 
   module _ (t u x : Tree) (xs : List Tree) (ch : IsChain (x ∷ xs) u t) (all : Each Told (x ∷ xs)) (last : Told u) where
     abbrev Lists : Bool → ℕ → Result Made Fault → Type 0
@@ -374,7 +374,7 @@ module _ (c : TemplateScope) where
         (λ y q. record { is = subst (IsTemplate c escaped under t) (sym q.template) (r.a_list ch h.are k.is); part = record { template = refl; kept = q.kept; varied = q.varied; reached = q.reached; deep = q.deep } })
         (λ f e. too-large f e)
 
-    parts-told : (escaped : Bool) (under : ℕ) → Lists escaped under (list_parts c escaped t (map (with_template c) (x ∷ xs)) (template c u) under)
+    parts-told : (escaped : Bool) (under : ℕ) → Lists escaped under (list_parts c escaped (record { form = t; elements = map (with_template c) (x ∷ xs); tail = template c u }) under)
     parts-told escaped under =
         then-tells (Walks escaped under (x ∷ xs) []) (IsBadIn (x ∷ xs)) (Gave escaped under t) (IsBadTemplate c t) (walked c escaped under 0 [] (map (with_template c) (x ∷ xs))) (λ is. template c u escaped under >>= list_joined c.place t is)
         (walk-told escaped under (x ∷ xs) all none_skipped [])
@@ -402,11 +402,11 @@ module _ (c : TemplateScope) where
   list-told t u x (y ∷ (z ∷ zs)) ch all last false under = parts-told t u x (y ∷ (z ∷ zs)) ch all last false under
   list-told t u x (y ∷ []) ch all last false under = ends (is_nil u) refl
     where
-      by : (b : Bool) → is_ellipsis c.frames x ≡ b → is_nil u ≡ true → Tells (Gave false under t) (IsBadTemplate c t) (list_made c false t (map (with_template c) (x ∷ (y ∷ []))) (template c u) under (if b then Some (with_template c y) else None))
+      by : (b : Bool) → is_ellipsis c.frames x ≡ b → is_nil u ≡ true → Tells (Gave false under t) (IsBadTemplate c t) (list_made c false (record { form = t; elements = map (with_template c) (x ∷ (y ∷ [])); tail = template c u }) under (if b then Some (with_template c y) else None))
       by true e n = escape-told t x y under (form-is c.frames form.Ellipsis x e) (chain-list ch n) all.1.0
       by false e n = parts-told t u x (y ∷ []) ch all last false under
 
-      ends : (b : Bool) → is_nil u ≡ b → Tells (Gave false under t) (IsBadTemplate c t) (list_made c false t (map (with_template c) (x ∷ (y ∷ []))) (template c u) under (escape_of c.frames false (map (with_template c) (x ∷ (y ∷ []))) b))
+      ends : (b : Bool) → is_nil u ≡ b → Tells (Gave false under t) (IsBadTemplate c t) (list_made c false (record { form = t; elements = map (with_template c) (x ∷ (y ∷ [])); tail = template c u }) under (escape_of c.frames false (map (with_template c) (x ∷ (y ∷ []))) b))
       ends true n = by (is_ellipsis c.frames x) refl n
       ends false n = parts-told t u x (y ∷ []) ch all last false under
 

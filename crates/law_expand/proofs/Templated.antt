@@ -196,7 +196,7 @@ module _ (Is : Label → ℕ → Type 0) where
   IsElement x = (escaped : Bool) (under : ℕ) → IfGood (MadeFits under) (x.1 escaped under)
 
   module _ (c : TemplateScope) (bound : (l : Label) (depth : ℕ) → bound_to c.bindings l ≡ Some (binding.PatternVariable c.level depth) → Is l depth) where
-    variable-fits : (under : ℕ) (x : List ℕ) (t : Tree) (l : Label) (level depth : ℕ) → bound_to c.bindings l ≡ Some (binding.PatternVariable level depth) → IfGood (MadeFits under) (variable_made c under x t l level depth)
+    variable-fits : (under : ℕ) (x : List ℕ) (t : Tree) (l : Label) (level depth : ℕ) → bound_to c.bindings l ≡ Some (binding.PatternVariable level depth) → IfGood (MadeFits under) (variable_made c under (record { symbol = x; form = t }) (record { label = l; level = level; depth = depth }))
     variable-fits under x t l level depth e =
         good-if (MadeFits under) (nat_eq level c.level) _ _
         (λ at. good-if (MadeFits under) (nat_lt under depth) _ _ (λ lt. tt)
@@ -209,7 +209,7 @@ module _ (Is : Label → ℕ → Type 0) where
         not-less : (m n : ℕ) → nat_lt m n ≡ false → n ≤ m
         not-less m n h = grind (arith, nat_tests)
 
-    bound-fits : (under : ℕ) (x : List ℕ) (t : Tree) (l : Label) (o : Option Binding) → bound_to c.bindings l ≡ o → IfGood (MadeFits under) (bound_made c under x t l o)
+    bound-fits : (under : ℕ) (x : List ℕ) (t : Tree) (l : Label) (o : Option Binding) → bound_to c.bindings l ≡ o → IfGood (MadeFits under) (bound_made c under (record { symbol = x; form = t }) l o)
     bound-fits under x t l None e = (tt, form-fits)
     bound-fits under x t l (Some (binding.Variable v)) e = (tt, form-fits)
     bound-fits under x t l (Some (binding.PatternVariable level depth)) e = variable-fits under x t l level depth e
@@ -217,11 +217,11 @@ module _ (Is : Label → ℕ → Type 0) where
     bound-fits under x t l (Some (binding.Core f)) e = (tt, form-fits)
     bound-fits under x t l (Some (binding.Primitive o)) e = (tt, form-fits)
 
-    label-fits : (under : ℕ) (x : List ℕ) (t : Tree) (o : Option Label) → IfGood (MadeFits under) (label_made c under x t o)
+    label-fits : (under : ℕ) (x : List ℕ) (t : Tree) (o : Option Label) → IfGood (MadeFits under) (label_made c under (record { symbol = x; form = t }) o)
     label-fits under x t None = (tt, form-fits)
     label-fits under x t (Some l) = bound-fits under x t l (bound_to c.bindings l) refl
 
-    leaf-fits : (escaped : Bool) (x : List ℕ) (t : Tree) (under : ℕ) → IfGood (MadeFits under) (leaf_made c escaped x t under)
+    leaf-fits : (escaped : Bool) (x : List ℕ) (t : Tree) (under : ℕ) → IfGood (MadeFits under) (leaf_made c escaped (record { symbol = x; form = t }) under)
     leaf-fits escaped x t under = good-if (MadeFits under) (is_special escaped (stands c.frames t)) _ _ (λ e. tt) (λ e. label-fits under x t (stands c.frames t))
 
     -- the ellipses behind an item are no more than it reaches
@@ -253,7 +253,7 @@ module _ (Is : Label → ℕ → Type 0) where
         good-then (λ (w : Walked). AllFit under w.1) (AllFit under) (step c escaped under skips x (dots_behind c.frames escaped xs) is) (λ w. walked c escaped under w.0 w.1 xs)
         (step-fits escaped under skips x (dots_behind c.frames escaped xs) is all.0 h) (λ w k. walked-fits escaped under w.0 w.1 xs all.1 k)
 
-    parts-fit : (escaped : Bool) (t : Tree) (xs : List TemplateElement) (tail : Bool → ℕ → Result Made Fault) (under : ℕ) → Each IsElement xs → ((e : Bool) (n : ℕ) → IfGood (MadeFits n) (tail e n)) → IfGood (MadeFits under) (list_parts c escaped t xs tail under)
+    parts-fit : (escaped : Bool) (t : Tree) (xs : List TemplateElement) (tail : Bool → ℕ → Result Made Fault) (under : ℕ) → Each IsElement xs → ((e : Bool) (n : ℕ) → IfGood (MadeFits n) (tail e n)) → IfGood (MadeFits under) (list_parts c escaped (record { form = t; elements = xs; tail = tail }) under)
     parts-fit escaped t xs tail under all last =
         good-then (AllFit under) (MadeFits under) (walked c escaped under 0 [] xs) (λ items. tail escaped under >>= list_joined c.place t items) (walked-fits escaped under 0 [] xs all tt)
         (λ is h. good-then (MadeFits under) (MadeFits under) (tail escaped under) (list_joined c.place t is) (last escaped under) (λ m k. list-joins under c.place t is m h k))
@@ -275,7 +275,7 @@ module _ (Is : Label → ℕ → Type 0) where
     escape-is true xs ends all = tt
 
     list-fits : (escaped : Bool) (t : Tree) (xs : List TemplateElement) (tail : Bool → ℕ → Result Made Fault) (under : ℕ) (o : Option TemplateElement) → Each IsElement xs → ((e : Bool) (n : ℕ) → IfGood (MadeFits n) (tail e n)) → IsEscape o
-        → IfGood (MadeFits under) (list_made c escaped t xs tail under o)
+        → IfGood (MadeFits under) (list_made c escaped (record { form = t; elements = xs; tail = tail }) under o)
     list-fits escaped t xs tail under None all last esc = parts-fit escaped t xs tail under all last
     list-fits escaped t xs tail under (Some y) all last esc = good-then (MadeFits under) (MadeFits under) (y.1 true under) (λ m. Ok (unescaped m)) (esc true under) (λ m h. unescaped-fits under m h)
 

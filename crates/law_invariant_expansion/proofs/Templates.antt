@@ -151,10 +151,10 @@ module _ (I : Invariant) (built : IsBuilt I) where
   IsElement x = (escaped : Bool) (under : ℕ) → OkHolds MadeHolds (x.1 escaped under)
 
   module _ (c : TemplateScope) where
-    variable-holds : (under : ℕ) (x : List ℕ) (t : Tree) (l : Label) (level depth : ℕ) → OkHolds MadeHolds (variable_made c under x t l level depth)
+    variable-holds : (under : ℕ) (x : List ℕ) (t : Tree) (l : Label) (level depth : ℕ) → OkHolds MadeHolds (variable_made c under (record { symbol = x; form = t }) (record { label = l; level = level; depth = depth }))
     variable-holds under x t l level depth = good-if MadeHolds (nat_eq level c.level) _ _ (good-if MadeHolds (nat_lt under depth) _ _ tt (tt, tt)) tt
 
-    bound-holds : (under : ℕ) (x : List ℕ) (t : Tree) (l : Label) (o : Option Binding) → I.trees t → OkHolds MadeHolds (bound_made c under x t l o)
+    bound-holds : (under : ℕ) (x : List ℕ) (t : Tree) (l : Label) (o : Option Binding) → I.trees t → OkHolds MadeHolds (bound_made c under (record { symbol = x; form = t }) l o)
     bound-holds under x t l None h = form-holds t h
     bound-holds under x t l (Some (binding.Variable v)) h = form-holds t h
     bound-holds under x t l (Some (binding.PatternVariable level depth)) h = variable-holds under x t l level depth
@@ -162,11 +162,11 @@ module _ (I : Invariant) (built : IsBuilt I) where
     bound-holds under x t l (Some (binding.Core f)) h = form-holds t h
     bound-holds under x t l (Some (binding.Primitive o)) h = form-holds t h
 
-    label-holds : (under : ℕ) (x : List ℕ) (t : Tree) (o : Option Label) → I.trees t → OkHolds MadeHolds (label_made c under x t o)
+    label-holds : (under : ℕ) (x : List ℕ) (t : Tree) (o : Option Label) → I.trees t → OkHolds MadeHolds (label_made c under (record { symbol = x; form = t }) o)
     label-holds under x t None h = form-holds t h
     label-holds under x t (Some l) h = bound-holds under x t l (bound_to c.bindings l) h
 
-    leaf-holds : (escaped : Bool) (x : List ℕ) (t : Tree) (under : ℕ) → I.trees t → OkHolds MadeHolds (leaf_made c escaped x t under)
+    leaf-holds : (escaped : Bool) (x : List ℕ) (t : Tree) (under : ℕ) → I.trees t → OkHolds MadeHolds (leaf_made c escaped (record { symbol = x; form = t }) under)
     leaf-holds escaped x t under h = good-if MadeHolds (is_special escaped (stands c.frames t)) _ _ tt (label-holds under x t (stands c.frames t) h)
 
     fitted-holds : (place : Span) (es : List Tree) (m : Made) → MadeHolds m → OkHolds ItemHolds (fitted place es m)
@@ -192,7 +192,7 @@ module _ (I : Invariant) (built : IsBuilt I) where
         good-then (λ (w : Walked). AllHold w.1) AllHold (step c escaped under skips x (dots_behind c.frames escaped xs) is) (λ w. walked c escaped under w.0 w.1 xs)
         (step-holds escaped under skips x (dots_behind c.frames escaped xs) is all.0 h) (λ w k. walked-holds escaped under w.0 w.1 xs all.1 k)
 
-    parts-hold : (escaped : Bool) (t : Tree) (xs : List TemplateElement) (tail : Bool → ℕ → Result Made Fault) (under : ℕ) → I.trees t → Each IsElement xs → ((e : Bool) (n : ℕ) → OkHolds MadeHolds (tail e n)) → OkHolds MadeHolds (list_parts c escaped t xs tail under)
+    parts-hold : (escaped : Bool) (t : Tree) (xs : List TemplateElement) (tail : Bool → ℕ → Result Made Fault) (under : ℕ) → I.trees t → Each IsElement xs → ((e : Bool) (n : ℕ) → OkHolds MadeHolds (tail e n)) → OkHolds MadeHolds (list_parts c escaped (record { form = t; elements = xs; tail = tail }) under)
     parts-hold escaped t xs tail under g all last =
         good-then AllHold MadeHolds (walked c escaped under 0 [] xs) (λ items. tail escaped under >>= list_joined c.place t items) (walked-holds escaped under 0 [] xs all tt)
         (λ is h. good-then MadeHolds MadeHolds (tail escaped under) (list_joined c.place t is) (last escaped under) (λ m k. list-joins c.place t is m g h k))
@@ -214,7 +214,7 @@ module _ (I : Invariant) (built : IsBuilt I) where
     escape-is true xs ends all = tt
 
     list-holds : (escaped : Bool) (t : Tree) (xs : List TemplateElement) (tail : Bool → ℕ → Result Made Fault) (under : ℕ) (o : Option TemplateElement) → I.trees t → Each IsElement xs → ((e : Bool) (n : ℕ) → OkHolds MadeHolds (tail e n)) → IsEscape o
-        → OkHolds MadeHolds (list_made c escaped t xs tail under o)
+        → OkHolds MadeHolds (list_made c escaped (record { form = t; elements = xs; tail = tail }) under o)
     list-holds escaped t xs tail under None g all last esc = parts-hold escaped t xs tail under g all last
     list-holds escaped t xs tail under (Some y) g all last esc = good-then MadeHolds MadeHolds (y.1 true under) (λ m. Ok (unescaped m)) (esc true under) (λ m h. unescaped-holds m h)
 

@@ -466,12 +466,12 @@ module _ (s : State) (place : Span) (level : ℕ) (root : Tree) where
 
   -- Leaves.
 
-  variable-names : (under : ℕ) (x : List ℕ) (t : Tree) (l : Label) (at depth : ℕ) → OkHolds (MadeNames (of_binding s place level t l (Some (binding.PatternVariable at depth)))) (variable_made c under x t l at depth)
+  variable-names : (under : ℕ) (x : List ℕ) (t : Tree) (l : Label) (at depth : ℕ) → OkHolds (MadeNames (of_binding s place level t l (Some (binding.PatternVariable at depth)))) (variable_made c under (record { symbol = x; form = t }) (record { label = l; level = at; depth = depth }))
   variable-names under x t l at depth =
       let r : Reference = record { leaf = t; state = s; label = l; code = instance (variable l depth) place } in
       good-choice MadeNames (nat_eq at level) (r ∷ []) [] _ _ (λ same. good-if (MadeNames (r ∷ [])) (nat_lt under depth) _ _ (λ lt. tt) (λ le. ((refl, tt), tt))) (λ other. tt)
 
-  bound-names : (under : ℕ) (x : List ℕ) (t : Tree) (l : Label) (o : Option Binding) → In t → OkHolds (MadeNames (of_binding s place level t l o)) (bound_made c under x t l o)
+  bound-names : (under : ℕ) (x : List ℕ) (t : Tree) (l : Label) (o : Option Binding) → In t → OkHolds (MadeNames (of_binding s place level t l o)) (bound_made c under (record { symbol = x; form = t }) l o)
   bound-names under x t l None g = form-names t g
   bound-names under x t l (Some (binding.Variable v)) g = form-names t g
   bound-names under x t l (Some (binding.PatternVariable at depth)) g = variable-names under x t l at depth
@@ -479,11 +479,11 @@ module _ (s : State) (place : Span) (level : ℕ) (root : Tree) where
   bound-names under x t l (Some (binding.Core f)) g = form-names t g
   bound-names under x t l (Some (binding.Primitive o)) g = form-names t g
 
-  label-names : (under : ℕ) (x : List ℕ) (t : Tree) (o : Option Label) → In t → OkHolds (MadeNames (of_label s place level t o)) (label_made c under x t o)
+  label-names : (under : ℕ) (x : List ℕ) (t : Tree) (o : Option Label) → In t → OkHolds (MadeNames (of_label s place level t o)) (label_made c under (record { symbol = x; form = t }) o)
   label-names under x t None g = form-names t g
   label-names under x t (Some l) g = bound-names under x t l (bound_to s.bindings l) g
 
-  leaf-names : (escaped : Bool) (x : List ℕ) (t : Tree) (under : ℕ) → In t → OkHolds (MadeNames (of_leaf s place level escaped t)) (leaf_made c escaped x t under)
+  leaf-names : (escaped : Bool) (x : List ℕ) (t : Tree) (under : ℕ) → In t → OkHolds (MadeNames (of_leaf s place level escaped t)) (leaf_made c escaped (record { symbol = x; form = t }) under)
   leaf-names escaped x t under g =
       good-choice MadeNames (is_special escaped (stands s.frames t)) [] (of_label s place level t (stands s.frames t)) _ _ (λ e. tt) (λ e. label-names under x t (stands s.frames t) g)
 
@@ -517,7 +517,7 @@ module _ (s : State) (place : Span) (level : ℕ) (root : Tree) where
       (step-names refs escaped under x xs is all.0 h)
       (λ w j. subst (λ (rs : List Reference). OkHolds (AllNames rs) (walked c escaped under w.0 w.1 xs)) (append_assoc refs (refs_in escaped x.0) (all_refs escaped xs)) (walked-names (refs ++ refs_in escaped x.0) escaped under w.0 w.1 xs all.1 j.1 j.0))
 
-  parts-names : (last : List Reference) (escaped : Bool) (t : Tree) (xs : List TemplateElement) (tail : Bool → ℕ → Result Made Fault) (under : ℕ) → In t → Each IsElement xs → OkHolds (MadeNames last) (tail escaped under) → OkHolds (MadeNames (all_refs escaped xs ++ last)) (list_parts c escaped t xs tail under)
+  parts-names : (last : List Reference) (escaped : Bool) (t : Tree) (xs : List TemplateElement) (tail : Bool → ℕ → Result Made Fault) (under : ℕ) → In t → Each IsElement xs → OkHolds (MadeNames last) (tail escaped under) → OkHolds (MadeNames (all_refs escaped xs ++ last)) (list_parts c escaped (record { form = t; elements = xs; tail = tail }) under)
   parts-names last escaped t xs tail under g all end =
       good-then (AllNames (all_refs escaped xs)) (MadeNames (all_refs escaped xs ++ last)) (walked c escaped under 0 [] xs) (λ items. tail escaped under >>= list_joined place t items) (walked-names [] escaped under 0 [] xs all tt no-names)
       (λ is h. good-then (MadeNames last) (MadeNames (all_refs escaped xs ++ last)) (tail escaped under) (list_joined place t is) end (λ m k. list-joins (all_refs escaped xs) last t is m g h k))
@@ -551,8 +551,8 @@ module _ (s : State) (place : Span) (level : ℕ) (root : Tree) where
       let d : Tree = tree.pair q b (tree.pair r e f) in append_assoc (refs_in false a) (all_refs false (elements_made c d)) (tail_refs false d) ∙ ap (λ rs. refs_in false a ++ rs) (list-refs false d)
 
   list-made-names : (last refs : List Reference) (escaped : Bool) (t : Tree) (xs : List TemplateElement) (tail : Bool → ℕ → Result Made Fault) (under : ℕ) (o : Option TemplateElement) → In t → Each IsElement xs → OkHolds (MadeNames last) (tail escaped under) → Escapes (all_refs escaped xs ++ last) refs o
-      → OkHolds (MadeNames refs) (list_made c escaped t xs tail under o)
-  list-made-names last refs escaped t xs tail under None g all end esc = subst (λ (rs : List Reference). OkHolds (MadeNames rs) (list_parts c escaped t xs tail under)) esc (parts-names last escaped t xs tail under g all end)
+      → OkHolds (MadeNames refs) (list_made c escaped (record { form = t; elements = xs; tail = tail }) under o)
+  list-made-names last refs escaped t xs tail under None g all end esc = subst (λ (rs : List Reference). OkHolds (MadeNames rs) (list_parts c escaped (record { form = t; elements = xs; tail = tail }) under)) esc (parts-names last escaped t xs tail under g all end)
   list-made-names last refs escaped t xs tail under (Some y) g all end esc =
       good-then (MadeNames (refs_in true y.0)) (MadeNames refs) (y.1 true under) (λ m. Ok (unescaped m)) (esc.0 true under)
       (λ m h. unescaped-names refs m (subst (λ (rs : List Reference). MadeNames rs m) esc.1 h))

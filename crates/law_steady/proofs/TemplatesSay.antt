@@ -57,10 +57,10 @@ says-deep (Ok x) h = tt
 says-deep (Err f) h = subst NotStuck (sym (h f refl)) tt
 
 module _ (c : TemplateScope) where
-  says-variable : (under : ℕ) (x : List ℕ) (t : Tree) (l : Label) (level depth : ℕ) → Says (variable_made c under x t l level depth)
+  says-variable : (under : ℕ) (x : List ℕ) (t : Tree) (l : Label) (level depth : ℕ) → Says (variable_made c under (record { symbol = x; form = t }) (record { label = l; level = level; depth = depth }))
   says-variable under x t l level depth = says-if (nat_eq level c.level) _ _ (says-if (nat_lt under depth) _ _ tt tt) tt
 
-  says-bound : (under : ℕ) (x : List ℕ) (t : Tree) (l : Label) (o : Option Binding) → Says (bound_made c under x t l o)
+  says-bound : (under : ℕ) (x : List ℕ) (t : Tree) (l : Label) (o : Option Binding) → Says (bound_made c under (record { symbol = x; form = t }) l o)
   says-bound under x t l None = tt
   says-bound under x t l (Some (binding.Variable v)) = tt
   says-bound under x t l (Some (binding.PatternVariable level depth)) = says-variable under x t l level depth
@@ -68,11 +68,11 @@ module _ (c : TemplateScope) where
   says-bound under x t l (Some (binding.Core f)) = tt
   says-bound under x t l (Some (binding.Primitive op)) = tt
 
-  says-label : (under : ℕ) (x : List ℕ) (t : Tree) (o : Option Label) → Says (label_made c under x t o)
+  says-label : (under : ℕ) (x : List ℕ) (t : Tree) (o : Option Label) → Says (label_made c under (record { symbol = x; form = t }) o)
   says-label under x t None = tt
   says-label under x t (Some l) = says-bound under x t l (bound_to c.bindings l)
 
-  says-leaf : (escaped : Bool) (x : List ℕ) (t : Tree) (under : ℕ) → Says (leaf_made c escaped x t under)
+  says-leaf : (escaped : Bool) (x : List ℕ) (t : Tree) (under : ℕ) → Says (leaf_made c escaped (record { symbol = x; form = t }) under)
   says-leaf escaped x t under = says-if (is_special escaped (stands c.frames t)) _ _ tt (says-label under x t (stands c.frames t))
 
   says-ellipses : (es : List Tree) (m : Made) (o : Option Tree) → Says (with_ellipses c.place es m o)
@@ -97,7 +97,7 @@ module _ (c : TemplateScope) where
   says-vector_joined : (t : Tree) (items : List MadeItem) → Says (vector_joined c.place t items)
   says-vector_joined t items = says-deep (vector_joined c.place t items) (vector-joined c.place t items)
 
-  says-list_parts : (escaped : Bool) (t : Tree) (xs : List TemplateElement) (tail : Bool → ℕ → Result Made Fault) (under : ℕ) → Each Quiet xs → ((e : Bool) (n : ℕ) → Says (tail e n)) → Says (list_parts c escaped t xs tail under)
+  says-list_parts : (escaped : Bool) (t : Tree) (xs : List TemplateElement) (tail : Bool → ℕ → Result Made Fault) (under : ℕ) → Each Quiet xs → ((e : Bool) (n : ℕ) → Says (tail e n)) → Says (list_parts c escaped (record { form = t; elements = xs; tail = tail }) under)
   says-list_parts escaped t xs tail under h k =
       says-then (walked c escaped under 0 [] xs) (λ items. tail escaped under >>= list_joined c.place t items) (says-walked escaped under 0 [] xs h)
       (λ items. says-then (tail escaped under) (list_joined c.place t items) (k escaped under) (λ m. says-list_joined t items m))
@@ -120,7 +120,7 @@ module _ (c : TemplateScope) where
   quiet-escape false (x ∷ (y ∷ (z ∷ xs))) ends h = tt
 
   says-list_made : (escaped : Bool) (t : Tree) (xs : List TemplateElement) (tail : Bool → ℕ → Result Made Fault) (under : ℕ) (o : Option TemplateElement) → Each Quiet xs → ((e : Bool) (n : ℕ) → Says (tail e n)) → QuietIf o
-      → Says (list_made c escaped t xs tail under o)
+      → Says (list_made c escaped (record { form = t; elements = xs; tail = tail }) under o)
   says-list_made escaped t xs tail under None h k q = says-list_parts escaped t xs tail under h k
   says-list_made escaped t xs tail under (Some y) h k q = says-then (y.1 true under) (λ m. Ok (unescaped m)) (q true under) (λ m. tt)
 
