@@ -34,7 +34,8 @@ use Rattle.eval_code.specs.Setting.{PlainSetting}
 use Rattle.eval_code.specs.Spread.{Call, apply_args, parted, before_last, with_elements, with_front, on_parts, spread_once, spread_on, spread_to, spread}
 use Rattle.eval_code.specs.State.{WorldState, Outcome, done, faulted, unfit, Go, then_do, charged, made, store, next_place}
 use Rattle.eval_code.specs.Variables.{found, assigned, all_assigned}
-use Rattle.eval_code.specs.Meaning.{Evaluator, answer_made, primitive_called, variable_read, variable_value, quoted_value, by_case, by_code, procedure_called, text_value_called, by_text, op_called, value_called, first_called, applied, operands, in_sequence, one_arm, two_arms, in_turn, at_once, by_letrec, fender_passed, output_given, fender_asked, on_match, tried, expressed, evaluates, eval_of}
+use Rattle.eval_code.specs.Meaning.{PlainLetrec, Evaluator, answer_made, primitive_called, variable_read, variable_value, quoted_value, by_case, by_code, procedure_called, text_value_called, by_text, op_called, value_called, first_called, applied, operands, in_sequence, one_arm, two_arms, in_turn, at_once, by_letrec, fender_passed, output_given, fender_asked, on_match, tried, expressed, evaluates, eval_of}
+use Rattle.eval_code.specs.Trying.{clause_before}
 use Rattle.eval_code.proofs.Fuel.{Within, Same, Alike, AlikeCalls, Same-of, Same-then, Same-spread_to, Same-text_value, Same-first, Same-operands, Same-in_sequence, Same-one_arm, Same-two_arms, Same-in_turn, Same-at_once, Same-fender_passed, Same-on_match, Same-tried, Same-expressed, Alike-evaluates, Alike-eval_of, eval_of_is, Within-more}
 use Rattle.eval_code.proofs.Paid.{within_or_past, charged_paid, charged_short}
 use Rattle.eval_code.proofs.Spreading.{args_shorter}
@@ -318,7 +319,7 @@ module _ (b : ℕ) where
     carried-once t u enough args n le l m = carried-parts t u enough args n (parted args) refl le l m
 
     carried-on : (t : ℕ) (u : ℕ → ℕ) → Enough t u → (vs : List Value) (n : ℕ) (o : Option (List Value)) → apply_args vs ≡ o → n ≤ b → n + length vs < suc t → ((k : ℕ) → n + k + length vs < suc (u k))
-        → Carried b (spread_on s (spread_to t s g) g vs n o) (λ k. spread_on s (spread_to (u k) s g) g vs (n + k) o)
+        → Carried b (spread_on s (spread_to t s g) (g vs) n o) (λ k. spread_on s (spread_to (u k) s g) (g vs) (n + k) o)
     carried-on t u enough vs n None e le l m = calls vs n le
     carried-on t u enough vs n (Some args) e le l m =
         let shorter = args_shorter vs args e in carried-once t u enough args n le (omega (arith, l, shorter)) (λ k. omega (arith, m k, shorter))
@@ -412,24 +413,24 @@ module _ (b : ℕ) where
         carried-then _ _ _ (alike c scope s n le) (λ v s n le. carried-in_turn is body scope (store (assigned s.cells scope l v) s.names) n le)
         (λ v t m. (Same-in_turn m w E E (self m) is body scope (store (assigned t.cells scope l v) t.names) m (omega arith)).within)
 
-    carried-at_once : (is all : PlainInits) (body : PlainCore) (scope : Place) (vs : List Value) (s : WorldState) (n : ℕ) → n ≤ b → Carried b (at_once w E is all body scope vs s n) (λ k. at_once w E is all body scope vs s (n + k))
-    carried-at_once no_init all body scope vs s n le = alike body scope (store (all_assigned s.cells scope all vs) s.names) n le
-    carried-at_once (init l c is) all body scope vs s n le =
-        carried-then _ _ _ (alike c scope s n le) (λ v s n le. carried-at_once is all body scope (vs ++ v ∷ []) s n le)
-        (λ v t m. (Same-at_once m w E E (self m) is all body scope (vs ++ v ∷ []) t m (omega arith)).within)
+    carried-at_once : (is : PlainInits) (l : PlainLetrec) (vs : List Value) (s : WorldState) (n : ℕ) → n ≤ b → Carried b (at_once w E is l vs s n) (λ k. at_once w E is l vs s (n + k))
+    carried-at_once no_init l vs s n le = alike l.body l.scope (store (all_assigned s.cells l.scope l.variables vs) s.names) n le
+    carried-at_once (init x c is) l vs s n le =
+        carried-then _ _ _ (alike c l.scope s n le) (λ v s n le. carried-at_once is l (vs ++ v ∷ []) s n le)
+        (λ v t m. (Same-at_once m w E E (self m) is l (vs ++ v ∷ []) t m (omega arith)).within)
 
-    carried-letrec : (in_order : Bool) (is : PlainInits) (body : PlainCore) (scope : Place) (s : WorldState) (n : ℕ) → n ≤ b → Carried b (by_letrec w E in_order is body scope s n) (λ k. by_letrec w E in_order is body scope s (n + k))
-    carried-letrec true is body scope s n le = carried-in_turn is body scope s n le
-    carried-letrec false is body scope s n le = carried-at_once is is body scope [] s n le
+    carried-letrec : (in_order : Bool) (l : PlainLetrec) (s : WorldState) (n : ℕ) → n ≤ b → Carried b (by_letrec w E in_order l s n) (λ k. by_letrec w E in_order l s (n + k))
+    carried-letrec true l s n le = carried-in_turn l.variables l.body l.scope s n le
+    carried-letrec false l s n le = carried-at_once l.variables l [] s n le
 
     abbrev NextsMore : (Place → WorldState → ℕ → Outcome) → Type 0
     NextsMore g = (scope : Place) (s : WorldState) (n : ℕ) → n ≤ b → Carried b (g scope s n) (λ k. g scope s (n + k))
 
-    carried-passed : (g : Place → WorldState → ℕ → Outcome) → NextsMore g → (output : PlainCore) (scope inner : Place) → GoesMore (fender_passed w E g output scope inner)
+    carried-passed : (g : Place → WorldState → ℕ → Outcome) → NextsMore g → (output : PlainCore) (scope inner : Place) → GoesMore (fender_passed w E (record { output = output; others = g scope; scope = scope }) inner)
     carried-passed g m output scope inner v s n le = carried-if (truth_of v) _ _ _ _ (alike output inner s n le) (m scope s n le)
 
     carried-match : (g : Place → WorldState → ℕ → Outcome) → NextsMore g → (i : PatternBinds → WorldState → ℕ → Outcome) → ((f : PatternBinds) (s : WorldState) (n : ℕ) → n ≤ b → Carried b (i f s n) (λ k. i f s (n + k)))
-        → ((f : PatternBinds) (s : WorldState) (m : ℕ) → Within m (i f s m)) → (scope : Place) (s : WorldState) (n : ℕ) (o : Option PatternBinds) → n ≤ b → Carried b (on_match w E g i scope s n o) (λ k. on_match w E g i scope s (n + k) o)
+        → ((f : PatternBinds) (s : WorldState) (m : ℕ) → Within m (i f s m)) → (scope : Place) (s : WorldState) (n : ℕ) (o : Option PatternBinds) → n ≤ b → Carried b (on_match w E (g scope) i s n o) (λ k. on_match w E (g scope) i s (n + k) o)
     carried-match g m i l falls scope s n None le = m scope s n le
     carried-match g m i l falls scope s n (Some f) le = carried-charged f.taken s n (i f s) (λ k. i f s) le (λ h. l f s (n - f.taken) (omega (arith, le))) (λ k. falls f s)
 
@@ -437,32 +438,32 @@ module _ (b : ℕ) where
     output-alike m output scope f s n le = self m output _ _ n le
 
     asked-alike : (m : ℕ) (cs : PlainClauses) (v : Value) (fender output : PlainCore) (scope : Place) (f : PatternBinds) (s : WorldState) (n : ℕ) → n ≤ m
-        → Same m (fender_asked w E (tried w E cs v) fender output scope f s n) (fender_asked w E (tried w E cs v) fender output scope f s n)
+        → Same m (fender_asked w E fender (clause_before w E output cs v scope) f s n) (fender_asked w E fender (clause_before w E output cs v scope) f s n)
     asked-alike m cs v fender output scope f s n le =
-        Same-then m _ _ _ _ (self m fender _ _ n le) (Same-fender_passed m w E E (self m) (tried w E cs v) (tried w E cs v) (Same-tried m w E E (self m) cs v) output scope (next_place s))
+        Same-then m _ _ _ _ (self m fender _ _ n le) (Same-fender_passed m w E E (self m) (tried w E cs v scope) (tried w E cs v scope) (Same-tried m w E E (self m) cs v scope) output scope (next_place s))
 
     -- what comes of a clause that matches or doesn't
     abbrev on_output : PlainPattern → PlainCore → PlainClauses → Value → Place → WorldState → ℕ → Outcome
-    on_output p output cs v scope s m = on_match w E (tried w E cs v) (output_given w E output scope) scope s m (match_of w.frames s.cells p v)
+    on_output p output cs v scope s m = on_match w E (tried w E cs v scope) (output_given w E output scope) s m (match_of w.frames s.cells p v)
 
     abbrev on_fender : PlainPattern → PlainCore → PlainCore → PlainClauses → Value → Place → WorldState → ℕ → Outcome
-    on_fender p fender output cs v scope s m = on_match w E (tried w E cs v) (fender_asked w E (tried w E cs v) fender output scope) scope s m (match_of w.frames s.cells p v)
+    on_fender p fender output cs v scope s m = on_match w E (tried w E cs v scope) (fender_asked w E fender (clause_before w E output cs v scope)) s m (match_of w.frames s.cells p v)
 
     output-falls : (p : PlainPattern) (output : PlainCore) (cs : PlainClauses) (v : Value) (scope : Place) (s : WorldState) (m : ℕ) → Within m (on_output p output cs v scope s m)
     output-falls p output cs v scope s m =
-        (Same-on_match m w E E (self m) (tried w E cs v) (tried w E cs v) (Same-tried m w E E (self m) cs v) (output_given w E output scope) (output_given w E output scope)
-        (output-alike m output scope) scope s m (match_of w.frames s.cells p v) (omega arith)).within
+        (Same-on_match m w E E (self m) (tried w E cs v scope) (tried w E cs v scope) (Same-tried m w E E (self m) cs v scope) (output_given w E output scope) (output_given w E output scope)
+        (output-alike m output scope) s m (match_of w.frames s.cells p v) (omega arith)).within
 
     fender-falls : (p : PlainPattern) (fender output : PlainCore) (cs : PlainClauses) (v : Value) (scope : Place) (s : WorldState) (m : ℕ) → Within m (on_fender p fender output cs v scope s m)
     fender-falls p fender output cs v scope s m =
-        (Same-on_match m w E E (self m) (tried w E cs v) (tried w E cs v) (Same-tried m w E E (self m) cs v) (fender_asked w E (tried w E cs v) fender output scope)
-        (fender_asked w E (tried w E cs v) fender output scope) (asked-alike m cs v fender output scope) scope s m (match_of w.frames s.cells p v) (omega arith)).within
+        (Same-on_match m w E E (self m) (tried w E cs v scope) (tried w E cs v scope) (Same-tried m w E E (self m) cs v scope) (fender_asked w E fender (clause_before w E output cs v scope))
+        (fender_asked w E fender (clause_before w E output cs v scope)) (asked-alike m cs v fender output scope) s m (match_of w.frames s.cells p v) (omega arith)).within
 
     carried-asked : (cs : PlainClauses) (v : Value) → NextsMore (tried w E cs v) → (fender output : PlainCore) (scope : Place) (f : PatternBinds) (s : WorldState) (n : ℕ) → n ≤ b
-        → Carried b (fender_asked w E (tried w E cs v) fender output scope f s n) (λ k. fender_asked w E (tried w E cs v) fender output scope f s (n + k))
+        → Carried b (fender_asked w E fender (clause_before w E output cs v scope) f s n) (λ k. fender_asked w E fender (clause_before w E output cs v scope) f s (n + k))
     carried-asked cs v nexts fender output scope f s n le =
         carried-then _ _ _ (alike fender _ _ n le) (carried-passed (tried w E cs v) nexts output scope (next_place s))
-        (λ x t m. (Same-fender_passed m w E E (self m) (tried w E cs v) (tried w E cs v) (Same-tried m w E E (self m) cs v) output scope (next_place s) x t m (omega arith)).within)
+        (λ x t m. (Same-fender_passed m w E E (self m) (tried w E cs v scope) (tried w E cs v scope) (Same-tried m w E E (self m) cs v scope) output scope (next_place s) x t m (omega arith)).within)
 
     carried-tried : (cs : PlainClauses) (v : Value) → NextsMore (tried w E cs v)
     unfolding tried
@@ -474,7 +475,7 @@ module _ (b : ℕ) where
         (λ k. output-falls p output cs v scope s)
     carried-tried (fended p fender output cs) v scope s n le =
         carried-charged 1 s n (on_fender p fender output cs v scope s) (λ k. on_fender p fender output cs v scope s) le
-        (λ h. carried-match (tried w E cs v) (carried-tried cs v) (fender_asked w E (tried w E cs v) fender output scope) (carried-asked cs v (carried-tried cs v) fender output scope)
+        (λ h. carried-match (tried w E cs v) (carried-tried cs v) (fender_asked w E fender (clause_before w E output cs v scope)) (carried-asked cs v (carried-tried cs v) fender output scope)
         (λ f s m. (asked-alike m cs v fender output scope f s m (omega arith)).within) scope s (n - 1) (match_of w.frames s.cells p v) (omega (arith, le)))
         (λ k. fender-falls p fender output cs v scope s)
 
@@ -487,7 +488,7 @@ module _ (b : ℕ) where
     carried-expressed (assignment l c) scope s n le = here-fault _ tt s n le
     carried-expressed (sequence cs) scope s n le = carried-sequence cs scope s n le
     carried-expressed (procedure number cs plain) scope s n le = here-done (value.Closure number scope) s n le
-    carried-expressed (letrec in_order is c) scope s n le = carried-letrec in_order is c _ _ n le
+    carried-expressed (letrec in_order is c) scope s n le = carried-letrec in_order _ _ n le
     carried-expressed (call c cs) scope s n le = carried-then _ _ _ (alike c scope s n le) (λ f s n le. carried-operands cs scope (f ∷ []) s n le)
         (λ f t m. (Same-operands m w E E (self m) cs scope (f ∷ []) t m (omega arith)).within)
     carried-expressed (instance t sp) scope s n le = carried-instanced t scope s n le

@@ -48,6 +48,7 @@ use Rattle.eval_code.specs.Spread.{Call, apply_args, parted, with_elements, with
 use Rattle.eval_code.specs.State.{WorldState, Outcome, done, faulted, unfit, Go, then_do, charged, made, store, next_place, with_cell}
 use Rattle.eval_code.specs.Variables.{found, unset, cell_with, assigned_in, assigned, all_assigned}
 use Rattle.eval_code.specs.Meaning.{Evaluator, answer_made, primitive_called, variable_read, variable_value, quoted_value, by_case, by_code, procedure_called, text_value_called, by_text, op_called, value_called, first_called, applied, operands, in_sequence, one_arm, two_arms, in_turn, at_once, by_letrec, fender_passed, output_given, fender_asked, on_match, tried, expressed, unrolled, evaluates, eval_of}
+use Rattle.eval_code.specs.Trying.{clause_before}
 use Rattle.law_eval.specs.Kept.{LaterWorld, EndsLater, LibrariesEndLater}
 
 abbrev pub KeepsAlways : Evaluator → Type 0
@@ -250,7 +251,7 @@ module _ (s : WorldState) (g : Call) (keeps : (vs : List Value) (n : ℕ) → En
   keeps-to zero vs n = tt
   keeps-to (suc turns) vs n = by_args (keeps-to turns) (apply_args vs)
     where
-      by_args : ((ws : List Value) (m : ℕ) → EndsLater s (spread_to turns s g ws m)) → (o : Option (List Value)) → EndsLater s (spread_on s (spread_to turns s g) g vs n o)
+      by_args : ((ws : List Value) (m : ℕ) → EndsLater s (spread_to turns s g ws m)) → (o : Option (List Value)) → EndsLater s (spread_on s (spread_to turns s g) (g vs) n o)
       by_args again None = keeps vs n
       by_args again (Some args) = keeps-once s (spread_to turns s g) again args n
 
@@ -346,7 +347,7 @@ module _ (w : PlainSetting) (E : Evaluator) (keeps : KeepsAlways E) where
       (λ v t n k. keeps-in_turn r is body scope (store (assigned t.cells scope l v) t.names) n h (later_assigned r t scope l v h k))
 
   keeps-at_once : (r : WorldState) (is all : PlainInits) (body : PlainCore) (scope : Place) (vs : List Value) (s : WorldState) (n : ℕ) → length r.cells ≤ scope.0 → LaterWorld r s
-      → EndsLater r (at_once w E is all body scope vs s n)
+      → EndsLater r (at_once w E is (record { variables = all; body = body; scope = scope }) vs s n)
   keeps-at_once r no_init all body scope vs s n h k =
       ends-later r (store (all_assigned s.cells scope all vs) s.names) _
       (record { cells = all_assigned_keeps r.cells s.cells scope all vs h k.cells; library = k.library; names = k.names }) (keeps body scope _ n)
@@ -354,7 +355,7 @@ module _ (w : PlainSetting) (E : Evaluator) (keeps : KeepsAlways E) where
       keeps-thens r _ _ (ends-later r s _ k (keeps c scope s n)) (λ v t n k. keeps-at_once r is all body scope (vs ++ v ∷ []) t n h k)
 
   keeps-letrec : (in_order : Bool) (is : PlainInits) (body : PlainCore) (scope : Place) (s : WorldState) (n : ℕ)
-      → EndsLater s (by_letrec w E in_order is body (next_place s) (with_cell (cell.Scope (unset is) (Some scope)) s) n)
+      → EndsLater s (by_letrec w E in_order (record { variables = is; body = body; scope = next_place s }) (with_cell (cell.Scope (unset is) (Some scope)) s) n)
   keeps-letrec true is body scope s n = keeps-in_turn s is body (next_place s) _ n (omega arith) (later_with s (cell.Scope (unset is) (Some scope)))
   keeps-letrec false is body scope s n = keeps-at_once s is is body (next_place s) [] _ n (omega arith) (later_with s (cell.Scope (unset is) (Some scope)))
 
@@ -367,16 +368,16 @@ module _ (w : PlainSetting) (E : Evaluator) (keeps : KeepsAlways E) where
   keeps-output output scope f s n =
       ends-later s (with_cell (cell.Binds f.binds (Some scope)) s) _ (later_with s (cell.Binds f.binds (Some scope))) (keeps output _ _ n)
 
-  keeps-passed : (g : Place → WorldState → ℕ → Outcome) → NextKeeps g → (output : PlainCore) (scope inner : Place) (v : Value) (s : WorldState) (n : ℕ) → EndsLater s (fender_passed w E g output scope inner v s n)
+  keeps-passed : (g : Place → WorldState → ℕ → Outcome) → NextKeeps g → (output : PlainCore) (scope inner : Place) (v : Value) (s : WorldState) (n : ℕ) → EndsLater s (fender_passed w E (record { output = output; others = g scope; scope = scope }) inner v s n)
   keeps-passed g next output scope inner v s n = keeps-if s (truth_of v) _ _ (keeps output inner s n) (next scope s n)
 
-  keeps-asked : (g : Place → WorldState → ℕ → Outcome) → NextKeeps g → (fender output : PlainCore) (scope : Place) (f : PatternBinds) (s : WorldState) (n : ℕ) → EndsLater s (fender_asked w E g fender output scope f s n)
+  keeps-asked : (g : Place → WorldState → ℕ → Outcome) → NextKeeps g → (fender output : PlainCore) (scope : Place) (f : PatternBinds) (s : WorldState) (n : ℕ) → EndsLater s (fender_asked w E fender (record { output = output; others = g scope; scope = scope }) f s n)
   keeps-asked g next fender output scope f s n =
       keeps-thens s _ _ (ends-later s (with_cell (cell.Binds f.binds (Some scope)) s) _ (later_with s (cell.Binds f.binds (Some scope))) (keeps fender _ _ n))
       (go-keeps s _ (keeps-passed g next output scope (next_place s)))
 
   keeps-match : (g : Place → WorldState → ℕ → Outcome) → NextKeeps g → (i : PatternBinds → WorldState → ℕ → Outcome) → ((f : PatternBinds) (s : WorldState) (n : ℕ) → EndsLater s (i f s n))
-      → (scope : Place) (s : WorldState) (n : ℕ) (o : Option PatternBinds) → EndsLater s (on_match w E g i scope s n o)
+      → (scope : Place) (s : WorldState) (n : ℕ) (o : Option PatternBinds) → EndsLater s (on_match w E (g scope) i s n o)
   keeps-match g next i take scope s n None = next scope s n
   keeps-match g next i take scope s n (Some f) = keeps-charged s s f.taken n (i f s) (later_refl s) (take f s)
 
@@ -388,7 +389,7 @@ module _ (w : PlainSetting) (E : Evaluator) (keeps : KeepsAlways E) where
       (λ m. keeps-match (tried w E cs v) (keeps-tried cs v) (output_given w E output scope) (keeps-output output scope) scope s m (match_of w.frames s.cells p v))
   keeps-tried (fended p fender output cs) v scope s n =
       keeps-charged s s 1 n _ (later_refl s)
-      (λ m. keeps-match (tried w E cs v) (keeps-tried cs v) (fender_asked w E (tried w E cs v) fender output scope) (keeps-asked (tried w E cs v) (keeps-tried cs v) fender output scope)
+      (λ m. keeps-match (tried w E cs v) (keeps-tried cs v) (fender_asked w E fender (clause_before w E output cs v scope)) (keeps-asked (tried w E cs v) (keeps-tried cs v) fender output scope)
       scope s m (match_of w.frames s.cells p v))
 
   keeps-expressed : (c : PlainCore) (scope : Place) (s : WorldState) (n : ℕ) → EndsLater s (expressed w E c scope s n)

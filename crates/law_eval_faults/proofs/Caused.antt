@@ -36,12 +36,13 @@ use Rattle.eval_code.specs.Codes.{code_at}
 use Rattle.eval_code.specs.Faults.{word_in}
 use Rattle.eval_code.specs.Instances.{Binds, match_of, instance_of, cost_of, instance_made, instance_paid, instance_with, instanced, gathered}
 use Rattle.eval_code.specs.Lines.{lines_from}
-use Rattle.eval_code.specs.Meaning.{Evaluator, answer_made, primitive_called, variable_read, variable_value, quoted_value, by_case, by_code, procedure_called, text_value_called, by_text, op_called, value_called, first_called, applied, operands, in_sequence, in_turn, at_once, by_letrec, output_given, fender_asked, on_match, tried, expressed, unrolled, evaluates, eval_of}
+use Rattle.eval_code.specs.Meaning.{PlainLetrec, Evaluator, answer_made, primitive_called, variable_read, variable_value, quoted_value, by_case, by_code, procedure_called, text_value_called, by_text, op_called, value_called, first_called, applied, operands, in_sequence, in_turn, at_once, by_letrec, output_given, fender_asked, on_match, tried, expressed, unrolled, evaluates, eval_of}
 use Rattle.eval_code.specs.Procedures.{takes_so_many, takes, first_case, has_text, text_number, text_body, truth_of}
 use Rattle.eval_code.specs.Quoted.{datum_cost}
 use Rattle.eval_code.specs.Setting.{PlainSetting}
 use Rattle.eval_code.specs.Spread.{Call, apply_args, before_last, parted, with_elements, with_front, on_parts, spread_once, spread_on, spread_to, spread}
 use Rattle.eval_code.specs.State.{WorldState, Outcome, done, faulted, unfit, Go, then_do, charged, made, store, next_place}
+use Rattle.eval_code.specs.Trying.{clause_before}
 use Rattle.eval_code.specs.Variables.{Entries, entry_in, here_or_up, found, assigned}
 use Rattle.law_eval_faults.specs.Causes.{AreWords, HasUnset, HasNone, IsUnset, AreFor, NoneTakes, IsBadApply, IsEvaluationFault, FaultsAreOfThese}
 use Rattle.law_eval_faults.specs.Causes as c
@@ -239,7 +240,7 @@ module _ (w : PlainSetting) where
     told-to zero vs n = tt
     told-to (suc turns) vs n = by_args (told-to turns) (apply_args vs)
       where
-        by_args : ((ws : List Value) (m : ℕ) → Told (spread_to turns s g ws m)) → (o : Option (List Value)) → Told (spread_on s (spread_to turns s g) g vs n o)
+        by_args : ((ws : List Value) (m : ℕ) → Told (spread_to turns s g ws m)) → (o : Option (List Value)) → Told (spread_on s (spread_to turns s g) (g vs) n o)
         by_args again None = told vs n
         by_args again (Some args) = told-once s (spread_to turns s g) again args n
 
@@ -317,24 +318,24 @@ module _ (w : PlainSetting) where
     told-in_turn no_init body scope s n = told body scope s n
     told-in_turn (init l e is) body scope s n = told-then _ _ (told e scope s n) (λ v t m. told-in_turn is body scope (store (assigned t.cells scope l v) t.names) m)
 
-    told-at_once : (is all : PlainInits) (body : PlainCore) (scope : Place) (vs : List Value) (s : WorldState) (n : ℕ) → Told (at_once w E is all body scope vs s n)
-    told-at_once no_init all body scope vs s n = told body scope _ n
-    told-at_once (init l e is) all body scope vs s n = told-then _ _ (told e scope s n) (λ v t m. told-at_once is all body scope (vs ++ v ∷ []) t m)
+    told-at_once : (is : PlainInits) (l : PlainLetrec) (vs : List Value) (s : WorldState) (n : ℕ) → Told (at_once w E is l vs s n)
+    told-at_once no_init l vs s n = told l.body l.scope _ n
+    told-at_once (init x e is) l vs s n = told-then _ _ (told e l.scope s n) (λ v t m. told-at_once is l (vs ++ v ∷ []) t m)
 
-    told-letrec : (in_order : Bool) (is : PlainInits) (body : PlainCore) (scope : Place) (s : WorldState) (n : ℕ) → Told (by_letrec w E in_order is body scope s n)
-    told-letrec true is body scope s n = told-in_turn is body scope s n
-    told-letrec false is body scope s n = told-at_once is is body scope [] s n
+    told-letrec : (in_order : Bool) (l : PlainLetrec) (s : WorldState) (n : ℕ) → Told (by_letrec w E in_order l s n)
+    told-letrec true l s n = told-in_turn l.variables l.body l.scope s n
+    told-letrec false l s n = told-at_once l.variables l [] s n
 
     -- `syntax-case`
 
     abbrev Next : (Place → WorldState → ℕ → Outcome) → Type 0
     Next g = (scope : Place) (s : WorldState) (n : ℕ) → Told (g scope s n)
 
-    told-asked : (g : Place → WorldState → ℕ → Outcome) → Next g → (fender output : PlainCore) (scope : Place) (f : PatternBinds) (s : WorldState) (n : ℕ) → Told (fender_asked w E g fender output scope f s n)
+    told-asked : (g : Place → WorldState → ℕ → Outcome) → Next g → (fender output : PlainCore) (scope : Place) (f : PatternBinds) (s : WorldState) (n : ℕ) → Told (fender_asked w E fender (record { output = output; others = g scope; scope = scope }) f s n)
     told-asked g next fender output scope f s n = told-then _ _ (told fender _ _ n) (λ v t m. told-if (truth_of v) _ _ (told output (next_place s) t m) (next scope t m))
 
     told-match : (g : Place → WorldState → ℕ → Outcome) → Next g → (i : PatternBinds → WorldState → ℕ → Outcome) → ((f : PatternBinds) (s : WorldState) (n : ℕ) → Told (i f s n)) → (scope : Place) (s : WorldState) (n : ℕ) (o : Option PatternBinds)
-        → Told (on_match w E g i scope s n o)
+        → Told (on_match w E (g scope) i s n o)
     told-match g next i take scope s n None = next scope s n
     told-match g next i take scope s n (Some f) = told-charged s f.taken n (i f s) (take f s)
 
@@ -345,7 +346,7 @@ module _ (w : PlainSetting) where
         told-charged s 1 n _ (λ m. told-match (tried w E cs v) (told-tried cs v) (output_given w E output scope) (λ f t k. told output _ _ k) scope s m (match_of w.frames s.cells p v))
     told-tried (fended p fender output cs) v scope s n =
         told-charged s 1 n _
-        (λ m. told-match (tried w E cs v) (told-tried cs v) (fender_asked w E (tried w E cs v) fender output scope) (told-asked (tried w E cs v) (told-tried cs v) fender output scope) scope s m (match_of w.frames s.cells p v))
+        (λ m. told-match (tried w E cs v) (told-tried cs v) (fender_asked w E fender (clause_before w E output cs v scope)) (told-asked (tried w E cs v) (told-tried cs v) fender output scope) scope s m (match_of w.frames s.cells p v))
 
     told-expressed : (e : PlainCore) (scope : Place) (s : WorldState) (n : ℕ) → Told (expressed w E e scope s n)
     told-expressed (quoted d) scope s n = told-quoted d s n
@@ -356,7 +357,7 @@ module _ (w : PlainSetting) where
     told-expressed (assignment l e) scope s n = c.assigned (words-are l (rows_in l.0.library w.frames))
     told-expressed (sequence cs) scope s n = told-sequence cs scope s n
     told-expressed (procedure number cs plain) scope s n = tt
-    told-expressed (letrec in_order is e) scope s n = told-letrec in_order is e (next_place s) _ n
+    told-expressed (letrec in_order is e) scope s n = told-letrec in_order _ _ n
     told-expressed (call e cs) scope s n = told-then _ _ (told e scope s n) (λ f t m. told-operands cs scope (f ∷ []) t m)
     told-expressed (instance t sp) scope s n = told-instanced t scope s n
     told-expressed (matching e cs sp) scope s n = told-then _ _ (told e scope s n) (λ v t m. told-tried cs v scope t m)

@@ -34,6 +34,7 @@ use Rattle.eval_code.specs.Procedures.{takes_so_many, first_case, has_text, text
 use Rattle.eval_code.specs.Setting.{PlainSetting}
 use Rattle.eval_code.specs.Spread.{apply_args, parted, with_elements, on_parts, spread_once, spread_on, spread_to, spread}
 use Rattle.eval_code.specs.State.{WorldState, Outcome, faulted, then_do, charged, next_place}
+use Rattle.eval_code.specs.Trying.{clause_before}
 use Rattle.eval_code.specs.Variables.{Entries, entry_in, parent_in, upwards, here_or_up, found}
 use Rattle.law_eval_faults.specs.Causes.{AreWords, HasUnset, HasNone, IsUnset, IsProcedure, AreFor, NoneTakes, IsBadApply, with_binds, ArePassed, CausesAreFaults}
 use Rattle.law_eval_faults.specs.Causes as c
@@ -99,7 +100,7 @@ module _ (w : PlainSetting) where
   -- what isn't `apply` is called at once
   called : (s : WorldState) (f : Value) (args : List Value) (n : ℕ) → apply_args (f ∷ args) ≡ None → applied w E (f ∷ args) s n ≡ value_called w E f args s n
   unfolding applied spread first_called
-  called s f args n e = ap (λ o. spread_on s (spread_to (n + length (f ∷ args)) s (first_called w E s)) (first_called w E s) (f ∷ args) n o) e
+  called s f args n e = ap (λ o. spread_on s (spread_to (n + length (f ∷ args)) s (first_called w E s)) (first_called w E s (f ∷ args)) n o) e
 
   no-procedure : (v : Value) (args : List Value) (s : WorldState) (n : ℕ) → (IsProcedure v → ⊥) → applied w E (v ∷ args) s n ≡ faulted not_procedure s n
   no-procedure value.Unspecified args s n h = called s value.Unspecified args n refl
@@ -177,14 +178,14 @@ module _ (w : PlainSetting) where
 
   module _ (v : Value) where
     tried-one : (p : PlainPattern) (output : PlainCore) (cs : PlainClauses) (scope : Place) (s : WorldState) (n : ℕ)
-        → tried w E (clause p output cs) v scope s (suc n) ≡ on_match w E (tried w E cs v) (output_given w E output scope) scope s n (match_of w.frames s.cells p v)
+        → tried w E (clause p output cs) v scope s (suc n) ≡ on_match w E (tried w E cs v scope) (output_given w E output scope) s n (match_of w.frames s.cells p v)
     unfolding tried
-    tried-one p output cs scope s n = one-unit s n (λ m. on_match w E (tried w E cs v) (output_given w E output scope) scope s m (match_of w.frames s.cells p v))
+    tried-one p output cs scope s n = one-unit s n (λ m. on_match w E (tried w E cs v scope) (output_given w E output scope) s m (match_of w.frames s.cells p v))
 
     tried-fended : (p : PlainPattern) (fender output : PlainCore) (cs : PlainClauses) (scope : Place) (s : WorldState) (n : ℕ)
-        → tried w E (fended p fender output cs) v scope s (suc n) ≡ on_match w E (tried w E cs v) (fender_asked w E (tried w E cs v) fender output scope) scope s n (match_of w.frames s.cells p v)
+        → tried w E (fended p fender output cs) v scope s (suc n) ≡ on_match w E (tried w E cs v scope) (fender_asked w E fender (clause_before w E output cs v scope)) s n (match_of w.frames s.cells p v)
     unfolding tried
-    tried-fended p fender output cs scope s n = one-unit s n (λ m. on_match w E (tried w E cs v) (fender_asked w E (tried w E cs v) fender output scope) scope s m (match_of w.frames s.cells p v))
+    tried-fended p fender output cs scope s n = one-unit s n (λ m. on_match w E (tried w E cs v scope) (fender_asked w E fender (clause_before w E output cs v scope)) s m (match_of w.frames s.cells p v))
 
     tried-none : (scope : Place) (s : WorldState) (n : ℕ) → tried w E no_clause v scope s n ≡ faulted no_match s n
     unfolding tried
@@ -193,14 +194,14 @@ module _ (w : PlainSetting) where
     passed : (scope : Place) (cs : PlainClauses) (s : WorldState) (n : ℕ) (t : WorldState) (m : ℕ) → ArePassed w v scope cs s n t m → tried w E cs v scope s n ≡ faulted no_match t m
     passed scope _ _ _ _ _ (c.none_is_left {s} {n}) = tried-none scope s n
     passed scope _ _ _ _ _ (c.no_match {p} {output} {cs} {s} {t} {n} {m} e rest) =
-        tried-one p output cs scope s n ∙ ap (λ o. on_match w E (tried w E cs v) (output_given w E output scope) scope s n o) e ∙ passed scope cs s n t m rest
+        tried-one p output cs scope s n ∙ ap (λ o. on_match w E (tried w E cs v scope) (output_given w E output scope) s n o) e ∙ passed scope cs s n t m rest
     passed scope _ _ _ _ _ (c.no_match_before {p} {fender} {output} {cs} {s} {t} {n} {m} e rest) =
-        tried-fended p fender output cs scope s n ∙ ap (λ o. on_match w E (tried w E cs v) (fender_asked w E (tried w E cs v) fender output scope) scope s n o) e ∙ passed scope cs s n t m rest
+        tried-fended p fender output cs scope s n ∙ ap (λ o. on_match w E (tried w E cs v scope) (fender_asked w E fender (clause_before w E output cs v scope)) s n o) e ∙ passed scope cs s n t m rest
     passed scope _ _ _ _ _ (c.false_fender {p} {fender} {output} {cs} {f} {s} {r} {t} {n} {k} {m} e le false-is rest) =
         tried-fended p fender output cs scope s n
-        ∙ ap (λ o. on_match w E (tried w E cs v) (fender_asked w E (tried w E cs v) fender output scope) scope s n o) e
-        ∙ charged_paid s (fender_asked w E (tried w E cs v) fender output scope f s) f.taken n le
-        ∙ ap (λ o. then_do o (fender_passed w E (tried w E cs v) output scope (next_place s))) false-is
+        ∙ ap (λ o. on_match w E (tried w E cs v scope) (fender_asked w E fender (clause_before w E output cs v scope)) s n o) e
+        ∙ charged_paid s (fender_asked w E fender (clause_before w E output cs v scope) f s) f.taken n le
+        ∙ ap (λ o. then_do o (fender_passed w E (clause_before w E output cs v scope) (next_place s))) false-is
         ∙ passed scope cs r k t m rest
 
 pub causes-are-faults : CausesAreFaults

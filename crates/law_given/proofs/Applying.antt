@@ -41,7 +41,7 @@ module _ (s : WorldState) where
     unfolding spread_once
     same-once args n k l = same-parts args n (parted args) refl k l
 
-    same-on : (go : Call) (vs : List Value) (n : ℕ) (o : Option (List Value)) → apply_args vs ≡ o → n + length vs < suc i → n + length vs < suc j → spread_on s g go vs n o ≡ spread_on s h go vs n o
+    same-on : (go : Call) (vs : List Value) (n : ℕ) (o : Option (List Value)) → apply_args vs ≡ o → n + length vs < suc i → n + length vs < suc j → spread_on s g (go vs) n o ≡ spread_on s h (go vs) n o
     same-on go vs n None e k l = refl
     same-on go vs n (Some args) e k l = let shorter = args_shorter vs args e in same-once args n (omega (arith, k, shorter)) (omega (arith, l, shorter))
 

@@ -67,7 +67,7 @@ module _ (w : PlainSetting) where
   pub called-at-once : (f : Value) (args : List Value) (s : WorldState) (n : ℕ) → apply_args (f ∷ args) ≡ None → call_of w (call_to f args) s n ≡ value_called w (eval_of w) f args s n
   unfolding applied spread first_called
   called-at-once f args s n e =
-      ap (spread_on s (spread_to (n + length (f ∷ args)) s (first_called w (eval_of w) s)) (first_called w (eval_of w) s) (f ∷ args) n) e
+      ap (spread_on s (spread_to (n + length (f ∷ args)) s (first_called w (eval_of w) s)) (first_called w (eval_of w) s (f ∷ args)) n) e
 
   answer-given : (op : ℕ) (args : List Value) (s : WorldState) (m : PrimResult) → delta op args s.cells w.frames ≡ Ok m
       → Gives (primitive_called w op args s) (performed m s.names s.cells).0 (store (performed m s.names s.cells).1 (name_after (names_taken m) s.names))

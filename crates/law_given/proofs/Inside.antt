@@ -11,7 +11,7 @@ use Rattle.eval_value.specs.declared.value.Value.{Value}
 use Rattle.eval_value.specs.declared.value.Value.TheVariants as value
 use Rattle.eval_value.specs.declared.cell.Cell.{Cell}
 use Rattle.eval_value.specs.declared.cell.Cell.TheVariants as cell
-use Rattle.eval_code.specs.Meaning.{eval_of, at_once}
+use Rattle.eval_code.specs.Meaning.{PlainLetrec, eval_of, at_once}
 use Rattle.eval_code.specs.Setting.{PlainSetting}
 use Rattle.eval_code.specs.State.{WorldState, store, next_place, with_cell}
 use Rattle.eval_code.specs.Variables.{Entries}
@@ -76,9 +76,9 @@ module _ (w : PlainSetting) (l : Label) (self : same_label l l ≡ true) (number
   pub letrec-is : (v : Value) (t : WorldState) → Evaluates w body (next_place s) letrec_state v t → Evaluates w (letrec false (init l (procedure number cs plain) no_init) body) scope s v t
   letrec-is v t h =
       evaluates-step w (letrec false (init l (procedure number cs plain) no_init) body) scope s v t
-      (gives-then (eval_of w (procedure number cs plain) p begun) (λ x. at_once w (eval_of w) no_init (init l (procedure number cs plain) no_init) body p (x ∷ [])) x begun v t
+      (gives-then (eval_of w (procedure number cs plain) p begun) (λ x. at_once w (eval_of w) no_init here (x ∷ [])) x begun v t
       (procedure-is w number cs plain p begun)
-      (gives-same (eval_of w body p letrec_state) (λ n. at_once w (eval_of w) no_init (init l (procedure number cs plain) no_init) body p (x ∷ []) begun n) v t by h))
+      (gives-same (eval_of w body p letrec_state) (λ n. at_once w (eval_of w) no_init here (x ∷ []) begun n) v t by h))
     where
       p : Place
       p = next_place s
@@ -86,10 +86,13 @@ module _ (w : PlainSetting) (l : Label) (self : same_label l l ≡ true) (number
       x : Value
       x = value.Closure number p
 
+      here : PlainLetrec
+      here = record { variables = init l (procedure number cs plain) no_init; body = body; scope = p }
+
       begun : WorldState
       begun = with_cell (cell.Scope ((l, None) ∷ []) (Some scope)) s
 
-      by : (n : ℕ) → at_once w (eval_of w) no_init (init l (procedure number cs plain) no_init) body p (x ∷ []) begun n ≡ eval_of w body p letrec_state n
+      by : (n : ℕ) → at_once w (eval_of w) no_init here (x ∷ []) begun n ≡ eval_of w body p letrec_state n
       by n =
           ap (λ cells. eval_of w body p (store cells s.names) n) (assigned-last s.cells (cell.Scope ((l, None) ∷ []) (Some scope)) l x)
           ∙ ap (λ b. eval_of w body p (with_cell (cell.Scope (if b then (l, Some x) ∷ [] else (l, None) ∷ []) (Some scope)) s) n) self

@@ -12,7 +12,7 @@ use Rattle.eval_value.specs.declared.cell.Cell.TheVariants as cell
 use Rattle.eval_prims.specs.Answers.{truth}
 use Rattle.eval_prims.specs.Lists.{nil}
 use Rattle.eval_code.specs.Codes.{procedure_code}
-use Rattle.eval_code.specs.Meaning.{eval_of, at_once}
+use Rattle.eval_code.specs.Meaning.{PlainLetrec, eval_of, at_once}
 use Rattle.eval_code.specs.Procedures.{has_text}
 use Rattle.eval_code.specs.Setting.{PlainSetting}
 use Rattle.eval_code.specs.State.{WorldState, store, next_place, with_cell}
@@ -56,11 +56,11 @@ module _ (w : PlainSetting) (s : WorldState) where
   pub text-is : Evaluates w map_text (next_place s) outside (value.Closure (code_no 15) home_place) ready
   text-is =
       evaluates-step w map_text (next_place s) outside v ready
-      (gives-then (eval_of w (lambda 4 (6 ∷ 7 ∷ []) None map_one) p begun) (λ x. at_once w (eval_of w) late inits body p (x ∷ [])) x begun v ready
+      (gives-then (eval_of w (lambda 4 (6 ∷ 7 ∷ []) None map_one) p begun) (λ x. at_once w (eval_of w) late here (x ∷ [])) x begun v ready
       (procedure-is w (code_no 4) (one_case (6 ∷ 7 ∷ []) None map_one) true p begun)
-      (gives-then (eval_of w (lambda 9 (11 ∷ 12 ∷ []) None map_many) p begun) (λ y. at_once w (eval_of w) no_init inits body p (x ∷ y ∷ [])) y begun v ready
+      (gives-then (eval_of w (lambda 9 (11 ∷ 12 ∷ []) None map_many) p begun) (λ y. at_once w (eval_of w) no_init here (x ∷ y ∷ [])) y begun v ready
       (procedure-is w (code_no 9) (one_case (11 ∷ 12 ∷ []) None map_many) true p begun)
-      (gives-same (eval_of w body p ready) (λ n. at_once w (eval_of w) no_init inits body p (x ∷ y ∷ []) begun n) v ready by
+      (gives-same (eval_of w body p ready) (λ n. at_once w (eval_of w) no_init here (x ∷ y ∷ []) begun n) v ready by
       (procedure-is w (code_no 15) (one_case (17 ∷ 18 ∷ []) (Some 19) map_body) true p ready))))
     where
       p : Place
@@ -78,10 +78,13 @@ module _ (w : PlainSetting) (s : WorldState) where
       y : Value
       y = value.Closure (code_no 9) p
 
+      here : PlainLetrec
+      here = record { variables = inits; body = body; scope = p }
+
       begun : WorldState
       begun = with_cell unset_cell outside
 
-      by : (n : ℕ) → at_once w (eval_of w) no_init inits body p (x ∷ y ∷ []) begun n ≡ eval_of w body p ready n
+      by : (n : ℕ) → at_once w (eval_of w) no_init here (x ∷ y ∷ []) begun n ≡ eval_of w body p ready n
       by n =
           ap (λ cells. eval_of w body p (store (assigned cells p (label 3) y) s.names) n) (assigned-last outside.cells unset_cell (label 2) x)
           ∙ ap (λ cells. eval_of w body p (store cells s.names) n) (assigned-last outside.cells (cell_with (label 2) x unset_cell) (label 3) y)

@@ -69,11 +69,11 @@ module _ (w : PlainSetting) (scope : Place) where
       → Ends (eval_of w c (next_place t) (with_binds f.binds scope t)) r u → Ends (tried w (eval_of w) (clause p c no_clause) v scope t) r u
   unfolding tried
   clause_ends p c v t u f r e h =
-      let other = tried w (eval_of w) no_clause v in
+      let other = tried w (eval_of w) no_clause v scope in
       let take = output_given w (eval_of w) c scope in
-      ends-charged 1 t (λ m. on_match w (eval_of w) other take scope t m (instances.match_of w.frames t.cells p v)) r u
-      (ends-same (λ m. charged f.taken t m (take f t)) (λ m. on_match w (eval_of w) other take scope t m (instances.match_of w.frames t.cells p v)) r u
-      (λ m. ap (on_match w (eval_of w) other take scope t m) e)
+      ends-charged 1 t (λ m. on_match w (eval_of w) other take t m (instances.match_of w.frames t.cells p v)) r u
+      (ends-same (λ m. charged f.taken t m (take f t)) (λ m. on_match w (eval_of w) other take t m (instances.match_of w.frames t.cells p v)) r u
+      (λ m. ap (on_match w (eval_of w) other take t m) e)
       (ends-charged f.taken t (take f t) r u h))
 
   pub code-ends : (xs : List PatternVariable) (x : PlainTemplate) (span : Span) (cs : List PlainCore) (s t : WorldState) (vs : List Value) (bs : Bindings)

@@ -36,6 +36,7 @@ use Rattle.eval_code.specs.Quoted.{datum_cost}
 use Rattle.eval_code.specs.Setting.{PlainSetting}
 use Rattle.eval_code.specs.Spread.{Call, apply_args, before_last, parted, with_elements, with_front, on_parts, spread_once, spread_on, spread_to, spread}
 use Rattle.eval_code.specs.State.{WorldState, Outcome, done, faulted, unfit, Go, then_do, charged, made, store, next_place, with_cell}
+use Rattle.eval_code.specs.Trying.{clause_before}
 use Rattle.eval_code.specs.Variables.{found, unset, assigned, all_assigned}
 use Rattle.law_invariants.specs.Holds.{ValueHolds, ValuesHold, VariableHolds, CellHolds, CellsHold, TemplateHolds, CoreHolds, CoresHold, InitsHold, CasesHold, ClausesHold, CodeHolds, LinesHold}
 use Rattle.law_invariants.specs.Outcome.{SettingHolds, StateHolds, OutcomeHolds}
@@ -189,7 +190,7 @@ module _ (own : LibName) (m : ℕ) (I : ℕ → Invariant) (rises : Rises own m 
     holds-to zero vs n k = tt
     holds-to (suc turns) vs n k = by_args (holds-to turns) (apply_args vs) (apply-holds s.names.number vs k)
       where
-        by_args : ((ws : List Value) (left : ℕ) → Vs s ws → O s.names.number (spread_to turns s g ws left)) → (o : Option (List Value)) → OptionHolds (ValuesHold (I s.names.number)) o → O s.names.number (spread_on s (spread_to turns s g) g vs n o)
+        by_args : ((ws : List Value) (left : ℕ) → Vs s ws → O s.names.number (spread_to turns s g ws left)) → (o : Option (List Value)) → OptionHolds (ValuesHold (I s.names.number)) o → O s.names.number (spread_on s (spread_to turns s g) (g vs) n o)
         by_args again None j = holds vs n k
         by_args again (Some args) j = holds-once s h (spread_to turns s g) again args n j
 
@@ -344,15 +345,15 @@ module _ (own : LibName) (m : ℕ) (I : ℕ → Invariant) (rises : Rises own m 
           (stored-state m t (assigned t.cells scope l v) (from s t h i) (assigned_holds (I t.names.number) t.cells scope l v i.cells j)))
 
       holds-at_once : (is all : PlainInits) (body : PlainCore) (scope : Place) (vs : List Value) (s : WorldState) (n : ℕ) → InitsHold (I m) is → CoreHolds (I m) body → S m s → Vs s vs
-          → O s.names.number (at_once w E is all body scope vs s n)
+          → O s.names.number (at_once w E is (record { variables = all; body = body; scope = scope }) vs s n)
       holds-at_once no_init all body scope vs s n c b h k =
           always body scope (store (all_assigned s.cells scope all vs) s.names) n b (stored-state m s (all_assigned s.cells scope all vs) h (all_assigned_hold (I s.names.number) s.cells scope all vs h.cells k))
       holds-at_once (init l x is) all body scope vs s n c b h k =
-          holds-then s.names.number (E x scope s n) (λ v. at_once w E is all body scope (vs ++ v ∷ [])) (always x scope s n c.0 h)
+          holds-then s.names.number (E x scope s n) (λ v. at_once w E is (record { variables = all; body = body; scope = scope }) (vs ++ v ∷ [])) (always x scope s n c.0 h)
           (λ v t left i j. holds-at_once is all body scope (vs ++ v ∷ []) t left c.1 b (from s t h i) (each-and (ValueHolds (I t.names.number)) vs v (values_rise s.names.number t.names.number vs i.up k) j))
 
       holds-letrec : (star : Bool) (is : PlainInits) (body : PlainCore) (scope : Place) (s : WorldState) (n : ℕ) → InitsHold (I m) is → CoreHolds (I m) body → S m s
-          → O s.names.number (by_letrec w E star is body (next_place s) (with_cell (cell.Scope (unset is) (Some scope)) s) n)
+          → O s.names.number (by_letrec w E star (record { variables = is; body = body; scope = next_place s }) (with_cell (cell.Scope (unset is) (Some scope)) s) n)
       holds-letrec true is body scope s n c b h =
           holds-in_turn is body (next_place s) (with_cell (cell.Scope (unset is) (Some scope)) s) n c b (one-cell m s (cell.Scope (unset is) (Some scope)) h (unset_holds (I s.names.number) is))
       holds-letrec false is body scope s n c b h =
@@ -367,18 +368,18 @@ module _ (own : LibName) (m : ℕ) (I : ℕ → Invariant) (rises : Rises own m 
       holds-output output scope f s n c h b = always output (next_place s) (with_cell (cell.Binds f.binds (Some scope)) s) n c (one-cell m s (cell.Binds f.binds (Some scope)) h b)
 
       holds-passed : (r : ℕ) (g : Place → WorldState → ℕ → Outcome) → NextHolds r g → (output : PlainCore) (scope inner : Place) (v : Value) (s : WorldState) (n : ℕ) → CoreHolds (I m) output → S m s → S r s
-          → O s.names.number (fender_passed w E g output scope inner v s n)
+          → O s.names.number (fender_passed w E (record { output = output; others = g scope; scope = scope }) inner v s n)
       holds-passed r g next output scope inner v s n c h k = holds-if s.names.number (truth_of v) _ _ (always output inner s n c h) (next scope s n k)
 
       holds-asked : (r : ℕ) (g : Place → WorldState → ℕ → Outcome) → NextHolds r g → (fender output : PlainCore) (scope : Place) (f : PatternBinds) (s : WorldState) (n : ℕ) → CoreHolds (I m) fender → CoreHolds (I m) output → S m s → S r s
-          → AllBound (I s.names.number) f.binds → O s.names.number (fender_asked w E g fender output scope f s n)
+          → AllBound (I s.names.number) f.binds → O s.names.number (fender_asked w E fender (record { output = output; others = g scope; scope = scope }) f s n)
       holds-asked r g next fender output scope f s n c d h k b =
-          holds-then s.names.number (E fender (next_place s) (with_cell (cell.Binds f.binds (Some scope)) s) n) (fender_passed w E g output scope (next_place s))
+          holds-then s.names.number (E fender (next_place s) (with_cell (cell.Binds f.binds (Some scope)) s) n) (fender_passed w E (record { output = output; others = g scope; scope = scope }) (next_place s))
           (always fender (next_place s) (with_cell (cell.Binds f.binds (Some scope)) s) n c (one-cell m s (cell.Binds f.binds (Some scope)) h b))
           (λ v t left i j. holds-passed r g next output scope (next_place s) v t left d (from s t h i) (state-less r s.names.number t k.up i))
 
       holds-match : (r : ℕ) (g : Place → WorldState → ℕ → Outcome) → NextHolds r g → (i : PatternBinds → WorldState → ℕ → Outcome) → ((f : PatternBinds) (s : WorldState) (n : ℕ) → S r s → AllBound (I s.names.number) f.binds → O s.names.number (i f s n))
-          → (scope : Place) (s : WorldState) (n : ℕ) (o : Option PatternBinds) → S r s → FoundOr (I s.names.number) o → O s.names.number (on_match w E g i scope s n o)
+          → (scope : Place) (s : WorldState) (n : ℕ) (o : Option PatternBinds) → S r s → FoundOr (I s.names.number) o → O s.names.number (on_match w E (g scope) i s n o)
       holds-match r g next i take scope s n None h k = next scope s n h
       holds-match r g next i take scope s n (Some f) h k = holds-charged s.names.number s f.taken n (i f s) (state-self r s h) (λ left. take f s left h k)
 
@@ -393,7 +394,7 @@ module _ (own : LibName) (m : ℕ) (I : ℕ → Invariant) (rises : Rises own m 
       holds-tried r (fended p fender output cs) v le c k scope s n h =
           let parts = rises.code m p (CoreHolds (I m) fender × (CoreHolds (I m) output × ClausesHold (I m) cs)) c in
           holds-charged s.names.number s 1 n _ (state-self r s h)
-          (λ left. holds-match r (tried w E cs v) (holds-tried r cs v le parts.1.1 k) (fender_asked w E (tried w E cs v) fender output scope)
+          (λ left. holds-match r (tried w E cs v) (holds-tried r cs v le parts.1.1 k) (fender_asked w E fender (clause_before w E output cs v scope))
           (λ f t x i b. holds-asked r (tried w E cs v) (holds-tried r cs v le parts.1.1 k) fender output scope f t x parts.0 parts.1.0 (state-less m r t le i) i b) scope s left (match_of w.frames s.cells p v) h
           (matched_holds (I s.names.number) (closed s) s.cells h.cells w.frames p v (nothing 0) (value_wider (I r) (I s.names.number) (rise r s.names.number h.up) v k) tt))
 

@@ -31,7 +31,8 @@ use Rattle.eval_code.specs.Setting.{PlainSetting}
 use Rattle.eval_code.specs.Spread.{Call, apply_args, parted, with_elements, with_front, on_parts, spread_once, spread_on, spread_to, spread}
 use Rattle.eval_code.specs.State.{WorldState, Outcome, done, faulted, unfit, Go, then_do, charged, made, store}
 use Rattle.eval_code.specs.Variables.{found, assigned, all_assigned}
-use Rattle.eval_code.specs.Meaning.{Evaluator, answer_made, primitive_called, variable_read, variable_value, quoted_value, by_case, by_code, procedure_called, text_value_called, by_text, op_called, value_called, first_called, applied, operands, in_sequence, one_arm, two_arms, in_turn, at_once, by_letrec, fender_passed, output_given, fender_asked, on_match, tried, expressed, unrolled, evaluates, eval_of}
+use Rattle.eval_code.specs.Meaning.{PlainLetrec, Evaluator, answer_made, primitive_called, variable_read, variable_value, quoted_value, by_case, by_code, procedure_called, text_value_called, by_text, op_called, value_called, first_called, applied, operands, in_sequence, one_arm, two_arms, in_turn, at_once, by_letrec, fender_passed, output_given, fender_asked, on_match, tried, expressed, unrolled, evaluates, eval_of}
+use Rattle.eval_code.specs.Trying.{clause_before}
 use Rattle.law_stuck.specs.Kinds.{TellsOther, EvaluationsTellOther}
 use Rattle.law_stuck.proofs.Refusals.{Tells, tells-delta, tells-instance, tells-measure}
 use Rattle.eval_template.specs.Binds.{unbound}
@@ -109,7 +110,7 @@ module _ (s : WorldState) where
   unfolding spread_once
   told-spread_once args g k n = told-on_parts g k n (parted args)
 
-  told-spread_on : (g h : Call) → Calls g → Calls h → (vs : List Value) (n : ℕ) (o : Option (List Value)) → TellsOther (spread_on s g h vs n o)
+  told-spread_on : (g h : Call) → Calls g → Calls h → (vs : List Value) (n : ℕ) (o : Option (List Value)) → TellsOther (spread_on s g (h vs) n o)
   told-spread_on g h k l vs n None = l vs n
   told-spread_on g h k l vs n (Some args) = told-spread_once args g k n
 
@@ -203,19 +204,19 @@ module _ (w : PlainSetting) (E : Evaluator) (all : Evaluates E) where
   told-in_turn no_init body scope s n = all body scope s n
   told-in_turn (init l c is) body scope s n = told-then _ _ (all c scope s n) (λ v s n. told-in_turn is body scope (store (assigned s.cells scope l v) s.names) n)
 
-  told-at_once : (is js : PlainInits) (body : PlainCore) (scope : Place) (vs : List Value) (s : WorldState) (n : ℕ) → TellsOther (at_once w E is js body scope vs s n)
-  told-at_once no_init js body scope vs s n = all body scope (store (all_assigned s.cells scope js vs) s.names) n
-  told-at_once (init l c is) js body scope vs s n = told-then _ _ (all c scope s n) (λ v s n. told-at_once is js body scope (vs ++ v ∷ []) s n)
+  told-at_once : (is : PlainInits) (l : PlainLetrec) (vs : List Value) (s : WorldState) (n : ℕ) → TellsOther (at_once w E is l vs s n)
+  told-at_once no_init l vs s n = all l.body l.scope (store (all_assigned s.cells l.scope l.variables vs) s.names) n
+  told-at_once (init x c is) l vs s n = told-then _ _ (all c l.scope s n) (λ v s n. told-at_once is l (vs ++ v ∷ []) s n)
 
-  told-by_letrec : (in_order : Bool) (is : PlainInits) (body : PlainCore) (scope : Place) (s : WorldState) (n : ℕ) → TellsOther (by_letrec w E in_order is body scope s n)
-  told-by_letrec true is body scope s n = told-in_turn is body scope s n
-  told-by_letrec false is body scope s n = told-at_once is is body scope [] s n
+  told-by_letrec : (in_order : Bool) (l : PlainLetrec) (s : WorldState) (n : ℕ) → TellsOther (by_letrec w E in_order l s n)
+  told-by_letrec true l s n = told-in_turn l.variables l.body l.scope s n
+  told-by_letrec false l s n = told-at_once l.variables l [] s n
 
-  told-fender_passed : (g : Place → WorldState → ℕ → Outcome) → Nexts g → (output : PlainCore) (scope inner : Place) → Goes (fender_passed w E g output scope inner)
+  told-fender_passed : (g : Place → WorldState → ℕ → Outcome) → Nexts g → (output : PlainCore) (scope inner : Place) → Goes (fender_passed w E (record { output = output; others = g scope; scope = scope }) inner)
   told-fender_passed g k output scope inner v s n = told-if (truth_of v) _ _ (all output inner s n) (k scope s n)
 
   told-on_match : (g : Place → WorldState → ℕ → Outcome) → Nexts g → (take : PatternBinds → WorldState → ℕ → Outcome) → ((f : PatternBinds) (s : WorldState) (n : ℕ) → TellsOther (take f s n))
-      → (scope : Place) (s : WorldState) (n : ℕ) (o : Option PatternBinds) → TellsOther (on_match w E g take scope s n o)
+      → (scope : Place) (s : WorldState) (n : ℕ) (o : Option PatternBinds) → TellsOther (on_match w E (g scope) take s n o)
   told-on_match g k take l scope s n None = k scope s n
   told-on_match g k take l scope s n (Some f) = told-charged f.taken s n _ (λ m. l f s m)
 
@@ -225,7 +226,7 @@ module _ (w : PlainSetting) (E : Evaluator) (all : Evaluates E) where
   told-tried (clause p output cs) v scope s n =
       told-charged 1 s n _ (λ m. told-on_match (tried w E cs v) (told-tried cs v) (output_given w E output scope) (λ f s n. all output _ _ n) scope s m (match_of w.frames s.cells p v))
   told-tried (fended p fender output cs) v scope s n =
-      told-charged 1 s n _ (λ m. told-on_match (tried w E cs v) (told-tried cs v) (fender_asked w E (tried w E cs v) fender output scope)
+      told-charged 1 s n _ (λ m. told-on_match (tried w E cs v) (told-tried cs v) (fender_asked w E fender (clause_before w E output cs v scope))
       (λ f s n. told-then _ _ (all fender _ _ n) (told-fender_passed (tried w E cs v) (told-tried cs v) output scope _)) scope s m (match_of w.frames s.cells p v))
 
   told-expressed : (c : PlainCore) (scope : Place) (s : WorldState) (n : ℕ) → TellsOther (expressed w E c scope s n)
@@ -237,7 +238,7 @@ module _ (w : PlainSetting) (E : Evaluator) (all : Evaluates E) where
   told-expressed (assignment l c) scope s n = tt
   told-expressed (sequence cs) scope s n = told-in_sequence cs scope s n
   told-expressed (procedure number cs plain) scope s n = tt
-  told-expressed (letrec in_order is c) scope s n = told-by_letrec in_order is c _ _ n
+  told-expressed (letrec in_order is c) scope s n = told-by_letrec in_order _ _ n
   told-expressed (call c cs) scope s n = told-then _ _ (all c scope s n) (λ f s n. told-operands cs scope (f ∷ []) s n)
   told-expressed (instance t sp) scope s n = told-instanced t scope s n
   told-expressed (matching c cs sp) scope s n = told-then _ _ (all c scope s n) (λ v s n. told-tried cs v scope s n)

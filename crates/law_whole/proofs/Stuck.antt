@@ -34,6 +34,7 @@ use Rattle.eval_code.specs.Spread.{Call, apply_args, before_last, parted, with_e
 use Rattle.eval_code.specs.State.{WorldState, Outcome, done, faulted, unfit, then_do, store, next_place, with_cell}
 use Rattle.eval_code.specs.Variables.{Entries, entry_in, parent_in, upwards, here_or_up, found, unset, assigned, all_assigned}
 use Rattle.eval_code.specs.Meaning.{Evaluator, primitive_called, variable_read, variable_value, by_case, by_code, procedure_called, text_value_called, by_text, op_called, value_called, first_called, applied, operands, in_sequence, one_arm, two_arms, in_turn, at_once, by_letrec, fender_passed, output_given, fender_asked, on_match, tried, expressed, unrolled, evaluates, eval_of}
+use Rattle.eval_code.specs.Trying.{clause_before}
 use Rattle.law_whole.specs.Grows.{WorldGrowth}
 use Rattle.law_whole.specs.PartsReady.{EndsWell, MatchReady}
 use Rattle.law_whole.specs.Ready.{Besides, BesidesPattern, FoundFrom, BoundFrom, Ready, ReadyIn, AllReadyIn, InitsReadyIn, CasesReadyIn, ClausesReadyIn}
@@ -182,7 +183,7 @@ module _ (w : PlainSetting) (s : WorldState) (world : WholeWorld w s.cells) (go 
   well_to (suc turns) f vs n less r = by_args (well_to turns) (apply_args (f ∷ vs)) (args_are_rest f vs)
     where
       by_args : ((g : Value) (us : List Value) (m : ℕ) → m + length (g ∷ us) < turns → ValuesReady w s.cells (g ∷ us) → EndsWell w s.cells (spread_to turns s go (g ∷ us) m))
-          → (o : Option (List Value)) → OrRest vs o → EndsWell w s.cells (spread_on s (spread_to turns s go) go (f ∷ vs) n o)
+          → (o : Option (List Value)) → OrRest vs o → EndsWell w s.cells (spread_on s (spread_to turns s go) (go (f ∷ vs)) n o)
       by_args again None h = well f vs n r
       by_args again (Some ws) h =
           subst (λ (us : List Value). EndsWell w s.cells (spread_once us s (spread_to turns s go) n)) h
@@ -329,24 +330,24 @@ module _ (w : PlainSetting) (E : Evaluator) (ns : NeverStuckBy w E) (texts : Tex
           (inits_still w s.cells cells all (Some scope) is ready.1) (ready_still w s.cells cells all (Some scope) body last))
 
   well_at_once : (is all : PlainInits) (body : PlainCore) (scope : Place) (vs : List Value) (s : WorldState) (n : ℕ) → WholeWorld w s.cells → HasScope s.cells scope → InitsReadyIn w s.cells (Some scope) is
-      → ReadyIn w s.cells (Some scope) body → ValuesReady w s.cells vs → EndsWell w s.cells (at_once w E is all body scope vs s n)
+      → ReadyIn w s.cells (Some scope) body → ValuesReady w s.cells vs → EndsWell w s.cells (at_once w E is (record { variables = all; body = body; scope = scope }) vs s n)
   well_at_once no_init all body scope vs s n world has ready last r =
       let cells = all_assigned s.cells scope all vs in
       let g = grows_all_assigned s.cells scope all vs in
       well_later w s.cells cells (E body scope (store cells s.names) n) g
       (ns body scope (store cells s.names) n (world_all_assigned w s.cells scope all vs world r) (variables_still s.cells cells g scope.0 has) (ready_still w s.cells cells g (Some scope) body last))
   well_at_once (init l c is) all body scope vs s n world has ready last r =
-      well_then w s.cells (E c scope s n) (λ v. at_once w E is all body scope (vs ++ v ∷ [])) (ns c scope s n world has ready.0)
+      well_then w s.cells (E c scope s n) (λ v. at_once w E is (record { variables = all; body = body; scope = scope }) (vs ++ v ∷ [])) (ns c scope s n world has ready.0)
       (λ v t m g whole k. well_at_once is all body scope (vs ++ v ∷ []) t m whole (variables_still s.cells t.cells g scope.0 has) (inits_still w s.cells t.cells g (Some scope) is ready.1)
       (ready_still w s.cells t.cells g (Some scope) body last) (each-and (ValueReady w t.cells) vs v (values_still w s.cells t.cells g vs r) k))
 
   well_by : (in_order : Bool) (is : PlainInits) (body : PlainCore) (scope : Place) (s : WorldState) (n : ℕ) → WholeWorld w s.cells → HasScope s.cells scope → InitsReadyIn w s.cells (Some scope) is
-      → ReadyIn w s.cells (Some scope) body → EndsWell w s.cells (by_letrec w E in_order is body scope s n)
+      → ReadyIn w s.cells (Some scope) body → EndsWell w s.cells (by_letrec w E in_order (record { variables = is; body = body; scope = scope }) s n)
   well_by true is body scope s n world has ready last = well_in_turn is body scope s n world has ready last
   well_by false is body scope s n world has ready last = well_at_once is is body scope [] s n world has ready last tt
 
   well_letrec : (in_order : Bool) (is : PlainInits) (body : PlainCore) (scope : Place) (s : WorldState) (n : ℕ) → WholeWorld w s.cells → HasScope s.cells scope → ReadyIn w s.cells (Some scope) (letrec in_order is body)
-      → EndsWell w s.cells (by_letrec w E in_order is body (next_place s) (with_cell (cell.Scope (unset is) (Some scope)) s) n)
+      → EndsWell w s.cells (by_letrec w E in_order (record { variables = is; body = body; scope = next_place s }) (with_cell (cell.Scope (unset is) (Some scope)) s) n)
   well_letrec in_order is body scope s n world has ready =
       let F = FoundFrom w s.cells (Some scope) in
       let G = BoundFrom s.cells (Some scope) in
@@ -356,7 +357,7 @@ module _ (w : PlainSetting) (E : Evaluator) (ns : NeverStuckBy w E) (texts : Tex
       let inner = next_place s in
       let finds = scope_finds w s.cells (unset is) (Some scope) ls (λ l h. unset_found l is h) in
       let binds = scope_binds w s.cells (unset is) (Some scope) in
-      well_later w s.cells new (by_letrec w E in_order is body inner (store new s.names) n) (grows_added s.cells c)
+      well_later w s.cells new (by_letrec w E in_order (record { variables = is; body = body; scope = inner }) (store new s.names) n) (grows_added s.cells c)
       (well_by in_order is body inner (store new s.names) n (scope_added w s.cells (unset is) scope world (unset_ready w s.cells is) has) (has_added s.cells c refl)
       (inits_map w w (λ number code k. k) (Besides ls F) (FoundFrom w new (Some inner)) G (BoundFrom new (Some inner)) finds binds is ready.0)
       (ready_map w w (λ number code k. k) (Besides ls F) (FoundFrom w new (Some inner)) G (BoundFrom new (Some inner)) finds binds body ready.1))
@@ -386,11 +387,11 @@ module _ (w : PlainSetting) (E : Evaluator) (ns : NeverStuckBy w E) (texts : Tex
   unfolding tried
   well_tried no_clause v scope s n world has ready r = (grows_refl s.cells, world)
   well_tried (clause p output cs) v scope s n world has ready r =
-      well_charged w 1 s n (λ m. on_match w E (tried w E cs v) (output_given w E output scope) scope s m (match_of w.frames s.cells p v)) world
+      well_charged w 1 s n (λ m. on_match w E (tried w E cs v scope) (output_given w E output scope) s m (match_of w.frames s.cells p v)) world
       (λ m e. by_match m (match_of w.frames s.cells p v) refl (well_tried cs v scope s m world has ready.1 r))
     where
       by_match : (m : ℕ) (o : Option PatternBinds) → match_of w.frames s.cells p v ≡ o → EndsWell w s.cells (tried w E cs v scope s m)
-          → EndsWell w s.cells (on_match w E (tried w E cs v) (output_given w E output scope) scope s m o)
+          → EndsWell w s.cells (on_match w E (tried w E cs v scope) (output_given w E output scope) s m o)
       by_match m None e next = next
       by_match m (Some f) e next =
           let b = cell.Binds f.binds (Some scope) in
@@ -398,20 +399,20 @@ module _ (w : PlainSetting) (E : Evaluator) (ns : NeverStuckBy w E) (texts : Tex
           (λ k h. well_later w s.cells (s.cells ++ b ∷ []) (output_given w E output scope f s k) (grows_added s.cells b)
           (well_inside p f scope output s k world has (match_ready w s.cells p v f world r e) ready.0))
   well_tried (fended p fender output cs) v scope s n world has ready r =
-      well_charged w 1 s n (λ m. on_match w E (tried w E cs v) (fender_asked w E (tried w E cs v) fender output scope) scope s m (match_of w.frames s.cells p v)) world
+      well_charged w 1 s n (λ m. on_match w E (tried w E cs v scope) (fender_asked w E fender (clause_before w E output cs v scope)) s m (match_of w.frames s.cells p v)) world
       (λ m e. by_match m (match_of w.frames s.cells p v) refl (well_tried cs v))
     where
       by_match : (m : ℕ) (o : Option PatternBinds) → match_of w.frames s.cells p v ≡ o
           → ((place : Place) (t : WorldState) (k : ℕ) → WholeWorld w t.cells → HasScope t.cells place → ClausesReadyIn w t.cells (Some place) cs → ValueReady w t.cells v → EndsWell w t.cells (tried w E cs v place t k))
-          → EndsWell w s.cells (on_match w E (tried w E cs v) (fender_asked w E (tried w E cs v) fender output scope) scope s m o)
+          → EndsWell w s.cells (on_match w E (tried w E cs v scope) (fender_asked w E fender (clause_before w E output cs v scope)) s m o)
       by_match m None e next = next scope s m world has ready.1.1 r
       by_match m (Some f) e next =
           let b = cell.Binds f.binds (Some scope) in
           let new = s.cells ++ b ∷ [] in
           let it = match_ready w s.cells p v f world r e in
-          well_charged w f.taken s m (fender_asked w E (tried w E cs v) fender output scope f s) world
-          (λ k h. well_later w s.cells new (fender_asked w E (tried w E cs v) fender output scope f s k) (grows_added s.cells b)
-          (well_then w new (E fender (next_place s) (with_cell b s) k) (fender_passed w E (tried w E cs v) output scope (next_place s))
+          well_charged w f.taken s m (fender_asked w E fender (clause_before w E output cs v scope) f s) world
+          (λ k h. well_later w s.cells new (fender_asked w E fender (clause_before w E output cs v scope) f s k) (grows_added s.cells b)
+          (well_then w new (E fender (next_place s) (with_cell b s) k) (fender_passed w E (clause_before w E output cs v scope) (next_place s))
           (well_inside p f scope fender s k world has it ready.0)
           (λ x t j g whole y.
           well_if w t.cells (truth_of x) (E output (next_place s) t j) (tried w E cs v scope t j)

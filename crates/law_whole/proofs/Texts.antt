@@ -46,12 +46,12 @@ module _ (w : PlainSetting) (E : Evaluator) (body : PlainCore) (gives : (scope :
   turn_gives (init l c is) scope s n =
       gives_then (E c scope s n) (λ v t. in_turn w E is body scope (store (assigned t.cells scope l v) t.names)) (λ v t m. turn_gives is scope (store (assigned t.cells scope l v) t.names) m)
 
-  once_gives : (is all : PlainInits) (scope : Place) (vs : List Value) (s : WorldState) (n : ℕ) → GivesClosure (at_once w E is all body scope vs s n)
+  once_gives : (is all : PlainInits) (scope : Place) (vs : List Value) (s : WorldState) (n : ℕ) → GivesClosure (at_once w E is (record { variables = all; body = body; scope = scope }) vs s n)
   once_gives no_init all scope vs s n = gives scope (store (all_assigned s.cells scope all vs) s.names) n
   once_gives (init l c is) all scope vs s n =
-      gives_then (E c scope s n) (λ v. at_once w E is all body scope (vs ++ v ∷ [])) (λ v t m. once_gives is all scope (vs ++ v ∷ []) t m)
+      gives_then (E c scope s n) (λ v. at_once w E is (record { variables = all; body = body; scope = scope }) (vs ++ v ∷ [])) (λ v t m. once_gives is all scope (vs ++ v ∷ []) t m)
 
-  letrec_gives : (in_order : Bool) (is : PlainInits) (scope : Place) (s : WorldState) (n : ℕ) → GivesClosure (by_letrec w E in_order is body scope s n)
+  letrec_gives : (in_order : Bool) (is : PlainInits) (scope : Place) (s : WorldState) (n : ℕ) → GivesClosure (by_letrec w E in_order (record { variables = is; body = body; scope = scope }) s n)
   letrec_gives true is scope s n = turn_gives is scope s n
   letrec_gives false is scope s n = once_gives is is scope [] s n
 
@@ -120,7 +120,7 @@ module _ (w : PlainSetting) where
 
   -- the one variable of a `letrec`, whose value is a procedure
   bound_gives : (depth : ℕ) (in_order : Bool) (l m : Label) (number : CodeNo) (cs : PlainCases) (plain : Bool) (scope : Place) (s : WorldState) (n : ℕ) → l ≡ m
-      → GivesClosure (by_letrec w (evaluates w depth) in_order (init l (procedure number cs plain) no_init) (variable m) (next_place s) (with_cell (cell.Scope ((l, None) ∷ []) (Some scope)) s) n)
+      → GivesClosure (by_letrec w (evaluates w depth) in_order (record { variables = init l (procedure number cs plain) no_init; body = variable m; scope = next_place s }) (with_cell (cell.Scope ((l, None) ∷ []) (Some scope)) s) n)
   bound_gives depth true l m number cs plain scope s n e =
       let new = with_cell (cell.Scope ((l, None) ∷ []) (Some scope)) s in
       let inner = next_place s in
@@ -131,7 +131,7 @@ module _ (w : PlainSetting) where
       let new = with_cell (cell.Scope ((l, None) ∷ []) (Some scope)) s in
       let inner = next_place s in
       here_then new (evaluates w depth (procedure number cs plain) inner new n)
-      (λ v. at_once w (evaluates w depth) no_init (init l (procedure number cs plain) no_init) (variable m) inner (v ∷ [])) (procedure_here depth number cs plain inner new n)
+      (λ v. at_once w (evaluates w depth) no_init (record { variables = init l (procedure number cs plain) no_init; body = variable m; scope = inner }) (v ∷ [])) (procedure_here depth number cs plain inner new n)
       (λ v k h. named_gives depth m inner (store (assigned new.cells inner l v) new.names) k v h (only_one w.globals s.cells scope l m v (length (assigned new.cells inner l v)) e))
 
   pub texts_give : (depth : ℕ) → TextsGive (evaluates w depth)
