@@ -9,7 +9,6 @@ use Rattle.base_data.specs.declared.fault.Bare.{Bare}
 use Rattle.base_data.specs.declared.fault.Fault.{Fault}
 use Rattle.base_data.specs.declared.library.LibName.TheVariants as library
 use Rattle.base_data.specs.declared.span.Span.{Span}
-use Rattle.std.specs.Prelude.{codes}
 use Rattle.load_builtin.specs.Prelude.{prelude_text}
 use Rattle.load_builtin.specs.declared.derived.TheConstants.{DERIVED_SOURCE}
 use Rattle.core_language.specs.Core.{PlainCode}
@@ -81,8 +80,8 @@ all-any (n ∷ ns) = (tt, all-any ns)
 codes-hold : OkHolds (Each ReadableCode) prelude_codes
 unfolding prelude_codes
 codes-hold =
-    by (each text_code [] procedures (ready library.Prelude (codes "(prelude)") [] names []).state)
-    (gave-each Any ReadableCode text_code (λ n s h k. code-holds n s h) [] procedures (ready library.Prelude (codes "(prelude)") [] names []).state (started-holds library.Prelude [] names [] tt tt) tt (all-any procedures))
+    by (each text_code [] procedures (ready library.Prelude [] names []).state)
+    (gave-each Any ReadableCode text_code (λ n s h k. code-holds n s h) [] procedures (ready library.Prelude [] names []).state (started-holds library.Prelude [] names [] tt tt) tt (all-any procedures))
   where
     by : (r : Result (List PlainCode × State) Fault) → Gave (λ cs. Each ReadableCode cs) r → OkHolds (Each ReadableCode) (without_state r)
     by (Ok p) h = h.1

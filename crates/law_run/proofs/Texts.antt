@@ -1,6 +1,5 @@
 -- Trees, the codes of texts and the record of the derived library are within the limits: each tree that is read is.
 use Rattle.std.proofs.Common.{◌≡◌, ◌≤◌, ℕ, List, [], ◌∷◌, ◌++◌, Result, Ok, Err, refl, subst, arith}
-use Rattle.std.specs.Prelude.{codes}
 use Rattle.base_data.proofs.ElementLemmas.{each-and}
 use Rattle.base_data.specs.Act.{give, each}
 use Rattle.base_data.specs.Datum.{PlainDatum}
@@ -123,8 +122,8 @@ all-any (n ∷ ns) = (tt, all-any ns)
 codes-fit : OkHolds (Each (CodeHolds Fits)) prelude_codes
 unfolding prelude_codes
 codes-fit =
-    by (each text_code [] procedures (ready library.Prelude (codes "(prelude)") [] names []).state)
-    (gave-each Fits fits-lawful Any (CodeHolds Fits) text_code (λ n s h k. code-fits n s h) [] procedures (ready library.Prelude (codes "(prelude)") [] names []).state (started-holds Fits fits-lawful library.Prelude [] names [] tt tt) tt (all-any procedures))
+    by (each text_code [] procedures (ready library.Prelude [] names []).state)
+    (gave-each Fits fits-lawful Any (CodeHolds Fits) text_code (λ n s h k. code-fits n s h) [] procedures (ready library.Prelude [] names []).state (started-holds Fits fits-lawful library.Prelude [] names [] tt tt) tt (all-any procedures))
   where
     by : (r : Result (List PlainCode × State) Fault) → Gave Fits fits-lawful (λ cs. Each (CodeHolds Fits) cs) r → OkHolds (Each (CodeHolds Fits)) (without_state r)
     by (Ok p) h = h.1
