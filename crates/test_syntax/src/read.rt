@@ -9,18 +9,18 @@ use std::alloc::Global;
 use std::test::Fail;
 
 /// What reading a value comes to: the size of the tree, the fuel that is left, and the number of the fault.
-type Answer = (u32, u64, u16);
+type ReadOutcome = (u32, u64, u16);
 
-const FUEL_SPENT: Answer = (0, 0, 38);
+const FUEL_SPENT: ReadOutcome = (0, 0, 38);
 
-const TOO_DEEP: Answer = (0, 0, 32);
+const TOO_DEEP: ReadOutcome = (0, 0, 32);
 
 fn outcome(
     alloc: Global,
     cells: &Region<Cell>,
     value: &Value,
     fuel: u64,
-) -> Result<Answer, Memory> {
+) -> Result<ReadOutcome, Memory> {
     match to_syntax(alloc, cells, value, fuel) {
         Ok((tree, left)) => Ok((tree.size(), left, 0)),
         Err(BareStop::Fault(fault)) => Ok((0, 0, fault.kind.number())),
@@ -47,7 +47,7 @@ fn both_read(
     alloc: Global,
     cells: &Region<Cell>,
     value: &Value,
-) -> Result<(Answer, Answer), Memory> {
+) -> Result<(ReadOutcome, ReadOutcome), Memory> {
     let enough = outcome(alloc, cells, value, 1_000_000)?;
     let less = outcome(alloc, cells, value, 999_999)?;
     Ok((enough, less))
@@ -57,13 +57,13 @@ fn many_read_in(
     alloc: Global,
     cells: &mut Region<Cell>,
     deep: bool,
-) -> Result<(Answer, Answer), Memory> {
+) -> Result<(ReadOutcome, ReadOutcome), Memory> {
     let value = many(alloc, cells, 1_000_000, deep)?;
     both_read(alloc, cells, &value)
 }
 
 /// What reading a million pairs comes to with enough fuel, and with one unit less.
-fn many_read(alloc: Global, deep: bool) -> Result<(Answer, Answer), Memory> {
+fn many_read(alloc: Global, deep: bool) -> Result<(ReadOutcome, ReadOutcome), Memory> {
     let mut cells = Region::new(alloc);
     let level = cells.mark();
     let answers = many_read_in(alloc, &mut cells, deep);
