@@ -66,13 +66,13 @@ fn is_stamped(alloc: Global, tree: &Syn, rows: &[Stamped]) -> Result<bool, Memor
 }
 
 /// Steps on the leaf x without marks, and the marks and the stamps that it has then.
-type Change = (
+type ChangeRow = (
     &'static [ChangeStep],
     &'static [u64],
     &'static [Stamped<'static>],
 );
 
-fn gives(alloc: Global, change: &Change) -> Result<bool, Memory> {
+fn gives(alloc: Global, change: &ChangeRow) -> Result<bool, Memory> {
     let tree = after(alloc, change.0)?;
     if !has_marks(alloc, &tree.marks(alloc)?, change.1)? {
         return Ok(false);
@@ -80,7 +80,7 @@ fn gives(alloc: Global, change: &Change) -> Result<bool, Memory> {
     is_stamped(alloc, &tree, change.2)
 }
 
-fn check(rt: &impl Abort, alloc: Global, changes: &[Change]) -> Result<(), Fail> {
+fn check(rt: &impl Abort, alloc: Global, changes: &[ChangeRow]) -> Result<(), Fail> {
     for change in changes {
         assert!(rt; gives(alloc, change)?);
     }
