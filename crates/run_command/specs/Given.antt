@@ -3,7 +3,7 @@ use Rattle.std.specs.Prelude.{Bool, false, List, Option, option_map, codes}
 use Rattle.std.specs.Option.{option_map_or}
 use Rattle.std.specs.Str.{bytes_eq}
 use Rattle.clap.specs.Words.{Row, Text, first_of}
-use Rattle.run_command.specs.declared.command.Given.{Given}
+use Rattle.run_command.specs.declared.command.WordValues.{WordValues}
 
 -- the values as texts
 pub record Values : Type 0 where
@@ -29,7 +29,7 @@ given_of rows = record {
   program = first_of (codes "program") rows;
 }
 
-abbrev pub seen : Given → Values
+abbrev pub seen : WordValues → Values
 seen g = record {
   root = option_map (λ s. s.now) g.root;
   cache = option_map (λ s. s.now) g.cache;

@@ -11,7 +11,7 @@ use std::alloc::Global;
 
 /// The values that the words give.
 #[derive(Drop)]
-pub struct Given<'a> {
+pub struct WordValues<'a> {
     pub root: Option<&'a str>,
     pub cache: Option<&'a str>,
     pub write: Option<&'a str>,
@@ -70,10 +70,10 @@ fn with<'a>(command: Command<'a>, arg: Arg<'a>) -> Result<Command<'a>, Memory>
 }
 
 /// The values that were found in the words.
-pub(crate) fn values_given<'a>(matches: &ArgMatches<'a>) -> Given<'a>
+pub(crate) fn values_given<'a>(matches: &ArgMatches<'a>) -> WordValues<'a>
     ensures { seen result ≡ given_of (rows_of (found_of matches.now)) }
 {
-    Given {
+    WordValues {
         root: value(matches, "root"),
         cache: value(matches, "cache"),
         write: value(matches, "write"),

@@ -5,7 +5,7 @@ ghost use Rattle.std.specs.String.{string_bytes};
 ghost use Rattle.run_command.specs.Given.{seen};
 ghost use Rattle.run_command.specs.Words.{asked, asked_by, made, chosen, rooted, sorted, kind_of, has_other};
 
-use crate::command::{Given, command, values_given};
+use crate::command::{WordValues, command, values_given};
 use crate::job::{Job, Kind};
 use crate::number::number_of;
 use crate::roots::roots_of;
@@ -45,7 +45,7 @@ pub fn read_words(alloc: Global, words: &[String]) -> Result<Words, Memory>
 }
 
 // What the values ask for.
-fn asked(alloc: Global, given: &Given) -> Result<Words, Memory>
+fn asked(alloc: Global, given: &WordValues) -> Result<Words, Memory>
     ensures { IfOk result (λ w. w ≡ asked (seen given.now)) }
 {
     match (given.program, given.make) {
@@ -55,7 +55,7 @@ fn asked(alloc: Global, given: &Given) -> Result<Words, Memory>
     }
 }
 
-fn making(given: &Given, text: &str) -> Words
+fn making(given: &WordValues, text: &str) -> Words
     ensures { result ≡ chosen (seen given.now) None (Some text.now) }
 {
     if has_other(given) {
@@ -67,13 +67,13 @@ fn making(given: &Given, text: &str) -> Words
     }
 }
 
-fn has_other(given: &Given) -> bool
+fn has_other(given: &WordValues) -> bool
     ensures { result ≡ has_other (seen given.now) }
 {
     given.root.is_some() || given.cache.is_some() || given.write.is_some() || given.report
 }
 
-fn expansion(alloc: Global, program: &str, given: &Given) -> Result<Words, Memory>
+fn expansion(alloc: Global, program: &str, given: &WordValues) -> Result<Words, Memory>
     ensures { IfOk result (λ w. w ≡ chosen (seen given.now) (Some program.now) None) }
 {
     let roots = match roots_of(alloc, given.root.unwrap_or("."))? {
@@ -102,7 +102,7 @@ fn kind_of(word: &str) -> Option<Kind>
 fn expand(
     alloc: Global,
     program: &str,
-    given: &Given,
+    given: &WordValues,
     roots: Items<Symbol>,
     kind: Kind,
 ) -> Result<Words, Memory>
