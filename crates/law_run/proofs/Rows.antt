@@ -17,7 +17,7 @@ use Rattle.stx_frames.proofs.FrameLaws.{same_frame-differs, rows_at-with_row, ro
 use Rattle.stx_frames.proofs.ListedLaws.{filter-rows_in, ordered_rows_in}
 use Rattle.stx_frames.proofs.MemoLemmas.{same_frame_is}
 use Rattle.stx_frames.proofs.ScopeLemmas.{same_frame-self}
-use Rattle.law_run.specs.Bound.{AreBound, Binds, no_more, one_more}
+use Rattle.law_run.specs.Bound.{AreBound, BindsOwn, no_more, one_more}
 
 -- no row has the symbol and the marks of one before it
 abbrev pub OnceBehind : List Row → List Row → Type 0
@@ -66,7 +66,7 @@ row-once own fs g r h e f mine = by (same_frame f g) refl
         (once-end [] (rows_at g fs) r (subst (λ x. OnceBehind [] (rows_at x fs)) same (h f mine)) e)
     by false is = subst (OnceBehind []) (sym (rows_at-other fs g f r (not-same f g is))) (h f mine)
 
-pub binds-once : (own : LibName) (fs gs : Scope) → Binds own fs gs → RowsOnce own fs → RowsOnce own gs
+pub binds-once : (own : LibName) (fs gs : Scope) → BindsOwn own fs gs → RowsOnce own fs → RowsOnce own gs
 binds-once own fs _ no_more h = h
 binds-once own fs gs (one_more {gs = hs} f r k mine e) h =
     let x = bound-is hs f r gs e in

@@ -7,15 +7,15 @@ use Rattle.stx_frames.specs.Scope.{Scope}
 use Rattle.expand_standing.specs.InScope.{leaving, within, restoring, apart}
 use Rattle.expand_standing.specs.State.{State, Does}
 use Rattle.law_expand.proofs.Acts.{Gave, gave-after, gave-less}
-use Rattle.law_run.specs.Bound.{Binds, no_more, one_more}
+use Rattle.law_run.specs.Bound.{BindsOwn, no_more, one_more}
 
-pub binds-then : {own : LibName} {fs gs hs : Scope} → Binds own fs gs → Binds own gs hs → Binds own fs hs
+pub binds-then : {own : LibName} {fs gs hs : Scope} → BindsOwn own fs gs → BindsOwn own gs hs → BindsOwn own fs hs
 binds-then h no_more = h
 binds-then h (one_more f r k o e) = one_more f r (binds-then h k) o e
 
 pub record Steps (own : LibName) (s t : State) : Type 0 where
   pub next : t.names.library ≡ own
-  pub binds : Binds own s.frames t.frames
+  pub binds : BindsOwn own s.frames t.frames
 
 module _ (own : LibName) where
   abbrev pub Names : State → Type 0
@@ -26,7 +26,7 @@ module _ (own : LibName) where
 
   -- the frames stay as they are
   pub stays : (s t : State) → t.names.library ≡ own → t.frames ≡ s.frames → Steps own s t
-  stays s t n e = record { next = n; binds = subst (λ (fs : Scope). Binds own s.frames fs) (sym e) no_more }
+  stays s t n e = record { next = n; binds = subst (λ (fs : Scope). BindsOwn own s.frames fs) (sym e) no_more }
 
   pub self : (s : State) → Names s → Steps own s s
   self s n = record { next = n; binds = no_more }

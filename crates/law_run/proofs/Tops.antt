@@ -33,7 +33,7 @@ use Rattle.law_expand.proofs.Changes.{form-later}
 use Rattle.law_expand.proofs.Records.{records-good, in-record}
 use Rattle.law_expand.proofs.Started.{started-sound}
 use Rattle.law_expand.proofs.Top.{SameScope, AreShown, same-exports}
-use Rattle.law_run.specs.Bound.{AreBound, Binds}
+use Rattle.law_run.specs.Bound.{AreBound, BindsOwn}
 use Rattle.law_run.specs.Expansion.{OwnFramesAreBound, NewLabelsAreUnbound, StartsAreNumbered, IsOnceOver, RecordsAreOnceOver}
 use Rattle.law_run.proofs.Forms.{Inner, b-splice, b-lines, inside-binds}
 use Rattle.law_run.proofs.Labels.{labels-once}
@@ -66,7 +66,7 @@ starts-numbered own records imports codes h = (started-sound own records imports
 -- the frames and bindings of a record are those of the state that its expansion ended in
 record Ends (own : LibName) (start : State) (r : CompiledLibrary) : Type 0 where
   pub ended : State
-  pub binds : Binds own start.frames ended.frames
+  pub binds : BindsOwn own start.frames ended.frames
   pub frames : r.frames ≡ rows_in r.name ended.frames
   pub bindings : r.bindings ≡ own_bindings ended
 

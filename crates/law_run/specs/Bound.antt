@@ -12,6 +12,6 @@ AreBound fs [] = Unit {0}
 AreBound fs (r ∷ rs) = (bound fs r.frame (row_in r) ≡ Ok (with_row fs r.frame (row_in r))) × AreBound (with_row fs r.frame (row_in r)) rs
 
 -- frames that come of others by such binds, each in a frame of this library
-pub data Binds (own : LibName) (fs : Scope) : Scope → Type 0 where
-  no_more : Binds own fs fs
-  one_more : {gs hs : Scope} (f : FrameNo) (r : Row) → Binds own fs gs → f.0.library ≡ own → bound gs f r ≡ Ok hs → Binds own fs hs
+pub data BindsOwn (own : LibName) (fs : Scope) : Scope → Type 0 where
+  no_more : BindsOwn own fs fs
+  one_more : {gs hs : Scope} (f : FrameNo) (r : Row) → BindsOwn own fs gs → f.0.library ≡ own → bound gs f r ≡ Ok hs → BindsOwn own fs hs

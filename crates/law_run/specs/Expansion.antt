@@ -20,12 +20,12 @@ use Rattle.law_expand.specs.States.{IsNumbered}
 use Rattle.law_imports.specs.Algebra.{IsOnce}
 use Rattle.expand_standing.specs.Start.{started}
 use Rattle.expand_standing.specs.State.{State}
-use Rattle.law_run.specs.Bound.{AreBound, Binds}
+use Rattle.law_run.specs.Bound.{AreBound, BindsOwn}
 
 -- whatever form is expanded, and in whatever state: the frames of other libraries stay as they are
 abbrev pub OwnFramesAreBound : Type 0
 OwnFramesAreBound = (records : List CompiledLibrary) (room : ℕ) (place : Span) (level depth : ℕ) (t : Tree) (s u : State) (c : PlainCore)
-    → (inside records room).form (site_at place level depth) t s ≡ Ok (c, u) → Binds s.names.library s.frames u.frames
+    → (inside records room).form (site_at place level depth) t s ≡ Ok (c, u) → BindsOwn s.names.library s.frames u.frames
 
 -- Where the library's labels that are bound were made before its next name, so they are after any form, and the next name is of no label
 -- that is bound.
