@@ -1,3 +1,4 @@
 mod Ahead
 mod WordsLaw
 mod Closing
+mod Turning

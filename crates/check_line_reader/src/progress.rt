@@ -328,14 +328,7 @@ impl LineProgress {
         if self.opens(context, bracket, at)? {
             return Ok(());
         }
-        self.turn(
-            context,
-            Lexeme {
-                token: Token::Open(bracket),
-                from: at.from,
-                to: at.to,
-            },
-        )
+        self.turn(context, lexeme_at(Token::Open(bracket), at))
     }
 
     // A list is opened inside the innermost one, where that stands apart.
@@ -359,14 +352,7 @@ impl LineProgress {
         if self.closes(context, bracket, at)? {
             return Ok(());
         }
-        self.turn(
-            context,
-            Lexeme {
-                token: Token::Close(bracket),
-                from: at.from,
-                to: at.to,
-            },
-        )
+        self.turn(context, lexeme_at(Token::Close(bracket), at))
     }
 
     // The innermost list ends, where it stands apart and is an element of another list without a dot.
