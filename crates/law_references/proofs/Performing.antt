@@ -308,7 +308,7 @@ module _ (libs : List LibName) (own : LibName) (core : Among libs library.Core) 
 
         -- Quasi forms.
 
-        form-up : (m n : ℕ) → m ≤ n → (q : QuasiForm) → inserts.FormPlace own K J P lives first m q → TemplateAt n q
+        form-up : (m n : ℕ) → m ≤ n → (q : QuasiForm) → inserts.FormAt own K J P lives first m q → TemplateAt n q
         form-up m n le (quasi_forms.Quote q) h = tt
         form-up m n le (quasi_forms.Syntax q) h = tree-up m n le q.template h.0
 
@@ -337,8 +337,8 @@ module _ (libs : List LibName) (own : LibName) (core : Among libs library.Core) 
         quasi-made which template s h k g =
             let made = form_of place t which template s in
             let So : PlainCore → State → Type 0 = PlanMade place level t (plans.Quasi which template) s in
-            gave-after (λ q v. (FreshStateHolds own K P s.names.number v × inserts.FormPlace own K J P lives first v.names.number q) × (made ≡ Ok (q, v))) So made (quasi_made go (site_at place level depth) t)
-            (staying.gave-from libs own core new first (inserts.FormPlace own K J P lives first) s made (inserts.form-of-holds own K J P lives first place t which template s h g))
+            gave-after (λ q v. (FreshStateHolds own K P s.names.number v × inserts.FormAt own K J P lives first v.names.number q) × (made ≡ Ok (q, v))) So made (quasi_made go (site_at place level depth) t)
+            (staying.gave-from libs own core new first (inserts.FormAt own K J P lives first) s made (inserts.form-of-holds own K J P lives first place t which template s h g))
             (λ q v z.
             let hv = from-to s v h z.0.0 in
             let ps = parts_of t depth q in

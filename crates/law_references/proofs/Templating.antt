@@ -28,7 +28,7 @@ use Rattle.eval_template.specs.Compile.{TemplateScope, variable_made, bound_made
 use Rattle.law_expand.proofs.Acts.{Gave, gave-if}
 use Rattle.law_expand.proofs.Templated.{list-template, vector-template}
 use Rattle.law_fresh.proofs.Trees.{OkHolds}
-use Rattle.law_references.specs.Changes.{placed}
+use Rattle.law_references.specs.Changes.{placed as form_placed}
 use Rattle.law_references.specs.Namings.{namings, template_namings, item_namings}
 use Rattle.law_references.specs.Noted.{Reference, named}
 use Rattle.law_references.specs.Templates.{leaves, AreSome, no_more, taken, passed, leaves_of, HasIdentifier, LeavesHold, ConstantsHold, ItemConstantsHold, of_binding, of_label, of_leaf, is_escape, variables_in, variables_behind, element_variables, IsPatternVariable, IsTemplateOf}
@@ -592,7 +592,7 @@ module _ (s : State) (place : Span) (level : ℕ) (root : Tree) where
 
 -- the template of a form, and the state stays
 abbrev pub TemplateNames : Span → ℕ → Tree → State → PlainTemplate → State → Type 0
-TemplateNames place level t s x u = (u ≡ s) × ((refs : List Reference) × IsTemplateOf s (placed place level) t x refs)
+TemplateNames place level t s x u = (u ≡ s) × ((refs : List Reference) × IsTemplateOf s (form_placed place level) t x refs)
 
 pub template-of-names : (place : Span) (level : ℕ) (t : Tree) (s : State) → Gave (TemplateNames place level t s) (patterns.template_of place level t s)
 unfolding patterns.template_of
