@@ -71,10 +71,12 @@ pub data CheckHeadline (files : FilesAsked) (words : List (List ℕ)) (out err :
   is_none : (path : List ℕ) (w : Why) → file_named words ≡ Some path → Gave files.told path (IsRefused w) → Untouched err → Puts out (why_text w) status.No s
       → CheckHeadline files words out err s
   -- it is too long
-  is_longer : (path : List ℕ) → file_named words ≡ Some path → Gave files.told path (λ r. r ≡ longer) → Untouched err → Puts out (codes "no: longer\n") status.No s
+  is_longer : (path : List ℕ) → file_named words ≡ Some path → Gave files.told path (λ r. r ≡ longer)
+      → Untouched err → Puts out (codes "no: longer\n") status.No s
       → CheckHeadline files words out err s
   -- it isn't there
-  is_absent : (path : List ℕ) → file_named words ≡ Some path → Gave files.told path (λ r. r ≡ absent) → Untouched err → Puts out (codes "no: absent\n") status.No s
+  is_absent : (path : List ℕ) → file_named words ≡ Some path → Gave files.told path (λ r. r ≡ absent)
+      → Untouched err → Puts out (codes "no: absent\n") status.No s
       → CheckHeadline files words out err s
   wrong_words : file_named words ≡ None → Untouched out → Puts err usage_line status.Usage s → CheckHeadline files words out err s
   read_fault : s ≡ status.ReadFault → Rose files.faults_before files.faults_after → Untouched out → Untouched err
