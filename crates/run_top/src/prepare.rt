@@ -153,9 +153,10 @@ struct LoadedFiles {
     report: bool,
 }
 
-// What is loaded of a program that is to be written.
+// What is to be written of a program, and what is loaded of it.
 #[derive(Drop)]
 struct Unwritten {
+    kind: Kind,
     found: Found,
     done: NameTable<Found>,
 }
@@ -171,7 +172,7 @@ fn map_text<N: Ledger, L: Ledger>(
     ensures text { Gives string_bytes result (map_behind (kept implementation.now.prelude) unwritten.done unwritten.found sources.now) }
     ensures fuel { OnOk result (tally.new.fuel ≡ tally.old.fuel + program_spent (kept implementation.now.prelude) unwritten.done unwritten.found) }
 {
-    let Unwritten { found, done } = unwritten;
+    let Unwritten { found, done, .. } = unwritten;
     let links = program_links(alloc, implementation, found, done, tally)?;
     let map = binding_map(alloc, links.as_slice())?;
     Ok(xref_text(alloc, map.as_slice(), sources)?)
@@ -181,17 +182,16 @@ fn map_text<N: Ledger, L: Ledger>(
 fn text_by<N: Ledger, L: Ledger>(
     alloc: Global,
     implementation: &Implementation,
-    kind: Kind,
     unwritten: Unwritten,
     sources: &[Source],
     tally: &mut Tally<N, L>,
 ) -> Result<String, Stop>
-    ensures text { Gives string_bytes result (text_behind_by kind (kept implementation.now.prelude) unwritten.done unwritten.found sources.now) }
+    ensures text { Gives string_bytes result (text_behind_by unwritten.kind (kept implementation.now.prelude) unwritten.done unwritten.found sources.now) }
     ensures fuel { OnOk result (tally.new.fuel ≡ tally.old.fuel + program_spent (kept implementation.now.prelude) unwritten.done unwritten.found) }
 {
-    match kind {
+    match unwritten.kind {
         Kind::Core => {
-            let Unwritten { found, done } = unwritten;
+            let Unwritten { found, done, .. } = unwritten;
             program_text(alloc, implementation, found, done, tally)
         }
         Kind::Xref => map_text(alloc, implementation, unwritten, sources, tally),
@@ -218,15 +218,8 @@ fn of_found<N: Ledger, L: Ledger>(
     } = loaded;
     let report = report_if(alloc, report, &loading)?;
     let Loading { done, sources, .. } = loading;
-    let unwritten = Unwritten { found, done };
-    match text_by(
-        alloc,
-        implementation,
-        kind,
-        unwritten,
-        sources.as_slice(),
-        tally,
-    ) {
+    let unwritten = Unwritten { kind, found, done };
+    match text_by(alloc, implementation, unwritten, sources.as_slice(), tally) {
         Ok(text) => Ok(Prepared { text, report }),
         Err(Stop::Fault(fault)) => Err(Unfinished::Line(line_of(
             alloc,
