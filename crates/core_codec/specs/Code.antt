@@ -26,10 +26,10 @@ formals = mapped (λ f. (f.required, f.rest)) (λ q. record { required = q.0; re
 -- ---- patterns
 
 -- the patterns before an ellipsis, the one that it repeats, and those after it
-abbrev pub Split : Type 0
-Split = List PlainPattern × (Option PlainPattern × List PlainPattern)
+abbrev pub SplitPatterns : Type 0
+SplitPatterns = List PlainPattern × (Option PlainPattern × List PlainPattern)
 
-abbrev pub with_before : PlainPattern → Split → Split
+abbrev pub with_before : PlainPattern → SplitPatterns → SplitPatterns
 with_before x q = (x ∷ q.0, q.1)
 
 -- all that is no ellipsis
@@ -43,7 +43,7 @@ has_no_dots p.none = true
 has_no_dots (p.more x xs) = has_no_dots xs
 has_no_dots (p.dots x xs) = false
 
-abbrev pub split : PlainPatterns → Split
+abbrev pub split : PlainPatterns → SplitPatterns
 split p.none = ([], (None, []))
 split (p.more x xs) = with_before x (split xs)
 split (p.dots x xs) = ([], (Some x, plain_patterns xs))
@@ -58,7 +58,7 @@ abbrev pub after : Option PlainPattern × List PlainPattern → PlainPatterns
 after (None, xs) = p.none
 after (Some x, xs) = p.dots x (patterns xs)
 
-abbrev pub joined : Split → PlainPatterns
+abbrev pub joined : SplitPatterns → PlainPatterns
 joined q = patterns_on q.0 (after q.1)
 
 abbrev pub is_empty : {A : Type 0} → List A → Bool

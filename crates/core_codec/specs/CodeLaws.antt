@@ -5,7 +5,7 @@ use Rattle.base_bytes.specs.Laws.{Lawful, never-lawful, checked-lawful, seen_as-
 use Rattle.base_data.specs.declared.name.Label.{Label}
 use Rattle.base_bytes.specs.NameLaws.{span-lawful, label-lawful, code_number-lawful, op-lawful, atom-lawful}
 use Rattle.core_codec.specs.TreeLaws.{datum-lawful, tree-lawful}
-use Rattle.core_codec.specs.Code.{formals, Split, split, plain_patterns, has_no_dots, has_one_dots, joined, is_split, is_leaf, elements, PatternCases, pattern_to, pattern_from, pattern_level, pattern, item_list, items_of, items, TemplateCases, template_to, template_from, template_level, template, core_list, init_list, inits_of, case_list, cases_of, ClauseParts, clause_list, clauses_of, core_parts, inits, cases, clauses, CoreCases, core_to, core_from, are_two, is_procedure, core_level, core}
+use Rattle.core_codec.specs.Code.{formals, SplitPatterns, split, plain_patterns, has_no_dots, has_one_dots, joined, is_split, is_leaf, elements, PatternCases, pattern_to, pattern_from, pattern_level, pattern, item_list, items_of, items, TemplateCases, template_to, template_from, template_level, template, core_list, init_list, inits_of, case_list, cases_of, ClauseParts, clause_list, clauses_of, core_parts, inits, cases, clauses, CoreCases, core_to, core_from, are_two, is_procedure, core_level, core}
 use Rattle.core_language.specs.Core as c
 use Rattle.core_language.specs.Core.{PlainCore, PlainCores, PlainInits, PlainCases, PlainClauses, cores}
 use Rattle.core_language.specs.Pattern as p
@@ -29,7 +29,7 @@ plain_back p.none h = refl
 plain_back (p.more x xs) h = ap (λ (ys : PlainPatterns). p.more x ys) (plain_back xs h)
 plain_back (p.dots x xs) h = absurd (cc)
 
-split_there : (q : Split) → is_split q.1 ≡ true → (split (joined q) ≡ q) × (has_one_dots (joined q) ≡ true)
+split_there : (q : SplitPatterns) → is_split q.1 ≡ true → (split (joined q) ≡ q) × (has_one_dots (joined q) ≡ true)
 split_there ([], (None, [])) h = (refl, refl)
 split_there ([], (None, y ∷ ys)) h = absurd (cc)
 split_there ([], (Some x, ys)) h = let r = plain_there ys in (λ i. ([], (Some x, r.0 i)), r.1)

@@ -12,4 +12,7 @@ unfoldable pub context : Codec LeafContext
 context = mapped (λ c. (c.marks, c.stamps)) (λ p. record { marks = p.0; stamps = p.1 }) (listed mark then listed stamp)
 
 unfoldable pub frame_row : Codec FrameRow
-frame_row = mapped (λ r. (r.frame, (r.symbol, (r.marks, r.label)))) (λ p. record { frame = p.0; symbol = p.1.0; marks = p.1.1.0; label = p.1.1.1 }) (frame then text then listed mark then label)
+frame_row = mapped
+    (λ r. (r.frame, (r.symbol, (r.marks, r.label))))
+    (λ p. record { frame = p.0; symbol = p.1.0; marks = p.1.1.0; label = p.1.1.1 })
+    (frame then text then listed mark then label)

@@ -29,7 +29,9 @@ abbrev pub code : Codec PlainCore
 code = core 8193
 
 unfoldable pub variable : Codec VarInfo
-variable = mapped (λ v. (v.symbol, (v.index, (v.level, (v.top, v.assigned))))) (λ p. record { symbol = p.0; index = p.1.0; level = p.1.1.0; top = p.1.1.1.0; assigned = p.1.1.1.1 })
+variable = mapped
+    (λ v. (v.symbol, (v.index, (v.level, (v.top, v.assigned)))))
+    (λ p. record { symbol = p.0; index = p.1.0; level = p.1.1.0; top = p.1.1.1.0; assigned = p.1.1.1.1 })
     (text then optional u64 then u32 then bool then bool)
 
 abbrev pub LineCases : Type 0
@@ -105,7 +107,16 @@ abbrev pub record_to : CompiledLibrary → Fields
 record_to r = (r.path, (r.name, (r.version, (r.exports, (r.bindings, (r.frames, (r.run, r.refs)))))))
 
 abbrev pub record_from : Fields → CompiledLibrary
-record_from p = record { path = p.0; name = p.1.0; version = p.1.1.0; exports = p.1.1.1.0; bindings = p.1.1.1.1.0; frames = p.1.1.1.1.1.0; run = p.1.1.1.1.1.1.0; refs = p.1.1.1.1.1.1.1 }
+record_from p = record {
+  path = p.0;
+  name = p.1.0;
+  version = p.1.1.0;
+  exports = p.1.1.1.0;
+  bindings = p.1.1.1.1.0;
+  frames = p.1.1.1.1.1.0;
+  run = p.1.1.1.1.1.1.0;
+  refs = p.1.1.1.1.1.1.1;
+}
 
 unfoldable pub lib_record : Codec CompiledLibrary
 lib_record = mapped record_to record_from (text then library then listed u64 then listed imported_name

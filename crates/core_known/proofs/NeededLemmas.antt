@@ -6,12 +6,12 @@ use Rattle.std.specs.declared.alloc.Global.{Global}
 use Rattle.std.specs.declared.rc.Rc.{Rc}
 use Rattle.base_data.specs.Same.{same_library, same_library_decides}
 use Rattle.base_data.specs.declared.library.LibName.{LibName}
-use Rattle.core_known.specs.Known.{Bound, AreOf, AreElsewhere, Part, Parts, flat, has_part, ArePlaced}
+use Rattle.core_known.specs.Known.{LabelBindings, AreOf, AreElsewhere, Part, Parts, flat, has_part, ArePlaced}
 use Rattle.core_known.specs.Needed.{parts_in, AreLibraries, if_mark, needed_parts}
 use Rattle.core_known.proofs.Parts.{other_library, is_key, not_first, elsewhere-of, elsewhere-append, no_part}
 
 abbrev pub Entries : Type 0
-Entries = List (Rc LibName Global × Rc Bound Global)
+Entries = List (Rc LibName Global × Rc LabelBindings Global)
 
 -- ---- the entries of a table
 
@@ -29,7 +29,7 @@ has_part-entry l (e ∷ es) = by (same_library l e.0.value) (has_part-entry l es
 pub no_entry : (l : LibName) (es : Entries) → has_part l (parts_in es) ≡ false → lookup (is_owned l) es ≡ None
 no_entry l es h = by (lookup (is_owned l) es) (has_part-entry l es ∙ h)
   where
-    by : (o : Option (Rc Bound Global)) → is_some o ≡ false → o ≡ None
+    by : (o : Option (Rc LabelBindings Global)) → is_some o ≡ false → o ≡ None
     by None e = refl
     by (Some x) e = absurd (true≢false e)
 
@@ -37,9 +37,9 @@ pub parts-append : (es fs : Entries) → parts_in (es ++ fs) ≡ parts_in es ++ 
 parts-append [] fs = refl
 parts-append (e ∷ es) fs = ap (λ (ps : Parts). (e.0.value, e.1.value) ∷ ps) (parts-append es fs)
 
-pub part-at : (es : Entries) (i : ℕ) (k : Rc LibName Global) (v : Rc Bound Global) → slice_get es i ≡ Some (k, v) → slice_get (parts_in es) i ≡ Some (k.value, v.value)
+pub part-at : (es : Entries) (i : ℕ) (k : Rc LibName Global) (v : Rc LabelBindings Global) → slice_get es i ≡ Some (k, v) → slice_get (parts_in es) i ≡ Some (k.value, v.value)
 part-at [] i k v h = absurd (cc)
-part-at (e ∷ es) zero k v h = let is : e ≡ (k, v) = cc in ap (λ (x : Rc LibName Global × Rc Bound Global). Some (x.0.value, x.1.value)) is
+part-at (e ∷ es) zero k v h = let is : e ≡ (k, v) = cc in ap (λ (x : Rc LibName Global × Rc LabelBindings Global). Some (x.0.value, x.1.value)) is
 part-at (e ∷ es) (suc i) k v h = part-at es i k v h
 
 -- a key that is found is the one that was asked for
@@ -51,7 +51,7 @@ key-found l (e ∷ es) k h = by (same_library l e.0.value) refl h (key-found l e
     by true s p i = let is : e.0 ≡ k = cc in ap (λ (x : Rc LibName Global). x.value) (sym is) ∙ sym ((same_library_decides l e.0.value).0 s)
     by false s p i = i p
 
-pub found : (l : LibName) (es : Entries) (now : Parts) (i : ℕ) (k : Rc LibName Global) (v : Rc Bound Global) (bs : Bound)
+pub found : (l : LibName) (es : Entries) (now : Parts) (i : ℕ) (k : Rc LibName Global) (v : Rc LabelBindings Global) (bs : LabelBindings)
     → parts_in es ≡ now → slice_get es i ≡ Some (k, v) → Some k ≡ lookup_key (is_owned l) es → bs ≡ v.value → slice_get now i ≡ Some (l, bs)
 found l es now i k v bs view at key frames =
     ap (λ (ps : Parts). slice_get ps i) (sym view) ∙ part-at es i k v at ∙ (λ j. Some (key-found l es k (sym key) j, sym frames j))
@@ -69,7 +69,7 @@ libraries-more (q ∷ ps) p h k d =
     (h.0, has_part-more q.0 ps p h.1 (other_library p.0 q.0 f.0), libraries-more ps p h.2 k f.1)
 
 -- a table after one with a part more
-module _ (es fs : Entries) (k : Rc LibName Global) (v : Rc Bound Global) (p : Part)
+module _ (es fs : Entries) (k : Rc LibName Global) (v : Rc LabelBindings Global) (p : Part)
     (more : fs ≡ es ++ (k, v) ∷ []) (key : k.value ≡ p.0) (frames : v.value ≡ p.1) where
   pub parts-more : parts_in fs ≡ parts_in es ++ p ∷ []
   parts-more = ap parts_in more ∙ parts-append es ((k, v) ∷ []) ∙ (λ i. parts_in es ++ (key i, frames i) ∷ [])
@@ -103,7 +103,7 @@ needed-absent l ms ps h = no_part l (needed_parts ms ps) (none-needed l ms ps h)
 same-self : (l : LibName) → same_library l l ≡ true
 same-self l = (same_library_decides l l).1 refl
 
-has_part-at : (l : LibName) (ps : Parts) (i : ℕ) (v : Bound) → slice_get ps i ≡ Some (l, v) → has_part l ps ≡ true
+has_part-at : (l : LibName) (ps : Parts) (i : ℕ) (v : LabelBindings) → slice_get ps i ≡ Some (l, v) → has_part l ps ≡ true
 has_part-at l [] i v h = absurd (cc)
 has_part-at l (p ∷ ps) zero v h =
     let is : p ≡ (l, v) = cc in
@@ -115,14 +115,14 @@ has_part-at l (p ∷ ps) (suc i) v h = by (same_library l p.0) (has_part-at l ps
     by false k = k
 
 -- a library behind the first is another
-other-first : (l : LibName) (p : Part) (ps : Parts) (i : ℕ) (v : Bound) → has_part p.0 ps ≡ false → slice_get ps i ≡ Some (l, v) → same_library l p.0 ≡ false
+other-first : (l : LibName) (p : Part) (ps : Parts) (i : ℕ) (v : LabelBindings) → has_part p.0 ps ≡ false → slice_get ps i ≡ Some (l, v) → same_library l p.0 ≡ false
 other-first l p ps i v h k = by (same_library l p.0) refl
   where
     by : (b : Bool) → same_library l p.0 ≡ b → same_library l p.0 ≡ false
     by true e = absurd (true≢false (sym (has_part-at l ps i v k) ∙ ap (λ x. has_part x ps) ((same_library_decides l p.0).0 e) ∙ h))
     by false e = e
 
-pub needed-at : (l : LibName) (ms : List Bool) (ps : Parts) (i : ℕ) (v : Bound) → AreLibraries ps → slice_get ps i ≡ Some (l, v)
+pub needed-at : (l : LibName) (ms : List Bool) (ps : Parts) (i : ℕ) (v : LabelBindings) → AreLibraries ps → slice_get ps i ≡ Some (l, v)
     → lookup (is_key l) (needed_parts ms ps) ≡ if_mark (slice_get ms i) v
 needed-at l [] ps i v h k = refl
 needed-at l (m ∷ ms) [] i v h k = absurd (cc)
@@ -156,7 +156,7 @@ elsewhere-flat l (p ∷ ps) h k =
 pub placed-libraries : (ps : Parts) → AreLibraries ps → ArePlaced ps []
 placed-libraries [] h = tt
 placed-libraries (p ∷ ps) h =
-    (h.0, subst (λ (y : Bound). AreElsewhere p.0 y) (sym (append-nil (flat ps))) (elsewhere-flat p.0 ps h.2 h.1), placed-libraries ps h.2)
+    (h.0, subst (λ (y : LabelBindings). AreElsewhere p.0 y) (sym (append-nil (flat ps))) (elsewhere-flat p.0 ps h.2 h.1), placed-libraries ps h.2)
 
 -- a library without a part binds none of the marked ones' labels
 pub elsewhere-needed : (l : LibName) (ms : List Bool) (ps : Parts) → AreLibraries ps → has_part l ps ≡ false → AreElsewhere l (flat (needed_parts ms ps))

@@ -8,22 +8,22 @@ use Rattle.base_data.specs.declared.name.Label.{Label}
 use Rattle.core_language.specs.Bindings.{bindings_code}
 use Rattle.core_language.specs.declared.binding.Binding.{Binding}
 
-abbrev pub Bound : Type 0
-Bound = List (Label × Binding)
+abbrev pub LabelBindings : Type 0
+LabelBindings = List (Label × Binding)
 
 -- all labels are of the library
-abbrev pub AreOf : LibName → Bound → Type 0
+abbrev pub AreOf : LibName → LabelBindings → Type 0
 AreOf l [] = Unit {0}
 AreOf l (b ∷ bs) = (same_library b.0.0.library l ≡ true) × AreOf l bs
 
 -- no label is of the library
-abbrev pub AreElsewhere : LibName → Bound → Type 0
+abbrev pub AreElsewhere : LibName → LabelBindings → Type 0
 AreElsewhere l [] = Unit {0}
 AreElsewhere l (b ∷ bs) = (same_library b.0.0.library l ≡ false) × AreElsewhere l bs
 
 -- a library and what its labels are bound to
 abbrev pub Part : Type 0
-Part = LibName × Bound
+Part = LibName × LabelBindings
 
 abbrev pub part_code : Coded Part
 part_code = coded× libraries.the_row.coded bindings_code
@@ -36,7 +36,7 @@ abbrev pub parts_code : Coded Parts
 parts_code = coded_list part_code
 
 -- those bindings, library by library
-abbrev pub flat : Parts → Bound
+abbrev pub flat : Parts → LabelBindings
 flat [] = []
 flat (p ∷ ps) = p.1 ++ flat ps
 
@@ -46,11 +46,11 @@ has_part l [] = false
 has_part l (p ∷ ps) = if same_library l p.0 then true else has_part l ps
 
 -- the bindings among which those of a library's labels are: its part, or those that came later
-abbrev pub part_of : Parts → Bound → LibName → Bound
+abbrev pub part_of : Parts → LabelBindings → LibName → LabelBindings
 part_of [] own l = own
 part_of (p ∷ ps) own l = if same_library l p.0 then p.1 else part_of ps own l
 
 -- each part is of its library, and nothing behind it is
-abbrev pub ArePlaced : Parts → Bound → Type 0
+abbrev pub ArePlaced : Parts → LabelBindings → Type 0
 ArePlaced [] own = Unit {0}
 ArePlaced (p ∷ ps) own = AreOf p.0 p.1 × AreElsewhere p.0 (flat ps ++ own) × ArePlaced ps own

@@ -3,10 +3,10 @@ use Rattle.std.specs.Prelude.{◌≡◌, Bool, false, List, [], ◌∷◌, Optio
 use Rattle.std.specs.declared.alloc.Global.{Global}
 use Rattle.std.specs.declared.rc.Rc.{Rc}
 use Rattle.base_data.specs.declared.library.LibName.{LibName}
-use Rattle.core_known.specs.Known.{Bound, has_part, AreOf, Parts}
+use Rattle.core_known.specs.Known.{LabelBindings, has_part, AreOf, Parts}
 
 -- the entries of a table, without their owners
-abbrev pub parts_in : List (Rc LibName Global × Rc Bound Global) → Parts
+abbrev pub parts_in : List (Rc LibName Global × Rc LabelBindings Global) → Parts
 parts_in [] = []
 parts_in (e ∷ es) = (e.0.value, e.1.value) ∷ parts_in es
 
@@ -16,7 +16,7 @@ AreLibraries [] = Unit {0}
 AreLibraries (p ∷ ps) = AreOf p.0 p.1 × (has_part p.0 ps ≡ false) × AreLibraries ps
 
 -- the bindings at a place with this mark, if it is there
-abbrev pub if_mark : Option Bool → Bound → Option Bound
+abbrev pub if_mark : Option Bool → LabelBindings → Option LabelBindings
 if_mark None bs = None
 if_mark (Some m) bs = if m then Some bs else None
 

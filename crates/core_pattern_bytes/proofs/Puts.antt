@@ -6,7 +6,7 @@ use Rattle.std.specs.Prelude.{◌&&◌, map}
 use Rattle.base_bytes.specs.Codec.{Codec, checked, listed, optional, u32, ◌then◌}
 use Rattle.base_bytes.specs.Laws.{join}
 use Rattle.base_bytes.specs.Puts.{PutsIf}
-use Rattle.core_codec.specs.Code.{Split, has_one_dots, is_split, elements, items}
+use Rattle.core_codec.specs.Code.{SplitPatterns, has_one_dots, is_split, elements, items}
 use Rattle.core_language.specs.Pattern.{PlainPattern}
 use Rattle.core_language.specs.PatternView.{elements_of}
 use Rattle.core_language.specs.Template.{PlainTemplate}
@@ -33,9 +33,9 @@ unfolding elements
 elements_puts part e old mid new p q =
     let behind = checked is_split (optional part then listed part) in
     let fits = join _ _ (join _ _ (sym p.0) (sym q.0)) (one_dots e) in (
-      sym (ap (λ (z : Split). ((listed part).fits z.0 && behind.fits z.1) && has_one_dots (elements_of e)) (split_is e) ∙ fits),
+      sym (ap (λ (z : SplitPatterns). ((listed part).fits z.0 && behind.fits z.1) && has_one_dots (elements_of e)) (split_is e) ∙ fits),
       q.1 ∙ ap (λ (z : List ℕ). z ++ behind.put (repeated_parts e.repeated)) p.1 ∙ append_assoc old ((listed part).put e.before.items) (behind.put (repeated_parts e.repeated))
-          ∙ sym (ap (λ (z : Split). old ++ ((listed part).put z.0 ++ behind.put z.1)) (split_is e)),
+          ∙ sym (ap (λ (z : SplitPatterns). old ++ ((listed part).put z.0 ++ behind.put z.1)) (split_is e)),
     )
 
 pub items_puts : (part : Codec PlainTemplate) (is : List TemplateItem) (old new : List ℕ) (b : Bool) → PutsIf (listed (part then u32)) (map item_part is) old new b → PutsIf (items part) (view.items is) old new b

@@ -4,7 +4,7 @@ use Rattle.std.proofs.Common.{◌≡◌, refl, sym, ap, ◌∙◌, arith, inl, i
 use Rattle.base_data.specs.declared.atom.Atom.{Atom}
 use Rattle.base_data.specs.declared.name.Label.{Label}
 use Rattle.base_bytes.specs.Codec.{Codec, listed, never, ◌then◌, u32}
-use Rattle.core_codec.specs.Code.{Split, split, joined, has_one_dots, has_no_dots, plain_patterns, pattern, pattern_level, template, template_level, items, item_list, items_of}
+use Rattle.core_codec.specs.Code.{SplitPatterns, split, joined, has_one_dots, has_no_dots, plain_patterns, pattern, pattern_level, template, template_level, items, item_list, items_of}
 use Rattle.core_language.specs.Pattern as p
 use Rattle.core_language.specs.Pattern.{PlainPattern, PlainPatterns, patterns, patterns_on}
 use Rattle.core_language.specs.PatternView.{elements_of, repeated_on}

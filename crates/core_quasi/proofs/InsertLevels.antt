@@ -12,7 +12,7 @@ use Rattle.core_shapes.specs.Lists.{is_nil, elements, tail_of}
 use Rattle.core_quasi.proofs.Levels.{elements_chain}
 use Rattle.core_quasi.specs.Words.{inner, reach}
 use Rattle.core_quasi.specs.Parts.{rest_at, splits, first_word, operand_of}
-use Rattle.core_quasi.specs.QuasiSyntax.{Looked, then_insert, Element, Tail, forms, no_trees, unchanged, walked, begun_by, begins, finished, flat, escapes, list_made, vector_made, syntax_at, elements_made, tail_made, element, tail_element, forms_begun, flat_list, last_list, split_list, vector_at}
+use Rattle.core_quasi.specs.QuasiSyntax.{Looked, then_insert, ElementInserts, Tail, forms, no_trees, unchanged, walked, begun_by, begins, finished, flat, escapes, list_made, vector_made, syntax_at, elements_made, tail_made, element, tail_element, forms_begun, flat_list, last_list, split_list, vector_at}
 use Rattle.core_quasi.specs.declared.quasi_syntax.Insert.{Insert}
 use Rattle.core_quasi.specs.declared.quasi_syntax.QuasiPart.{QuasiPart}
 
@@ -20,7 +20,7 @@ module _ (w : Looked) where
   pub elements_are : (t : Tree) → elements_made w t ≡ map (element w) (elements t)
   elements_are (atom s a) = refl
   elements_are (leaf s x c) = refl
-  elements_are (pair s a d) = ap (λ (xs : List Element). (a, syntax_at w a) ∷ xs) (elements_are d)
+  elements_are (pair s a d) = ap (λ (xs : List ElementInserts). (a, syntax_at w a) ∷ xs) (elements_are d)
   elements_are (vector s d) = refl
 
   pub tail_is : (t : Tree) → tail_made w t ≡ syntax_at w (tail_of t)
@@ -60,7 +60,7 @@ module _ (w : Looked) where
     made_vector v (pair p a d) h = absurd h
     made_vector v (vector p d) h =
         let same : elements_made w d ≡ map (element w) v.items = elements_are d ∙ ap (map (element w)) (ap elements (sym h) ∙ elements_chain v.items) in
-        ap (λ (xs : List Element). vector_made w (vector p d) xs n is) same
+        ap (λ (xs : List ElementInserts). vector_made w (vector p d) xs n is) same
 
   abbrev on_split : Tree → List Tree → Tree → ℕ → List Insert → Bool → Result (QuasiPart × List Insert) Bare
   on_split t ts tail n is b =

@@ -10,20 +10,20 @@ use Rattle.stx_tree.specs.Tree.{Tree, atom, leaf, pair, vector, chain, nil, is_p
 use Rattle.stx_object.specs.Opens.{Opens}
 use Rattle.stx_object.specs.declared.syn.OpenedTree.TheVariants as opened
 use Rattle.core_shapes.specs.Lists.{is_nil, elements, tail_of}
-use Rattle.core_quasi.specs.Words.{Words, inner, reach}
+use Rattle.core_quasi.specs.Words.{WordOf, inner, reach}
 use Rattle.core_quasi.specs.Parts.{rest_at, splits, first_word, operand_of}
 use Rattle.core_quasi.specs.Plan.{PlainQuasi, constant}
-use Rattle.core_quasi.specs.Quasi.{Element, Tail, forms, no_pieces, walked, begun_by, begins, finished, flat, list_made, vector_made, quasi_at, elements_made, tail_made, element, tail_element, forms_begun, flat_list, last_list, split_list, vector_at}
+use Rattle.core_quasi.specs.Quasi.{ElementPlan, Tail, forms, no_pieces, walked, begun_by, begins, finished, flat, list_made, vector_made, quasi_at, elements_made, tail_made, element, tail_element, forms_begun, flat_list, last_list, split_list, vector_at}
 
 pub elements_chain : (ts : List Tree) → elements (chain ts nil) ≡ ts
 elements_chain [] = refl
 elements_chain (t ∷ ts) = ap (λ us. t ∷ us) (elements_chain ts)
 
-module _ (w : Words) where
+module _ (w : WordOf) where
   pub elements_are : (t : Tree) → elements_made w t ≡ map (element w) (elements t)
   elements_are (atom s a) = refl
   elements_are (leaf s x c) = refl
-  elements_are (pair s a d) = ap (λ (xs : List Element). (a, quasi_at w a) ∷ xs) (elements_are d)
+  elements_are (pair s a d) = ap (λ (xs : List ElementPlan). (a, quasi_at w a) ∷ xs) (elements_are d)
   elements_are (vector s d) = refl
 
   pub tail_is : (t : Tree) → tail_made w t ≡ quasi_at w (tail_of t)
@@ -62,7 +62,7 @@ module _ (w : Words) where
     made_vector v (pair p a d) h = absurd h
     made_vector v (vector p d) h =
         let same : elements_made w d ≡ map (element w) v.items = elements_are d ∙ ap (map (element w)) (ap elements (sym h) ∙ elements_chain v.items) in
-        ap (λ (xs : List Element). vector_made w (vector p d) xs n) same
+        ap (λ (xs : List ElementPlan). vector_made w (vector p d) xs n) same
 
   abbrev on_list : Tree → List Tree → Tree → ℕ → Bool → Result PlainQuasi Bare
   on_list t ts tail n b = if b then split_list w t (take (length ts - 2) ts) (last_list w (rest_at (length ts - 2) t) (drop (length ts - 2) ts) tail) n else flat_list w t ts tail n

@@ -8,7 +8,7 @@ use Rattle.stx_tree.specs.Tree.{Tree, atom, leaf, pair, vector, chain, nil, is_p
 use Rattle.stx_tree.specs.Measures.{size, joint}
 use Rattle.stx_tree.proofs.MeasureLaws.{size-some}
 use Rattle.core_shapes.specs.Lists.{elements, tail_of}
-use Rattle.core_quasi.specs.Words.{Words}
+use Rattle.core_quasi.specs.Words.{WordOf}
 use Rattle.core_quasi.specs.Parts.{splits}
 
 -- the sum of the sizes
@@ -64,7 +64,7 @@ pub first_size : (left : List Tree) (t : Tree) (ts : List Tree) → left ≡ t �
 first_size left t ts e = rw e refl
 
 -- a list that is split has three elements at least
-pub split_long : (w : Words) (ends : Bool) (ts : List Tree) → true ≡ splits w ends ts → 3 ≤ length ts
+pub split_long : (w : WordOf) (ends : Bool) (ts : List Tree) → true ≡ splits w ends ts → 3 ≤ length ts
 split_long w false ts h = absurd (cc)
 split_long w true [] h = absurd (cc)
 split_long w true (x ∷ []) h = absurd (cc)

@@ -6,11 +6,11 @@ use Rattle.base_data.specs.declared.fault.Bare.{Bare}
 use Rattle.base_data.specs.declared.fault.BareStop.{BareStop}
 use Rattle.base_data.specs.declared.fault.BareStop.TheVariants as stops
 use Rattle.stx_tree.specs.Tree.{Tree}
-use Rattle.core_quasi.specs.Words.{Words}
+use Rattle.core_quasi.specs.Words.{WordOf}
 use Rattle.core_quasi.specs.Quasi.{element, step, walked}
 use Rattle.core_quasi.specs.declared.quasi.Pieces.{Pieces}
 
-module _ (w : Words) (n : ℕ) (pieces : Pieces) (left : List Tree) (t : Tree) (ts : List Tree) (total : Result Pieces Bare) (is : left ≡ t ∷ ts) where
+module _ (w : WordOf) (n : ℕ) (pieces : Pieces) (left : List Tree) (t : Tree) (ts : List Tree) (total : Result Pieces Bare) (is : left ≡ t ∷ ts) where
   here : walked w n pieces (map (element w) left) ≡ (step w n pieces (element w t) >>= λ p. walked w n p (map (element w) ts))
   here = ap (λ us. walked w n pieces (map (element w) us)) is
 

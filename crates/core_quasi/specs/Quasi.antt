@@ -11,7 +11,7 @@ use Rattle.base_data.specs.declared.span.Span.{Span}
 use Rattle.stx_tree.specs.Tree.{Tree, atom, leaf, pair, vector, nil}
 use Rattle.core_shapes.specs.At.{place_of}
 use Rattle.core_shapes.specs.Lists.{is_nil, tail_of}
-use Rattle.core_quasi.specs.Words.{Words, inner, reach}
+use Rattle.core_quasi.specs.Words.{WordOf, inner, reach}
 use Rattle.core_quasi.specs.Parts.{bad, rest_at, splits, taken_at, first_word, operand_of}
 use Rattle.core_quasi.specs.Plan.{PlainQuasi, constant, expression, call, quasis}
 use Rattle.core_quasi.specs.declared.maker.Maker.TheVariants as maker
@@ -78,23 +78,23 @@ vector_joined t p = if p.fixed then constant t else call maker.ListToVector (qua
 -- Forms.
 
 -- a form with what it comes to at each level
-abbrev pub Element : Type 0
-Element = Tree × (ℕ → Result PlainQuasi Bare)
+abbrev pub ElementPlan : Type 0
+ElementPlan = Tree × (ℕ → Result PlainQuasi Bare)
 
-abbrev pub forms : List Element → List Tree
+abbrev pub forms : List ElementPlan → List Tree
 forms [] = []
 forms (x ∷ xs) = x.0 ∷ forms xs
 
-abbrev pub step_by : ℕ → Element → Pieces → QuasiTaken → Result Pieces Bare
+abbrev pub step_by : ℕ → ElementPlan → Pieces → QuasiTaken → Result Pieces Bare
 step_by n x p (taken.Each es) = Ok (with_each p es)
 step_by n x p (taken.Spliced es) = Ok (with_splices p es)
 step_by n x p taken.Kept = x.1 n >>= λ q. Ok (with_item p q)
 
-abbrev pub step : Words → ℕ → Pieces → Element → Result Pieces Bare
+abbrev pub step : WordOf → ℕ → Pieces → ElementPlan → Result Pieces Bare
 step w n p x = step_by n x p (taken_at w n x.0)
 
 -- the elements of a list or vector, behind those so far
-abbrev pub walked : Words → ℕ → Pieces → List Element → Result Pieces Bare
+abbrev pub walked : WordOf → ℕ → Pieces → List ElementPlan → Result Pieces Bare
 walked w n p [] = Ok p
 walked w n p (x ∷ xs) = step w n p x >>= λ q. walked w n q xs
 
@@ -109,7 +109,7 @@ begun_by operand pieces reached.Operand = operand_or_bad operand
 begun_by operand pieces reached.Refused = Err bad
 begun_by operand pieces reached.Elements = pieces >>= λ p. Ok (begun.Parts p)
 
-abbrev pub begins : Words → List Element → Bool → ℕ → Result Begun Bare
+abbrev pub begins : WordOf → List ElementPlan → Bool → ℕ → Result Begun Bare
 begins w xs ends n =
     begun_by (operand_of ends (forms xs)) (walked w (inner (first_word w (forms xs)) n) no_pieces xs) (reach (first_word w (forms xs)) n)
 
@@ -123,67 +123,67 @@ finished t tail n (begun.Whole e) = Ok (expression e)
 finished t tail n (begun.Parts p) = tail.made n >>= λ q. Ok (list_joined t p q)
 
 -- the elements and the tail of a list, as they are
-abbrev pub flat : Words → Tree → List Element → Tail → ℕ → Result PlainQuasi Bare
+abbrev pub flat : WordOf → Tree → List ElementPlan → Tail → ℕ → Result PlainQuasi Bare
 flat w t xs tail n = begins w xs tail.ends n >>= finished t tail n
 
 -- the tail that the last two elements are
-abbrev pub split_tail : Words → Tree → List Element → Tail → Tail
+abbrev pub split_tail : WordOf → Tree → List ElementPlan → Tail → Tail
 split_tail w t xs tail = record { ends = false; made = flat w (rest_at (length xs - 2) t) (drop (length xs - 2) xs) tail }
 
 -- a list is split first
-abbrev pub list_made : Words → Tree → List Element → Tail → ℕ → Result PlainQuasi Bare
+abbrev pub list_made : WordOf → Tree → List ElementPlan → Tail → ℕ → Result PlainQuasi Bare
 list_made w t xs tail n =
     if splits w tail.ends (forms xs) then flat w t (take (length xs - 2) xs) (split_tail w t xs tail) n else flat w t xs tail n
 
-abbrev pub vector_made : Words → Tree → List Element → ℕ → Result PlainQuasi Bare
+abbrev pub vector_made : WordOf → Tree → List ElementPlan → ℕ → Result PlainQuasi Bare
 vector_made w t xs n = walked w n no_pieces xs >>= λ p. Ok (vector_joined t p)
 
 abbrev mutual
   -- what a template comes to at a level
-  pub quasi_at : Words → Tree → ℕ → Result PlainQuasi Bare
+  pub quasi_at : WordOf → Tree → ℕ → Result PlainQuasi Bare
   quasi_at w (atom s a) n = Ok (constant (atom s a))
   quasi_at w (leaf s x c) n = Ok (constant (leaf s x c))
   quasi_at w (pair s a d) n = list_made w (pair s a d) ((a, quasi_at w a) ∷ elements_made w d) (record { ends = is_nil (tail_of d); made = tail_made w d }) n
   quasi_at w (vector s d) n = vector_made w (vector s d) (elements_made w d) n
 
   -- the elements of a list, each with what it comes to
-  pub elements_made : Words → Tree → List Element
+  pub elements_made : WordOf → Tree → List ElementPlan
   elements_made w (atom s a) = []
   elements_made w (leaf s x c) = []
   elements_made w (pair s a d) = (a, quasi_at w a) ∷ elements_made w d
   elements_made w (vector s d) = []
 
   -- what the end of a list comes to
-  pub tail_made : Words → Tree → ℕ → Result PlainQuasi Bare
+  pub tail_made : WordOf → Tree → ℕ → Result PlainQuasi Bare
   tail_made w (atom s a) n = Ok (constant (atom s a))
   tail_made w (leaf s x c) n = Ok (constant (leaf s x c))
   tail_made w (pair s a d) n = tail_made w d n
   tail_made w (vector s d) n = vector_made w (vector s d) (elements_made w d) n
 
-abbrev pub element : Words → Tree → Element
+abbrev pub element : WordOf → Tree → ElementPlan
 element w t = (t, quasi_at w t)
 
-abbrev pub tail_element : Words → Tree → Tail
+abbrev pub tail_element : WordOf → Tree → Tail
 tail_element w t = record { ends = is_nil t; made = quasi_at w t }
 
-abbrev pub forms_walked : Words → ℕ → List Tree → Result Pieces Bare
+abbrev pub forms_walked : WordOf → ℕ → List Tree → Result Pieces Bare
 forms_walked w n ts = walked w n no_pieces (map (element w) ts)
 
-abbrev pub forms_begun : Words → List Tree → Bool → ℕ → Result Begun Bare
+abbrev pub forms_begun : WordOf → List Tree → Bool → ℕ → Result Begun Bare
 forms_begun w ts ends n = begun_by (operand_of ends ts) (forms_walked w (inner (first_word w ts) n) ts) (reach (first_word w ts) n)
 
-abbrev pub flat_list : Words → Tree → List Tree → Tree → ℕ → Result PlainQuasi Bare
+abbrev pub flat_list : WordOf → Tree → List Tree → Tree → ℕ → Result PlainQuasi Bare
 flat_list w t ts tail n = forms_begun w ts (is_nil tail) n >>= finished t (tail_element w tail) n
 
 -- the tail that a list of the last elements is, which ends with this tail itself
-abbrev pub last_list : Words → Tree → List Tree → Tree → Tail
+abbrev pub last_list : WordOf → Tree → List Tree → Tree → Tail
 last_list w t ts tail = record { ends = false; made = flat_list w t ts tail }
 
 -- these elements before the list of the last two
-abbrev pub split_list : Words → Tree → List Tree → Tail → ℕ → Result PlainQuasi Bare
+abbrev pub split_list : WordOf → Tree → List Tree → Tail → ℕ → Result PlainQuasi Bare
 split_list w t front last n = forms_begun w front false n >>= finished t last n
 
-abbrev pub vector_at : Words → Tree → List Tree → ℕ → Result PlainQuasi Bare
+abbrev pub vector_at : WordOf → Tree → List Tree → ℕ → Result PlainQuasi Bare
 vector_at w t ts n = forms_walked w n ts >>= λ p. Ok (vector_joined t p)
 
 abbrev pub fault_of : Tree → Span → Bare → Fault
@@ -200,5 +200,5 @@ StopsAt form place (stop.Fault f) bare_stop.Memory = ⊥
 StopsAt form place stop.Memory s = Unit {0}
 
 -- what a form with this template comes to
-abbrev pub quasi : Words → Tree → Tree → Span → Result PlainQuasi Fault
+abbrev pub quasi : WordOf → Tree → Tree → Span → Result PlainQuasi Fault
 quasi w template form place = at_form form place (quasi_at w template 0)

@@ -9,7 +9,7 @@ use Rattle.base_data.specs.declared.span.Span.{Span}
 use Rattle.stx_tree.specs.Tree.{Tree, atom, leaf, pair, vector, span_of, spanned, list_of, vector_of}
 use Rattle.stx_tree.specs.Measures.{within}
 use Rattle.core_shapes.specs.Lists.{is_nil, tail_of}
-use Rattle.core_quasi.specs.Words.{Words, word_of, inner, reach}
+use Rattle.core_quasi.specs.Words.{WordOf, word_of, inner, reach}
 use Rattle.core_quasi.specs.Parts.{bad, rest_at, splits, taken_at, first_word, operand_of}
 use Rattle.core_quasi.specs.Quasi.{at_form}
 use Rattle.core_quasi.specs.declared.parts.QuasiTaken.{QuasiTaken}
@@ -29,7 +29,7 @@ use Rattle.core_quasi.specs.declared.word.QuasiWord.TheVariants as word
 
 -- what is looked for, and the leaf that stands behind each leaf of a splice, an ellipsis
 pub record Looked : Type 0 where
-  pub words : Words
+  pub words : WordOf
   pub dots : Tree
 
 abbrev pub seen : QuasiContext → Looked
@@ -99,23 +99,23 @@ joined r inserts = r >>= λ x. Ok (x, inserts)
 -- Forms.
 
 -- a form with what it comes to at each level
-abbrev pub Element : Type 0
-Element = Tree × (ℕ → Inserts QuasiPart)
+abbrev pub ElementInserts : Type 0
+ElementInserts = Tree × (ℕ → Inserts QuasiPart)
 
-abbrev pub forms : List Element → List Tree
+abbrev pub forms : List ElementInserts → List Tree
 forms [] = []
 forms (x ∷ xs) = x.0 ∷ forms xs
 
-abbrev pub step_by : Looked → ℕ → Element → QuasiRow → QuasiTaken → Inserts QuasiRow
+abbrev pub step_by : Looked → ℕ → ElementInserts → QuasiRow → QuasiTaken → Inserts QuasiRow
 step_by w n x r (taken.Each es) inserts = Ok (as_row (leaves r.trees es inserts))
 step_by w n x r (taken.Spliced es) inserts = Ok (as_row (spliced w.dots r.trees es inserts))
 step_by w n x r taken.Kept inserts = then_insert (x.1 n inserts) (λ p inserts. Ok (with_part r p, inserts))
 
-abbrev pub step : Looked → ℕ → QuasiRow → Element → Inserts QuasiRow
+abbrev pub step : Looked → ℕ → QuasiRow → ElementInserts → Inserts QuasiRow
 step w n r x inserts = step_by w n x r (taken_at w.words n x.0) inserts
 
 -- the elements of a list or vector, behind those so far
-abbrev pub walked : Looked → ℕ → QuasiRow → List Element → Inserts QuasiRow
+abbrev pub walked : Looked → ℕ → QuasiRow → List ElementInserts → Inserts QuasiRow
 walked w n r [] inserts = Ok (r, inserts)
 walked w n r (x ∷ xs) inserts = then_insert (step w n r x inserts) (λ q inserts. walked w n q xs inserts)
 
@@ -133,7 +133,7 @@ begun_by operand row reached.Operand inserts = operand_or_bad operand inserts
 begun_by operand row reached.Refused inserts = Err bad
 begun_by operand row reached.Elements inserts = then_insert (row inserts) (λ r inserts. Ok (begun.Trees r, inserts))
 
-abbrev pub begins : Looked → List Element → Bool → ℕ → Inserts Begun
+abbrev pub begins : Looked → List ElementInserts → Bool → ℕ → Inserts Begun
 begins w xs ends n =
     begun_by (operand_of ends (forms xs)) (walked w (inner (first_word w.words (forms xs)) n) no_trees xs) (reach (first_word w.words (forms xs)) n)
 
@@ -147,11 +147,11 @@ finished t tail n (begun.Whole p) inserts = Ok (p, inserts)
 finished t tail n (begun.Trees r) inserts = then_insert (tail.made n inserts) (λ q. joined (list_joined t r q))
 
 -- the elements and the tail of a list, as they are
-abbrev pub flat : Looked → Tree → List Element → Tail → ℕ → Inserts QuasiPart
+abbrev pub flat : Looked → Tree → List ElementInserts → Tail → ℕ → Inserts QuasiPart
 flat w t xs tail n inserts = then_insert (begins w xs tail.ends n inserts) (finished t tail n)
 
 -- the tail that the last two elements are
-abbrev pub split_tail : Looked → Tree → List Element → Tail → Tail
+abbrev pub split_tail : Looked → Tree → List ElementInserts → Tail → Tail
 split_tail w t xs tail = record { ends = false; made = flat w (rest_at (length xs - 2) t) (drop (length xs - 2) xs) tail }
 
 -- whether a list is an ellipsis and the template that it escapes
@@ -160,13 +160,13 @@ escapes word.Escape true (head ∷ (t ∷ [])) = true
 escapes head ends ts = false
 
 -- a list is split first; what an ellipsis escapes stays as it is
-abbrev pub list_made : Looked → Tree → List Element → Tail → ℕ → Inserts QuasiPart
+abbrev pub list_made : Looked → Tree → List ElementInserts → Tail → ℕ → Inserts QuasiPart
 list_made w t xs tail n inserts =
     if escapes (first_word w.words (forms xs)) tail.ends (forms xs) then Ok (unchanged t, inserts)
     else if splits w.words tail.ends (forms xs) then flat w t (take (length xs - 2) xs) (split_tail w t xs tail) n inserts
     else flat w t xs tail n inserts
 
-abbrev pub vector_made : Looked → Tree → List Element → ℕ → Inserts QuasiPart
+abbrev pub vector_made : Looked → Tree → List ElementInserts → ℕ → Inserts QuasiPart
 vector_made w t xs n inserts = then_insert (walked w n no_trees xs inserts) (λ r. joined (vector_joined t r))
 
 abbrev mutual
@@ -179,7 +179,7 @@ abbrev mutual
   syntax_at w (vector s d) n inserts = vector_made w (vector s d) (elements_made w d) n inserts
 
   -- the elements of a list, each with what it comes to
-  pub elements_made : Looked → Tree → List Element
+  pub elements_made : Looked → Tree → List ElementInserts
   elements_made w (atom s a) = []
   elements_made w (leaf s x c) = []
   elements_made w (pair s a d) = (a, syntax_at w a) ∷ elements_made w d
@@ -192,7 +192,7 @@ abbrev mutual
   tail_made w (pair s a d) n inserts = tail_made w d n inserts
   tail_made w (vector s d) n inserts = vector_made w (vector s d) (elements_made w d) n inserts
 
-abbrev pub element : Looked → Tree → Element
+abbrev pub element : Looked → Tree → ElementInserts
 element w t = (t, syntax_at w t)
 
 abbrev pub tail_element : Looked → Tree → Tail

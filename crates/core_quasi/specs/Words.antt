@@ -49,11 +49,11 @@ abbrev pub word_of : Family → Scope → Tree → QuasiWord
 word_of f fs t = if is_leaf t then labelled f (stands fs t) else word.Plain
 
 -- which words forms have
-abbrev pub Words : Type 0
-Words = Tree → QuasiWord
+abbrev pub WordOf : Type 0
+WordOf = Tree → QuasiWord
 
 -- the word of the first element of a list
-abbrev pub head_word : Words → Tree → QuasiWord
+abbrev pub head_word : WordOf → Tree → QuasiWord
 head_word w (atom s a) = word.Plain
 head_word w (leaf s x c) = word.Plain
 head_word w (pair s a d) = w a

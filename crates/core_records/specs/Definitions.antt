@@ -14,8 +14,8 @@ use Rattle.core_records.specs.declared.clause.Uid.TheVariants as uid
 use Rattle.core_records.specs.declared.names.RecordNames.{RecordNames}
 
 -- a row of forms, each within the limits of trees
-abbrev pub Row : Type 0
-Row = Result (List Tree) Bare
+abbrev pub FormRow : Type 0
+FormRow = Result (List Tree) Bare
 
 abbrev pub rtd : Tree
 rtd = plain (codes "rtd")
@@ -45,7 +45,7 @@ mutability (Some put) = introduced (codes "mutable")
 abbrev pub field_entry : Field → Made
 field_entry f = list_of_two (mutability f.mutator) f.id
 
-abbrev pub field_entries : List Tree → List Field → Row
+abbrev pub field_entries : List Tree → List Field → FormRow
 field_entries done [] = Ok done
 field_entries done (f ∷ fs) = field_entry f >>= (λ t. field_entries (done ++ t ∷ []) fs)
 
@@ -172,23 +172,23 @@ mutator_value k = list_of_three mutator_operator rtd (place_in k)
 abbrev pub mutator_definition : ℕ → Tree → Made
 mutator_definition k id = definition_by id (mutator_value k)
 
-abbrev pub with_mutator : ℕ → List Tree → Option Tree → Row
+abbrev pub with_mutator : ℕ → List Tree → Option Tree → FormRow
 with_mutator k done None = Ok done
 with_mutator k done (Some put) = mutator_definition k put >>= (λ t. Ok (done ++ t ∷ []))
 
 -- the definitions of a field at a place, behind others
-abbrev pub with_field : ℕ → List Tree → Field → Row
+abbrev pub with_field : ℕ → List Tree → Field → FormRow
 with_field k done f = accessor_definition k f.accessor >>= (λ t. with_mutator k (done ++ t ∷ []) f.mutator)
 
 -- those of all fields from a place on
-abbrev pub with_fields : ℕ → List Tree → List Field → Row
+abbrev pub with_fields : ℕ → List Tree → List Field → FormRow
 with_fields k done [] = Ok done
 with_fields k done (f ∷ fs) = with_field k done f >>= (λ ts. with_fields (k + 1) ts fs)
 
 -- All definitions.
 
 -- those that every record type has, behind `begin`
-unfoldable pub first_definitions : List ℕ → RecordNames → Clauses → Row
+unfoldable pub first_definitions : List ℕ → RecordNames → Clauses → FormRow
 first_definitions own names cs =
     definition_by rtd (type_value own names cs) >>= (λ a.
     definition_by rcd (constructor_value cs) >>= (λ b.

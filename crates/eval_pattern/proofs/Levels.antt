@@ -12,7 +12,7 @@ use Rattle.core_language.specs.Pattern as patterns
 use Rattle.core_shapes.specs.Lists.{elements, tail_of}
 use Rattle.eval_value.specs.declared.value.Value.TheVariants as value
 use Rattle.eval_pattern.specs.Values.{tree_atom, tree_vector}
-use Rattle.eval_pattern.specs.Compile.{PatternScope, Taken, Element, pattern, element_patterns, tail_pattern, with_pattern, list_with, vector_with, forms_walked, walked, no_parts, leaf_pattern, list_pattern, vector_pattern}
+use Rattle.eval_pattern.specs.Compile.{PatternScope, TakenVariables, ElementPattern, pattern, element_patterns, tail_pattern, with_pattern, list_with, vector_with, forms_walked, walked, no_parts, leaf_pattern, list_pattern, vector_pattern}
 
 pub atom_opened : (e : Atom) (t : Tree) → Opens (opened.Atom e) t → tree_atom t ≡ Some e
 atom_opened e (atom s b) h = ap Some (sym h)
@@ -77,7 +77,7 @@ module _ (c : PatternScope) where
   pub elements_are : (t : Tree) → element_patterns c t ≡ map (with_pattern c) (elements t)
   elements_are (atom s a) = refl
   elements_are (leaf s x k) = refl
-  elements_are (pair s a d) = ap (λ (xs : List Element). (a, pattern c a) ∷ xs) (elements_are d)
+  elements_are (pair s a d) = ap (λ (xs : List ElementPattern). (a, pattern c a) ∷ xs) (elements_are d)
   elements_are (vector s d) = refl
 
   pub tail_is : (t : Tree) → tail_pattern c t ≡ pattern c (tail_of t)
@@ -86,7 +86,7 @@ module _ (c : PatternScope) where
   tail_is (pair s a d) = tail_is d
   tail_is (vector s d) = refl
 
-  module _ (depth : ℕ) (s : Taken) where
+  module _ (depth : ℕ) (s : TakenVariables) where
     pub pattern_atom : (e : Atom) (t : Tree) → Opens (opened.Atom e) t → pattern c t depth s ≡ Ok (patterns.atom e, s)
     pattern_atom e (atom p b) h = ap (λ a. Ok (patterns.atom a, s)) (sym h)
     pattern_atom e (leaf p y k) h = absurd h
@@ -103,8 +103,8 @@ module _ (c : PatternScope) where
     pattern_pair x y (atom p b) h = absurd h
     pattern_pair x y (leaf p z k) h = absurd h
     pattern_pair x y (pair p a d) h =
-        ap (λ (xs : List Element). list_with (walked c depth false no_parts ((a, pattern c a) ∷ xs)) (tail_pattern c d depth) s) (elements_are d)
-        ∙ ap (λ (go : ℕ → Taken → Result (PlainPattern × Taken) Fault). list_with (forms_walked c depth (a ∷ elements d)) (go depth) s) (tail_is d)
+        ap (λ (xs : List ElementPattern). list_with (walked c depth false no_parts ((a, pattern c a) ∷ xs)) (tail_pattern c d depth) s) (elements_are d)
+        ∙ ap (λ (go : ℕ → TakenVariables → Result (PlainPattern × TakenVariables) Fault). list_with (forms_walked c depth (a ∷ elements d)) (go depth) s) (tail_is d)
     pattern_pair x y (vector p d) h = absurd h
 
     pub pattern_vector : (v : Vec Tree Global) (t : Tree) → Opens (opened.Vector v) t → pattern c t depth s ≡ vector_pattern c v.items depth s
@@ -113,4 +113,4 @@ module _ (c : PatternScope) where
     pattern_vector v (pair p a d) h = absurd h
     pattern_vector v (vector p d) h =
         let same : element_patterns c d ≡ map (with_pattern c) v.items = elements_are d ∙ ap (map (with_pattern c)) (ap elements (sym h) ∙ elements_chain v.items) in
-        ap (λ (xs : List Element). vector_with (walked c depth false no_parts xs) s) same
+        ap (λ (xs : List ElementPattern). vector_with (walked c depth false no_parts xs) s) same

@@ -9,7 +9,7 @@ use Rattle.base_data.specs.declared.fault.Stop.TheVariants as stops
 use Rattle.stx_tree.specs.Tree.{Tree}
 use Rattle.core_language.specs.Pattern.{PlainPattern}
 use Rattle.eval_pattern.specs.Keywords.{first_ellipsis}
-use Rattle.eval_pattern.specs.Compile.{PatternScope, Taken, next_ellipsis, with_part, with_repeated, repeated_part, inner_depth, behind_ellipsis, added, pattern, with_pattern, step, walked, Walked}
+use Rattle.eval_pattern.specs.Compile.{PatternScope, TakenVariables, next_ellipsis, with_part, with_repeated, repeated_part, inner_depth, behind_ellipsis, added, pattern, with_pattern, step, walked, WalkedPatterns}
 use Rattle.eval_pattern.specs.declared.compile.PatternParts.{PatternParts}
 
 next_is_first : (c : PatternScope) (ts : List Tree) → next_ellipsis c.frames (map (with_pattern c) ts) ≡ first_ellipsis c.frames ts
@@ -18,31 +18,31 @@ next_is_first c (t ∷ ts) = refl
 
 module _ (c : PatternScope) (depth : ℕ) (parts : PatternParts) (t : Tree) where
   -- with the pattern of an element: its part is added, and the forms behind its ellipsis follow
-  abbrev on_pattern : Option Tree → List Tree → PlainPattern → Taken → Result (PatternParts × Taken) Fault
+  abbrev on_pattern : Option Tree → List Tree → PlainPattern → TakenVariables → Result (PatternParts × TakenVariables) Fault
   on_pattern e ts p u = added c.place e parts p >>= λ more. walked c depth false more (map (with_pattern c) (behind_ellipsis e ts)) u
 
-  stepped : (e : Option Tree) (ts : List Tree) (s : Taken) → e ≡ first_ellipsis c.frames ts
+  stepped : (e : Option Tree) (ts : List Tree) (s : TakenVariables) → e ≡ first_ellipsis c.frames ts
       → after (step c depth false (with_pattern c t) e parts s) (λ w. walked c depth w.0 w.1 (map (with_pattern c) ts)) ≡ after (pattern c t (inner_depth depth e) s) (on_pattern e ts)
   stepped None ts s h = go (pattern c t depth s)
     where
-      go : (r : Result (PlainPattern × Taken) Fault)
-          → after {A = Walked} (after {B = Walked} r (λ p u. Ok ((false, with_part parts.repeated parts p), u))) (λ w. walked c depth w.0 w.1 (map (with_pattern c) ts)) ≡ after r (on_pattern None ts)
+      go : (r : Result (PlainPattern × TakenVariables) Fault)
+          → after {A = WalkedPatterns} (after {B = WalkedPatterns} r (λ p u. Ok ((false, with_part parts.repeated parts p), u))) (λ w. walked c depth w.0 w.1 (map (with_pattern c) ts)) ≡ after r (on_pattern None ts)
       go (Ok q) = refl
       go (Err f) = refl
   stepped (Some e) [] s h = absurd (cc)
   stepped (Some e) (x ∷ xs) s h = go (pattern c t (depth + 1) s)
     where
-      also : (r : Result PatternParts Fault) (u : Taken)
-          → after {A = Walked} (r >>= λ more. Ok ((true, more), u)) (λ w. walked c depth w.0 w.1 (map (with_pattern c) (x ∷ xs))) ≡ (r >>= λ more. walked c depth false more (map (with_pattern c) xs) u)
+      also : (r : Result PatternParts Fault) (u : TakenVariables)
+          → after {A = WalkedPatterns} (r >>= λ more. Ok ((true, more), u)) (λ w. walked c depth w.0 w.1 (map (with_pattern c) (x ∷ xs))) ≡ (r >>= λ more. walked c depth false more (map (with_pattern c) xs) u)
       also (Ok more) u = refl
       also (Err f) u = refl
 
-      go : (r : Result (PlainPattern × Taken) Fault)
-          → after {A = Walked} (after {B = Walked} r (repeated_part c.place e parts)) (λ w. walked c depth w.0 w.1 (map (with_pattern c) (x ∷ xs))) ≡ after r (on_pattern (Some e) (x ∷ xs))
+      go : (r : Result (PlainPattern × TakenVariables) Fault)
+          → after {A = WalkedPatterns} (after {B = WalkedPatterns} r (repeated_part c.place e parts)) (λ w. walked c depth w.0 w.1 (map (with_pattern c) (x ∷ xs))) ≡ after r (on_pattern (Some e) (x ∷ xs))
       go (Ok q) = also (with_repeated c.place e parts.repeated parts q.0) q.1
       go (Err f) = refl
 
-  module _ (left ts : List Tree) (e : Option Tree) (inner : ℕ) (s : Taken) (total : Result (PatternParts × Taken) Fault) (is : left ≡ t ∷ ts) (next : e ≡ first_ellipsis c.frames ts) (deep : inner ≡ inner_depth depth e)
+  module _ (left ts : List Tree) (e : Option Tree) (inner : ℕ) (s : TakenVariables) (total : Result (PatternParts × TakenVariables) Fault) (is : left ≡ t ∷ ts) (next : e ≡ first_ellipsis c.frames ts) (deep : inner ≡ inner_depth depth e)
       (so_far : walked c depth false parts (map (with_pattern c) left) s ≡ total) where
     here : total ≡ after (pattern c t inner s) (on_pattern e ts)
     here =
@@ -55,7 +55,7 @@ module _ (c : PatternScope) (depth : ℕ) (parts : PatternParts) (t : Tree) wher
     pattern_stop stops.Memory given = tt
     pattern_stop (stops.Fault f) given = here ∙ ap (λ r. after r (on_pattern e ts)) given
 
-    module _ (p : PlainPattern) (new : Taken) (given : pattern c t inner s ≡ Ok (p, new)) where
+    module _ (p : PlainPattern) (new : TakenVariables) (given : pattern c t inner s ≡ Ok (p, new)) where
       then_part : total ≡ on_pattern e ts p new
       then_part = here ∙ ap (λ r. after r (on_pattern e ts)) given
 

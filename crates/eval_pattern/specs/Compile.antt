@@ -32,8 +32,8 @@ abbrev pub seen : PatternContext → PatternScope
 seen c = record { frames = c.frames.now; literals = c.literals.now; place = c.place.now }
 
 -- the variables so far, and the names that are free
-abbrev pub Taken : Type 0
-Taken = List PatternVariable × Named
+abbrev pub TakenVariables : Type 0
+TakenVariables = List PatternVariable × Named
 
 abbrev pub bad : Span → Tree → Fault
 bad place t = fault_at kind.BadPattern t place []
@@ -69,13 +69,13 @@ abbrev pub named : Named → Tree → ℕ → PatternVariable
 named n t depth = record { id = t; label = record { 0 = n }; depth = depth }
 
 -- a variable that comes again is the fault at its second place
-abbrev pub new_variable : Span → Tree → ℕ → Act Taken PlainPattern
+abbrev pub new_variable : Span → Tree → ℕ → Act TakenVariables PlainPattern
 new_variable place t depth s =
     if is_known s.0 t then Err (bad place t)
     else Ok (variable (record { 0 = s.1 }), (s.0 ++ named s.1 t depth ∷ [], following s.1))
 
 -- an ellipsis behind an element never comes here
-abbrev pub leaf_pattern : PatternScope → Tree → ℕ → Act Taken PlainPattern
+abbrev pub leaf_pattern : PatternScope → Tree → ℕ → Act TakenVariables PlainPattern
 leaf_pattern c t depth s =
     if is_form form.Ellipsis (stands c.frames t) then Err (bad c.place t) else
     (if is_form form.Underscore (stands c.frames t) then Ok (any, s) else
@@ -103,33 +103,33 @@ with_repeated place e None parts p = Ok (record parts { repeated = Some p })
 with_repeated place e (Some r) parts p = Err (bad place e)
 
 -- a form with its pattern, by the number of ellipses round it
-abbrev pub Element : Type 0
-Element = Tree × (ℕ → Act Taken PlainPattern)
+abbrev pub ElementPattern : Type 0
+ElementPattern = Tree × (ℕ → Act TakenVariables PlainPattern)
 
 -- the ellipsis that these begin with
-abbrev pub next_ellipsis : Scope → List Element → Option Tree
+abbrev pub next_ellipsis : Scope → List ElementPattern → Option Tree
 next_ellipsis fs [] = None
 next_ellipsis fs (x ∷ xs) = if is_ellipsis fs x.0 then Some x.0 else None
 
 -- whether the next element is an ellipsis that was taken with the one before it, and the parts so far
-abbrev pub Walked : Type 0
-Walked = Bool × PatternParts
+abbrev pub WalkedPatterns : Type 0
+WalkedPatterns = Bool × PatternParts
 
-abbrev pub repeated_part : Span → Tree → PatternParts → PlainPattern → Act Taken Walked
+abbrev pub repeated_part : Span → Tree → PatternParts → PlainPattern → Act TakenVariables WalkedPatterns
 repeated_part place e parts p s = with_repeated place e parts.repeated parts p >>= λ more. Ok ((true, more), s)
 
 -- The elements of one list or vector, round which so many ellipses stand.
 module _ (c : PatternScope) (depth : ℕ) where
   -- an element: with an ellipsis behind it, there is one more round its variables
-  abbrev pub element : Element → Option Tree → PatternParts → Act Taken Walked
+  abbrev pub element : ElementPattern → Option Tree → PatternParts → Act TakenVariables WalkedPatterns
   element x None parts s = after (x.1 depth s) (λ p s. Ok ((false, with_part parts.repeated parts p), s))
   element x (Some e) parts s = after (x.1 (depth + 1) s) (repeated_part c.place e parts)
 
-  abbrev pub step : Bool → Element → Option Tree → PatternParts → Act Taken Walked
+  abbrev pub step : Bool → ElementPattern → Option Tree → PatternParts → Act TakenVariables WalkedPatterns
   step true x e parts s = Ok ((false, parts), s)
   step false x e parts s = element x e parts s
 
-  abbrev pub walked : Bool → PatternParts → List Element → Act Taken PatternParts
+  abbrev pub walked : Bool → PatternParts → List ElementPattern → Act TakenVariables PatternParts
   walked skips parts [] s = Ok (parts, s)
   walked skips parts (x ∷ xs) s = after (step skips x (next_ellipsis c.frames xs) parts s) (λ w. walked w.0 w.1 xs)
 
@@ -148,49 +148,49 @@ abbrev pub added : Span → Option Tree → PatternParts → PlainPattern → Re
 added place None parts p = Ok (with_part parts.repeated parts p)
 added place (Some e) parts p = with_repeated place e parts.repeated parts p
 
-abbrev pub list_with : Act Taken PatternParts → Act Taken PlainPattern → Act Taken PlainPattern
+abbrev pub list_with : Act TakenVariables PatternParts → Act TakenVariables PlainPattern → Act TakenVariables PlainPattern
 list_with elements tail s = after (elements s) (λ parts s. after (tail s) (λ p s. Ok (list (parts_of parts) p, s)))
 
-abbrev pub vector_with : Act Taken PatternParts → Act Taken PlainPattern
+abbrev pub vector_with : Act TakenVariables PatternParts → Act TakenVariables PlainPattern
 vector_with elements s = after (elements s) (λ parts s. Ok (vector (parts_of parts), s))
 
 -- Forms.
 
 abbrev mutual
-  pub pattern : PatternScope → Tree → ℕ → Act Taken PlainPattern
+  pub pattern : PatternScope → Tree → ℕ → Act TakenVariables PlainPattern
   pattern c (tree.atom s a) depth = give (atom a)
   pattern c (tree.leaf s x k) depth = leaf_pattern c (tree.leaf s x k) depth
   pattern c (tree.pair s a d) depth = list_with (walked c depth false no_parts ((a, pattern c a) ∷ element_patterns c d)) (tail_pattern c d depth)
   pattern c (tree.vector s d) depth = vector_with (walked c depth false no_parts (element_patterns c d))
 
   -- the elements of a list, each with its pattern
-  pub element_patterns : PatternScope → Tree → List Element
+  pub element_patterns : PatternScope → Tree → List ElementPattern
   element_patterns c (tree.atom s a) = []
   element_patterns c (tree.leaf s x k) = []
   element_patterns c (tree.pair s a d) = (a, pattern c a) ∷ element_patterns c d
   element_patterns c (tree.vector s d) = []
 
   -- the pattern of what ends a list
-  pub tail_pattern : PatternScope → Tree → ℕ → Act Taken PlainPattern
+  pub tail_pattern : PatternScope → Tree → ℕ → Act TakenVariables PlainPattern
   tail_pattern c (tree.atom s a) depth = give (atom a)
   tail_pattern c (tree.leaf s x k) depth = leaf_pattern c (tree.leaf s x k) depth
   tail_pattern c (tree.pair s a d) depth = tail_pattern c d depth
   tail_pattern c (tree.vector s d) depth = vector_with (walked c depth false no_parts (element_patterns c d))
 
-abbrev pub with_pattern : PatternScope → Tree → Element
+abbrev pub with_pattern : PatternScope → Tree → ElementPattern
 with_pattern c t = (t, pattern c t)
 
 -- the parts of the patterns of forms
-abbrev pub forms_walked : PatternScope → ℕ → List Tree → Act Taken PatternParts
+abbrev pub forms_walked : PatternScope → ℕ → List Tree → Act TakenVariables PatternParts
 forms_walked c depth ts = walked c depth false no_parts (map (with_pattern c) ts)
 
-abbrev pub list_pattern : PatternScope → Tree → ℕ → Act Taken PlainPattern
+abbrev pub list_pattern : PatternScope → Tree → ℕ → Act TakenVariables PlainPattern
 list_pattern c t depth = list_with (forms_walked c depth (elements t)) (pattern c (tail_of t) depth)
 
-abbrev pub vector_pattern : PatternScope → List Tree → ℕ → Act Taken PlainPattern
+abbrev pub vector_pattern : PatternScope → List Tree → ℕ → Act TakenVariables PlainPattern
 vector_pattern c ts depth = vector_with (forms_walked c depth ts)
 
-abbrev pub with_variables : Result (PlainPattern × Taken) Fault → Result (Compiled × Named) Fault
+abbrev pub with_variables : Result (PlainPattern × TakenVariables) Fault → Result (Compiled × Named) Fault
 with_variables (Ok r) = Ok (record { pattern = r.0; variables = r.1.0 }, r.1.1)
 with_variables (Err f) = Err f
 

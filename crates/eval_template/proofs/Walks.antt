@@ -6,7 +6,7 @@ use Rattle.base_data.specs.declared.fault.Fault.{Fault}
 use Rattle.base_data.specs.declared.fault.Stop.{Stop}
 use Rattle.base_data.specs.declared.fault.Stop.TheVariants as stops
 use Rattle.stx_tree.specs.Tree.{Tree}
-use Rattle.eval_template.specs.Compile.{TemplateScope, Walked, dot_count, with_template, item_made, walked}
+use Rattle.eval_template.specs.Compile.{TemplateScope, WalkedItems, dot_count, with_template, item_made, walked}
 use Rattle.eval_template.specs.declared.compile.MadeItem.{MadeItem}
 use Rattle.eval_template.proofs.Levels.{dots_are}
 
@@ -20,7 +20,7 @@ skipped c escaped under items (suc n) (t ∷ ts) = skipped c escaped under items
 module _ (c : TemplateScope) (escaped : Bool) (under : ℕ) (items : List MadeItem) (left : List Tree) (t : Tree) (ts es after : List Tree) (n : ℕ)
     (total : Result (List MadeItem) Fault) (is : left ≡ t ∷ ts) (count : n ≡ dot_count c.frames escaped ts) (front : es ≡ take n ts) (many : length es ≡ n) (back : after ≡ drop n ts) where
   -- how many elements are skipped after an item, and the items then
-  abbrev told : List Tree → MadeItem → Result Walked Fault
+  abbrev told : List Tree → MadeItem → Result WalkedItems Fault
   told ds i = Ok (length ds, items ++ i ∷ [])
 
   taken : (ds : List Tree) → ds ≡ es

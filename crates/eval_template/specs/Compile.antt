@@ -114,8 +114,8 @@ abbrev pub fitted : Span → List Tree → CompiledForm → Result MadeItem Faul
 fitted place es m = with_ellipses place es m (slice_get es (reach m))
 
 -- how many of the next elements are ellipses that were taken with one before them, and the items so far
-abbrev pub Walked : Type 0
-Walked = ℕ × List MadeItem
+abbrev pub WalkedItems : Type 0
+WalkedItems = ℕ × List MadeItem
 
 -- The elements of one list or vector, in an escaped template or not, under so many ellipses.
 module _ (c : TemplateScope) (escaped : Bool) (under : ℕ) where
@@ -123,7 +123,7 @@ module _ (c : TemplateScope) (escaped : Bool) (under : ℕ) where
   abbrev pub item_made : TemplateElement → List Tree → Result MadeItem Fault
   item_made x es = x.1 escaped (under + length es) >>= fitted c.place es
 
-  abbrev pub step : ℕ → TemplateElement → List Tree → List MadeItem → Result Walked Fault
+  abbrev pub step : ℕ → TemplateElement → List Tree → List MadeItem → Result WalkedItems Fault
   step (suc skips) x es items = Ok (skips, items)
   step zero x es items = item_made x es >>= λ i. Ok (length es, items ++ i ∷ [])
 

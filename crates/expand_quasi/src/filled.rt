@@ -14,14 +14,14 @@ use std::alloc::Global;
 use std::marker::Model;
 use stx_object::syn::Syn;
 
-/// Codes, of which the first is taken next.
+/// The codes of parts, of which the first is taken next.
 #[derive(Drop)]
-pub struct Codes {
+pub struct PartCodes {
     /// The last first.
     backward: Vec<Core>,
 }
 
-impl Model for Codes {
+impl Model for PartCodes {
     ghost use Rattle.std.specs.Prelude.{List, reverse};
     ghost use Rattle.std.specs.Coded.{coded_list};
     ghost use Rattle.core_language.specs.Core.{PlainCore};
@@ -34,13 +34,13 @@ impl Model for Codes {
     ghost view = { λ c. reverse c.backward.items };
 }
 
-impl Codes {
-    fn new(codes: Vec<Core>) -> Codes
+impl PartCodes {
+    fn new(codes: Vec<Core>) -> PartCodes
         ensures { result ≡ codes.items }
     {
         let mut backward = codes;
         backward.reverse();
-        Codes { backward }
+        PartCodes { backward }
     }
 
     fn next(&mut self) -> Option<Core>
@@ -72,7 +72,7 @@ fn quotation(alloc: Global, form: &Syn) -> Result<Core, Memory>
     })
 }
 
-fn next_code(alloc: Global, form: &Syn, codes: &mut Codes) -> Result<Core, Memory>
+fn next_code(alloc: Global, form: &Syn, codes: &mut PartCodes) -> Result<Core, Memory>
     ensures { IfOk result (λ c. (c, codes.new) ≡ next_code form.now codes.old) }
 {
     match codes.next() {
@@ -84,7 +84,7 @@ fn next_code(alloc: Global, form: &Syn, codes: &mut Codes) -> Result<Core, Memor
 /// The code of a plan, in which the expressions have these codes, in order.
 #[cycle(filled)]
 #[tactic(auto, using(crate::proofs::Walks::call_filled))]
-fn filled(alloc: Global, quasi: &Quasi, codes: &mut Codes) -> Result<Core, Memory>
+fn filled(alloc: Global, quasi: &Quasi, codes: &mut PartCodes) -> Result<Core, Memory>
     ensures { IfOk result (λ c. (c, codes.new) ≡ filled quasi.now codes.old) }
 {
     match &quasi.node {
@@ -99,7 +99,7 @@ fn filled(alloc: Global, quasi: &Quasi, codes: &mut Codes) -> Result<Core, Memor
 
 #[cycle(filled)]
 #[tactic(auto, using(crate::proofs::Walks::filled_on))]
-fn all_filled(alloc: Global, parts: &[Quasi], codes: &mut Codes) -> Result<Vec<Core>, Memory>
+fn all_filled(alloc: Global, parts: &[Quasi], codes: &mut PartCodes) -> Result<Vec<Core>, Memory>
     ensures { IfOk result (λ cs. (cs.items, codes.new) ≡ all_filled [] (quasis parts.now) codes.old) }
 {
     let mut done = Vec::new(alloc);
@@ -115,6 +115,6 @@ fn all_filled(alloc: Global, parts: &[Quasi], codes: &mut Codes) -> Result<Vec<C
 pub(crate) fn plan_code(alloc: Global, quasi: &Quasi, codes: Vec<Core>) -> Result<Core, Memory>
     ensures { IfOk result (λ c. c ≡ (filled quasi.now codes.items).0) }
 {
-    let mut codes = Codes::new(codes);
+    let mut codes = PartCodes::new(codes);
     filled(alloc, quasi, &mut codes)
 }

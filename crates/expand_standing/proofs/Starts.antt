@@ -4,7 +4,7 @@ use Rattle.stx_frames.specs.Given as of_frames
 use Rattle.stx_frames.specs.Needed as of_scopes
 use Rattle.stx_frames.specs.Scope.{Scope, adopted}
 use Rattle.core_language.specs.declared.record.CompiledLibrary.{CompiledLibrary}
-use Rattle.core_known.specs.Known.{Bound, Parts, flat}
+use Rattle.core_known.specs.Known.{LabelBindings, Parts, flat}
 use Rattle.core_known.specs.Needed.{needed_parts}
 use Rattle.expand_standing.specs.Ready.{frames_part, bindings_part, needed_records}
 use Rattle.expand_standing.specs.Start.{bindings_of, rows_of}
@@ -33,7 +33,7 @@ bindings-needed (m ∷ ms) (r ∷ rs) = by m (bindings-needed ms rs)
 
 pub bindings-flat : (rs : List CompiledLibrary) → flat (map bindings_part rs) ≡ bindings_of rs
 bindings-flat [] = refl
-bindings-flat (r ∷ rs) = ap (λ (bs : Bound). r.bindings ++ bs) (bindings-flat rs)
+bindings-flat (r ∷ rs) = ap (λ (bs : LabelBindings). r.bindings ++ bs) (bindings-flat rs)
 
 -- frames of records, each apart from those before it, are those that adopting all their rows gives
 pub frames-flat : (fs : Scope) (rs : List CompiledLibrary) → of_scopes.AreApart fs (map frames_part rs) → fs ++ of_frames.flat (map frames_part rs) ≡ adopted fs (rows_of rs)

@@ -20,7 +20,7 @@ use Rattle.eval_value.specs.declared.value.Value.{Value}
 use Rattle.eval_value.specs.declared.value.Value.TheVariants as value
 use Rattle.eval_value.specs.declared.cell.Cell.{Cell}
 use Rattle.eval_pattern.specs.declared.columns.PatternBinds.{PatternBinds}
-use Rattle.eval_prims.specs.Answers.{Answer}
+use Rattle.eval_prims.specs.Answers.{PrimAnswer}
 use Rattle.eval_prims.specs.Chains.{list_elements}
 use Rattle.eval_prims.specs.Cost.{cost}
 use Rattle.eval_prims.specs.Delta.{delta}
@@ -31,7 +31,7 @@ use Rattle.eval_code.specs.Lines.{lines_from}
 use Rattle.eval_code.specs.Procedures.{first_case, has_text, text_number, text_body, truth_of}
 use Rattle.eval_code.specs.Quoted.{datum_cost}
 use Rattle.eval_code.specs.Setting.{PlainSetting}
-use Rattle.eval_code.specs.Spread.{Call, apply_args, parted, before_last, with_elements, with_front, on_parts, spread_once, spread_on, spread_to, spread}
+use Rattle.eval_code.specs.Spread.{CallBy, apply_args, parted, before_last, with_elements, with_front, on_parts, spread_once, spread_on, spread_to, spread}
 use Rattle.eval_code.specs.State.{WorldState, Outcome, done, faulted, unfit, Go, then_do, charged, made, store, next_place}
 use Rattle.eval_code.specs.Variables.{found, assigned, all_assigned}
 use Rattle.eval_code.specs.Meaning.{PlainLetrec, Evaluator, answer_made, primitive_called, variable_read, variable_value, quoted_value, by_case, by_code, procedure_called, text_value_called, by_text, op_called, value_called, first_called, applied, operands, in_sequence, one_arm, two_arms, in_turn, at_once, by_letrec, fender_passed, output_given, fender_asked, on_match, tried, expressed, evaluates, eval_of}
@@ -173,7 +173,7 @@ module _ (b : ℕ) where
   abbrev GoesMore : Go → Type 0
   GoesMore g = (v : Value) (s : WorldState) (n : ℕ) → n ≤ b → Carried b (g v s n) (λ k. g v s (n + k))
 
-  abbrev CallsMore : Call → Type 0
+  abbrev CallsMore : CallBy → Type 0
   CallsMore g = (vs : List Value) (n : ℕ) → n ≤ b → Carried b (g vs n) (λ k. g vs (n + k))
 
   here-done : (v : Value) (s : WorldState) (n : ℕ) → n ≤ b → Carried b (done v s n) (λ k. done v s (n + k))
@@ -236,11 +236,11 @@ module _ (b : ℕ) where
 
   -- What evaluates nothing.
 
-  carried-answer : (s : WorldState) (n : ℕ) (a : Answer) → Others a → n ≤ b → Carried b (answer_made s n a) (λ k. answer_made s (n + k) a)
+  carried-answer : (s : WorldState) (n : ℕ) (a : PrimAnswer) → Others a → n ≤ b → Carried b (answer_made s n a) (λ k. answer_made s (n + k) a)
   carried-answer s n (Ok m) other le = record { carries = λ k. refl; within = le }
   carried-answer s n (Err f) other le = here-fault f other s n le
 
-  answer-falls : (s : WorldState) (m : ℕ) (a : Answer) → Within m (answer_made s m a)
+  answer-falls : (s : WorldState) (m : ℕ) (a : PrimAnswer) → Within m (answer_made s m a)
   answer-falls s m (Ok x) = omega arith
   answer-falls s m (Err f) = omega arith
 
@@ -288,7 +288,7 @@ module _ (b : ℕ) where
 
   -- `apply`: each time the fuel and the number of values together fall, so the turns are enough on both sides.
 
-  module _ (s : WorldState) (g : Call) (calls : CallsMore g) (falls : (m : ℕ) → AlikeCalls m g g) where
+  module _ (s : WorldState) (g : CallBy) (calls : CallsMore g) (falls : (m : ℕ) → AlikeCalls m g g) where
     -- so many turns are enough, with each amount of fuel
     abbrev Enough : ℕ → (ℕ → ℕ) → Type 0
     Enough t u = (vs : List Value) (n : ℕ) → n ≤ b → n + length vs < t → ((k : ℕ) → n + k + length vs < u k) → Carried b (spread_to t s g vs n) (λ k. spread_to (u k) s g vs (n + k))

@@ -26,7 +26,7 @@ use Rattle.eval_value.specs.declared.cell.Cell.TheVariants as cell
 use Rattle.eval_value.proofs.Stored.{keeps_refl, keeps_then, keeps_added, stored_keeps, pairs_keep}
 use Rattle.eval_pattern.specs.declared.columns.PatternBinds.{PatternBinds}
 use Rattle.eval_prims.specs.Copied.{datum_in}
-use Rattle.eval_prims.specs.Answers.{Answer}
+use Rattle.eval_prims.specs.Answers.{PrimAnswer}
 use Rattle.eval_prims.specs.Chains.{list_elements}
 use Rattle.eval_prims.specs.Cost.{cost}
 use Rattle.eval_prims.specs.Delta.{delta}
@@ -44,7 +44,7 @@ use Rattle.eval_code.specs.Instances.{Binds, match_of, instance_of, cost_of, ins
 use Rattle.eval_code.specs.Procedures.{first_case, bindings, has_text, text_number, text_body, truth_of}
 use Rattle.eval_code.specs.Quoted.{datum_cost}
 use Rattle.eval_code.specs.Setting.{PlainSetting}
-use Rattle.eval_code.specs.Spread.{Call, apply_args, parted, with_elements, with_front, on_parts, spread_once, spread_on, spread_to, spread}
+use Rattle.eval_code.specs.Spread.{CallBy, apply_args, parted, with_elements, with_front, on_parts, spread_once, spread_on, spread_to, spread}
 use Rattle.eval_code.specs.State.{WorldState, Outcome, done, faulted, unfit, Go, then_do, charged, made, store, next_place, with_cell}
 use Rattle.eval_code.specs.Variables.{found, unset, cell_with, assigned_in, assigned, all_assigned}
 use Rattle.eval_code.specs.Meaning.{Evaluator, answer_made, primitive_called, variable_read, variable_value, quoted_value, by_case, by_code, procedure_called, text_value_called, by_text, op_called, value_called, first_called, applied, operands, in_sequence, one_arm, two_arms, in_turn, at_once, by_letrec, fender_passed, output_given, fender_asked, on_match, tried, expressed, unrolled, evaluates, eval_of}
@@ -175,7 +175,7 @@ keeps-instanced : (t : PlainTemplate) (scope : Place) (s : WorldState) (n : ℕ)
 unfolding instanced
 keeps-instanced t scope s n = keeps-instance_with t s n (gathered s.cells scope t [])
 
-keeps-answer : (s : WorldState) (n : ℕ) (a : Answer) → EndsLater s (answer_made s n a)
+keeps-answer : (s : WorldState) (n : ℕ) (a : PrimAnswer) → EndsLater s (answer_made s n a)
 keeps-answer s n (Ok m) = record { cells = performed_keeps m s.names s.cells; library = refl; names = omega arith }
 keeps-answer s n (Err f) = later_refl s
 
@@ -229,7 +229,7 @@ bindings_keep (Some l) ls vs cells = pairs_keep (drop (length ls) vs) (value.Ato
 
 -- Calls.
 
-module _ (s : WorldState) (g : Call) (keeps : (vs : List Value) (n : ℕ) → EndsLater s (g vs n)) where
+module _ (s : WorldState) (g : CallBy) (keeps : (vs : List Value) (n : ℕ) → EndsLater s (g vs n)) where
   keeps-elements : (front : List Value) (n : ℕ) (o : Option (List Value)) → EndsLater s (with_elements front s g n o)
   keeps-elements front n None = later_refl s
   keeps-elements front n (Some xs) = keeps-charged s s (length xs) n (g (front ++ xs)) (later_refl s) (keeps (front ++ xs))
@@ -246,7 +246,7 @@ module _ (s : WorldState) (g : Call) (keeps : (vs : List Value) (n : ℕ) → En
   unfolding spread_once
   keeps-once args n = keeps-parts n (parted args)
 
-module _ (s : WorldState) (g : Call) (keeps : (vs : List Value) (n : ℕ) → EndsLater s (g vs n)) where
+module _ (s : WorldState) (g : CallBy) (keeps : (vs : List Value) (n : ℕ) → EndsLater s (g vs n)) where
   keeps-to : (turns : ℕ) (vs : List Value) (n : ℕ) → EndsLater s (spread_to turns s g vs n)
   keeps-to zero vs n = tt
   keeps-to (suc turns) vs n = by_args (keeps-to turns) (apply_args vs)

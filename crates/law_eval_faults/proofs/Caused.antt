@@ -26,7 +26,7 @@ use Rattle.eval_value.specs.declared.value.Value.TheVariants as value
 use Rattle.eval_value.specs.declared.cell.Cell.{Cell}
 use Rattle.eval_value.specs.declared.cell.Cell.TheVariants as cell
 use Rattle.eval_pattern.specs.declared.columns.PatternBinds.{PatternBinds}
-use Rattle.eval_prims.specs.Answers.{Answer}
+use Rattle.eval_prims.specs.Answers.{PrimAnswer}
 use Rattle.eval_prims.specs.Chains.{list_elements}
 use Rattle.eval_prims.specs.Cost.{cost}
 use Rattle.eval_prims.specs.Delta.{delta}
@@ -40,7 +40,7 @@ use Rattle.eval_code.specs.Meaning.{PlainLetrec, Evaluator, answer_made, primiti
 use Rattle.eval_code.specs.Procedures.{takes_so_many, takes, first_case, has_text, text_number, text_body, truth_of}
 use Rattle.eval_code.specs.Quoted.{datum_cost}
 use Rattle.eval_code.specs.Setting.{PlainSetting}
-use Rattle.eval_code.specs.Spread.{Call, apply_args, before_last, parted, with_elements, with_front, on_parts, spread_once, spread_on, spread_to, spread}
+use Rattle.eval_code.specs.Spread.{CallBy, apply_args, before_last, parted, with_elements, with_front, on_parts, spread_once, spread_on, spread_to, spread}
 use Rattle.eval_code.specs.State.{WorldState, Outcome, done, faulted, unfit, Go, then_do, charged, made, store, next_place}
 use Rattle.eval_code.specs.Trying.{clause_before}
 use Rattle.eval_code.specs.Variables.{Entries, entry_in, here_or_up, found, assigned}
@@ -194,7 +194,7 @@ module _ (w : PlainSetting) where
   unfolding instanced
   told-instanced t scope s n = told-with t s n (gathered s.cells scope t [])
 
-  told-answer : (op : ℕ) (args : List Value) (s : WorldState) (n : ℕ) (a : Answer) → delta op args s.cells w.frames ≡ a → Told (answer_made s n a)
+  told-answer : (op : ℕ) (args : List Value) (s : WorldState) (n : ℕ) (a : PrimAnswer) → delta op args s.cells w.frames ≡ a → Told (answer_made s n a)
   told-answer op args s n (Ok m) e = tt
   told-answer op args s n (Err f) e = c.refused (refusals-are-told.only op args s.cells w.frames f e)
 
@@ -218,7 +218,7 @@ module _ (w : PlainSetting) where
 
   -- Calls.
 
-  module _ (s : WorldState) (g : Call) (told : (vs : List Value) (n : ℕ) → Told (g vs n)) where
+  module _ (s : WorldState) (g : CallBy) (told : (vs : List Value) (n : ℕ) → Told (g vs n)) where
     told-elements : (x : Value) (front : List Value) (last : Value) (n : ℕ) (o : Option (List Value)) → list_elements s.cells last ≡ o → Told (with_elements (x ∷ front) s g n o)
     told-elements x front last n None e = c.bad_apply (c.on_no_list {x = x} front last e)
     told-elements x front last n (Some xs) e = told-charged s (length xs) n (g (x ∷ front ++ xs)) (told (x ∷ front ++ xs))
@@ -235,7 +235,7 @@ module _ (w : PlainSetting) where
     unfolding spread_once
     told-once args n = told-parts n (parted args)
 
-  module _ (s : WorldState) (g : Call) (told : (vs : List Value) (n : ℕ) → Told (g vs n)) where
+  module _ (s : WorldState) (g : CallBy) (told : (vs : List Value) (n : ℕ) → Told (g vs n)) where
     told-to : (turns : ℕ) (vs : List Value) (n : ℕ) → Told (spread_to turns s g vs n)
     told-to zero vs n = tt
     told-to (suc turns) vs n = by_args (told-to turns) (apply_args vs)

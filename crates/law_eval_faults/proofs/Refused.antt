@@ -13,7 +13,7 @@ use Rattle.eval_value.specs.Cells.{vector_at, string_at}
 use Rattle.eval_value.specs.declared.cell.Cell.{Cell}
 use Rattle.eval_value.specs.declared.value.Value.{Value}
 use Rattle.eval_value.specs.declared.value.Value.TheVariants as value
-use Rattle.eval_prims.specs.Answers.{Answer, refused, wrong_count, no_primitive, or_refused}
+use Rattle.eval_prims.specs.Answers.{PrimAnswer, refused, wrong_count, no_primitive, or_refused}
 use Rattle.eval_prims.specs.Basics.{basic_made}
 use Rattle.eval_prims.specs.Chains.{chain}
 use Rattle.eval_prims.specs.Characters.{character_made}
@@ -93,7 +93,7 @@ deep-grown (suc n) id cells x = deep-level (grown_to n id cells) (deep-grown n i
 -- Rows.
 
 module _ (op row : ℕ) (args : List Value) (cells : List Cell) where
-  abbrev Of : Answer → Type 0
+  abbrev Of : PrimAnswer → Type 0
   Of (Ok m) = Unit {0}
   Of (Err f) = IsOfRow op row args cells f
 
@@ -101,11 +101,11 @@ module _ (op row : ℕ) (args : List Value) (cells : List Cell) where
   of-made None = r.refuses
   of-made (Some m) = tt
 
-  of-if : (b : Bool) (x y : Answer) → Of x → Of y → Of (if b then x else y)
+  of-if : (b : Bool) (x y : PrimAnswer) → Of x → Of y → Of (if b then x else y)
   of-if true x y h k = h
   of-if false x y h k = k
 
-  of-test : (b : Bool) (x y : Answer) → (b ≡ true → Of x) → Of y → Of (if b then x else y)
+  of-test : (b : Bool) (x y : PrimAnswer) → (b ≡ true → Of x) → Of y → Of (if b then x else y)
   of-test true x y h k = h refl
   of-test false x y h k = k
 
@@ -237,7 +237,7 @@ module _ (op : ℕ) (args : List Value) (cells : List Cell) (frames : Scope) whe
   only-by None e f h = subst (λ g. IsRefusedCall op args cells frames g) (let k : no_primitive op ≡ f = cc in k) (r.no_primitive e)
   only-by (Some p) e f h = by (takes p (length args)) refl h
     where
-      by-row : takes p (length args) ≡ true → (q : Answer) → row_answer p.row op args cells frames ≡ q → Of op p.row args cells q → q ≡ Err f → IsRefusedCall op args cells frames f
+      by-row : takes p (length args) ≡ true → (q : PrimAnswer) → row_answer p.row op args cells frames ≡ q → Of op p.row args cells q → q ≡ Err f → IsRefusedCall op args cells frames f
       by-row t (Ok m) same of is = absurd (cc)
       by-row t (Err g) same of is = let g-is : g ≡ f = cc in r.wrong_arguments e (takes-so-many p (length args) t) (same ∙ is) (subst (λ x. IsOfRow op p.row args cells x) g-is of)
 

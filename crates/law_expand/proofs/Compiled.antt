@@ -17,7 +17,7 @@ use Rattle.core_language.specs.declared.core_form.CoreForm.TheVariants as form
 use Rattle.law_core.specs.Parts.{literals, all_literals}
 use Rattle.law_core.specs.Templates.{Depths, depths, all_depths}
 use Rattle.law_core.specs.WellMade.{IsLeaf}
-use Rattle.eval_pattern.specs.Compile.{PatternScope, Taken, Element, Walked, is_known, is_literal, named, new_variable, leaf_pattern, no_parts, with_part, dots_of, parts_of, with_repeated, next_ellipsis, repeated_part, element, step, walked, list_with, vector_with, pattern, element_patterns, tail_pattern, literals_checked, with_variables, compiled}
+use Rattle.eval_pattern.specs.Compile.{PatternScope, TakenVariables, ElementPattern, WalkedPatterns, is_known, is_literal, named, new_variable, leaf_pattern, no_parts, with_part, dots_of, parts_of, with_repeated, next_ellipsis, repeated_part, element, step, walked, list_with, vector_with, pattern, element_patterns, tail_pattern, literals_checked, with_variables, compiled}
 use Rattle.eval_pattern.specs.Keywords.{is_form}
 use Rattle.eval_pattern.specs.declared.compile.Compiled.{Compiled}
 use Rattle.eval_pattern.specs.declared.compile.PatternVariable.{PatternVariable}
@@ -37,7 +37,7 @@ abbrev pub variable_depth : PatternVariable → Label × ℕ
 variable_depth v = (v.label, v.depth)
 
 -- what was taken with some labels, their depths, and literals
-pub record Takes (own : LibName) (s : Taken) (ds : Depths) (ls : List Label) (ts : List Tree) (u : Taken) : Type 0 where
+pub record Takes (own : LibName) (s : TakenVariables) (ds : Depths) (ls : List Label) (ts : List Tree) (u : TakenVariables) : Type 0 where
   pub news : List PatternVariable
   pub is : u.0 ≡ s.0 ++ news
   pub library : u.1.library ≡ own
@@ -96,10 +96,10 @@ module _ {X : Type 0} (h d : PlainPattern → List X) (H : PlainPatterns → Lis
       ∙ ap (λ o. H (patterns_on parts.before (dots_of o parts.after)) ++ d p) (sym e)
 
 module _ (own : LibName) where
-  pub takes-none : (s : Taken) → s.1.library ≡ own → Takes own s [] [] [] s
+  pub takes-none : (s : TakenVariables) → s.1.library ≡ own → Takes own s [] [] [] s
   takes-none s n = record { news = []; is = sym (append-nil s.0); library = n; up = omega arith; fresh = fresh-none label_name own s.1.number s.1.number; depths = refl; labels = refl; leaves = tt }
 
-  pub takes-then : (s t u : Taken) (ds es : Depths) (ls ms : List Label) (xs ys : List Tree) → Takes own s ds ls xs t → Takes own t es ms ys u → Takes own s (ds ++ es) (ls ++ ms) (xs ++ ys) u
+  pub takes-then : (s t u : TakenVariables) (ds es : Depths) (ls ms : List Label) (xs ys : List Tree) → Takes own s ds ls xs t → Takes own t es ms ys u → Takes own s (ds ++ es) (ls ++ ms) (xs ++ ys) u
   takes-then s t u ds es ls ms xs ys h k = record {
     news = h.news ++ k.news;
     is = k.is ∙ ap (λ zs. zs ++ k.news) h.is ∙ append_assoc s.0 h.news k.news;
@@ -111,27 +111,27 @@ module _ (own : LibName) where
     leaves = each-append IsLeaf xs ys h.leaves k.leaves;
   }
 
-  takes-by : (s u : Taken) (ds es : Depths) (ls ms : List Label) (xs ys : List Tree) → es ≡ ds → ms ≡ ls → ys ≡ xs → Takes own s ds ls xs u → Takes own s es ms ys u
+  takes-by : (s u : TakenVariables) (ds es : Depths) (ls ms : List Label) (xs ys : List Tree) → es ≡ ds → ms ≡ ls → ys ≡ xs → Takes own s ds ls xs u → Takes own s es ms ys u
   takes-by s u ds es ls ms xs ys d l x h = record { news = h.news; is = h.is; library = h.library; up = h.up; fresh = h.fresh; depths = d ∙ h.depths; labels = l ∙ h.labels; leaves = subst (Each IsLeaf) (sym x) h.leaves }
 
-  abbrev pub IsOf : ℕ → Taken → PlainPattern → Taken → Type 0
+  abbrev pub IsOf : ℕ → TakenVariables → PlainPattern → TakenVariables → Type 0
   IsOf depth s p u = Takes own s (depths depth p) (variables p) (literals p) u
 
-  pub record HasParts (depth : ℕ) (s : Taken) (parts : PatternParts) (u : Taken) : Type 0 where
+  pub record HasParts (depth : ℕ) (s : TakenVariables) (parts : PatternParts) (u : TakenVariables) : Type 0 where
     pub takes : Takes own s (all_depths depth (parts_of parts)) (all_variables (parts_of parts)) (all_literals (parts_of parts)) u
     pub alone : parts.repeated ≡ None → parts.after ≡ []
 
-  abbrev PartsGiven : ℕ → Taken → Walked → Taken → Type 0
+  abbrev PartsGiven : ℕ → TakenVariables → WalkedPatterns → TakenVariables → Type 0
   PartsGiven depth start w v = HasParts depth start w.1 v
 
-  abbrev IsElement : Element → Type 0
-  IsElement x = (depth : ℕ) (s : Taken) → s.1.library ≡ own → GaveBy (IsOf depth s) (x.1 depth s)
+  abbrev IsElement : ElementPattern → Type 0
+  IsElement x = (depth : ℕ) (s : TakenVariables) → s.1.library ≡ own → GaveBy (IsOf depth s) (x.1 depth s)
 
-  parts-none : (depth : ℕ) (s : Taken) → s.1.library ≡ own → HasParts depth s no_parts s
+  parts-none : (depth : ℕ) (s : TakenVariables) → s.1.library ≡ own → HasParts depth s no_parts s
   parts-none depth s n = record { takes = takes-none s n; alone = λ e. refl }
 
   module _ (c : PatternScope) where
-    variable-takes : (t : Tree) (depth : ℕ) (s : Taken) → s.1.library ≡ own → GaveBy (IsOf depth s) (new_variable c.place t depth s)
+    variable-takes : (t : Tree) (depth : ℕ) (s : TakenVariables) → s.1.library ≡ own → GaveBy (IsOf depth s) (new_variable c.place t depth s)
     variable-takes t depth s n = by-if (IsOf depth s) (is_known s.0 t) _ _ tt (record {
       news = named s.1 t depth ∷ [];
       is = refl;
@@ -143,7 +143,7 @@ module _ (own : LibName) where
       leaves = tt;
     })
 
-    leaf-takes : (t : Tree) (depth : ℕ) (s : Taken) → IsLeaf t → s.1.library ≡ own → GaveBy (IsOf depth s) (leaf_pattern c t depth s)
+    leaf-takes : (t : Tree) (depth : ℕ) (s : TakenVariables) → IsLeaf t → s.1.library ≡ own → GaveBy (IsOf depth s) (leaf_pattern c t depth s)
     leaf-takes t depth s leaf n =
         by-if (IsOf depth s) (is_form form.Ellipsis (stands c.frames t)) _ _ tt
         (by-if (IsOf depth s) (is_form form.Underscore (stands c.frames t)) _ _ (takes-none s n)
@@ -153,7 +153,7 @@ module _ (own : LibName) where
 
     -- Elements.
 
-    part-takes : (depth : ℕ) (start : Taken) (parts : PatternParts) (s : Taken) (p : PlainPattern) (u : Taken) → HasParts depth start parts s → IsOf depth s p u → HasParts depth start (with_part parts.repeated parts p) u
+    part-takes : (depth : ℕ) (start : TakenVariables) (parts : PatternParts) (s : TakenVariables) (p : PlainPattern) (u : TakenVariables) → HasParts depth start parts s → IsOf depth s p u → HasParts depth start (with_part parts.repeated parts p) u
     part-takes depth start parts s p u h k = record {
       takes = takes-by start u (all_depths depth (parts_of parts) ++ depths depth p) (all_depths depth (parts_of q)) (all_variables (parts_of parts) ++ variables p) (all_variables (parts_of q)) (all_literals (parts_of parts) ++ literals p) (all_literals (parts_of q))
           (part-more (depths depth) (depths (suc depth)) (all_depths depth) refl (λ x y. refl) (λ x y. refl) parts p h.alone)
@@ -170,7 +170,7 @@ module _ (own : LibName) where
         by None is a e = a e
         by (Some r) is a e = absurd (cc)
 
-    repeated-takes : (depth : ℕ) (start : Taken) (parts : PatternParts) (s : Taken) (e : Tree) (p : PlainPattern) (u : Taken) → HasParts depth start parts s → IsOf (suc depth) s p u
+    repeated-takes : (depth : ℕ) (start : TakenVariables) (parts : PatternParts) (s : TakenVariables) (e : Tree) (p : PlainPattern) (u : TakenVariables) → HasParts depth start parts s → IsOf (suc depth) s p u
         → GaveBy (PartsGiven depth start) (repeated_part c.place e parts p u)
     repeated-takes depth start parts s e p u h k = by parts.repeated refl
       where
@@ -188,7 +188,7 @@ module _ (own : LibName) where
           alone = λ bad. absurd (cc);
         }
 
-    element-takes : (depth : ℕ) (x : Element) (e : Option Tree) (start : Taken) (parts : PatternParts) (s : Taken) → IsElement x → HasParts depth start parts s → GaveBy (PartsGiven depth start) (element c depth x e parts s)
+    element-takes : (depth : ℕ) (x : ElementPattern) (e : Option Tree) (start : TakenVariables) (parts : PatternParts) (s : TakenVariables) → IsElement x → HasParts depth start parts s → GaveBy (PartsGiven depth start) (element c depth x e parts s)
     element-takes depth x None start parts s one h =
         by-after (IsOf depth s) (PartsGiven depth start) (x.1 depth s) (λ p s. Ok ((false, with_part parts.repeated parts p), s)) (one depth s h.takes.library) (λ p u k. part-takes depth start parts s p u h k)
     element-takes depth x (Some e) start parts s one h =
@@ -196,21 +196,21 @@ module _ (own : LibName) where
         (let is : depth + 1 ≡ suc depth = omega arith in subst (λ n. GaveBy (IsOf n s) (x.1 (depth + 1) s)) is (one (depth + 1) s h.takes.library))
         (λ p u k. repeated-takes depth start parts s e p u h k)
 
-    step-takes : (depth : ℕ) (skips : Bool) (x : Element) (e : Option Tree) (start : Taken) (parts : PatternParts) (s : Taken) → IsElement x → HasParts depth start parts s → GaveBy (PartsGiven depth start) (step c depth skips x e parts s)
+    step-takes : (depth : ℕ) (skips : Bool) (x : ElementPattern) (e : Option Tree) (start : TakenVariables) (parts : PatternParts) (s : TakenVariables) → IsElement x → HasParts depth start parts s → GaveBy (PartsGiven depth start) (step c depth skips x e parts s)
     step-takes depth true x e start parts s one h = h
     step-takes depth false x e start parts s one h = element-takes depth x e start parts s one h
 
-    walked-takes : (depth : ℕ) (skips : Bool) (start : Taken) (parts : PatternParts) (xs : List Element) (s : Taken) → Each IsElement xs → HasParts depth start parts s → GaveBy (HasParts depth start) (walked c depth skips parts xs s)
+    walked-takes : (depth : ℕ) (skips : Bool) (start : TakenVariables) (parts : PatternParts) (xs : List ElementPattern) (s : TakenVariables) → Each IsElement xs → HasParts depth start parts s → GaveBy (HasParts depth start) (walked c depth skips parts xs s)
     walked-takes depth skips start parts [] s all h = h
     walked-takes depth skips start parts (x ∷ xs) s all h =
         by-after (PartsGiven depth start) (HasParts depth start) (step c depth skips x (next_ellipsis c.frames xs) parts s) (λ w. walked c depth w.0 w.1 xs) (step-takes depth skips x (next_ellipsis c.frames xs) start parts s all.0 h)
         (λ w v k. walked-takes depth w.0 start w.1 xs v all.1 k)
 
-    vector-takes : (depth : ℕ) (xs : List Element) (s : Taken) → Each IsElement xs → s.1.library ≡ own → GaveBy (IsOf depth s) (vector_with (walked c depth false no_parts xs) s)
+    vector-takes : (depth : ℕ) (xs : List ElementPattern) (s : TakenVariables) → Each IsElement xs → s.1.library ≡ own → GaveBy (IsOf depth s) (vector_with (walked c depth false no_parts xs) s)
     vector-takes depth xs s all n =
         by-after (HasParts depth s) (IsOf depth s) (walked c depth false no_parts xs s) (λ parts s. Ok (vector (parts_of parts), s)) (walked-takes depth false s no_parts xs s all (parts-none depth s n)) (λ parts u k. k.takes)
 
-    list-takes : (depth : ℕ) (xs : List Element) (tail : Taken → Result (PlainPattern × Taken) Fault) (s : Taken) → Each IsElement xs → ((u : Taken) → u.1.library ≡ own → GaveBy (IsOf depth u) (tail u)) → s.1.library ≡ own
+    list-takes : (depth : ℕ) (xs : List ElementPattern) (tail : TakenVariables → Result (PlainPattern × TakenVariables) Fault) (s : TakenVariables) → Each IsElement xs → ((u : TakenVariables) → u.1.library ≡ own → GaveBy (IsOf depth u) (tail u)) → s.1.library ≡ own
         → GaveBy (IsOf depth s) (list_with (walked c depth false no_parts xs) tail s)
     list-takes depth xs tail s all last n =
         by-after (HasParts depth s) (IsOf depth s) (walked c depth false no_parts xs s) (λ parts s. after (tail s) (λ p s. Ok (list (parts_of parts) p, s))) (walked-takes depth false s no_parts xs s all (parts-none depth s n))
@@ -218,7 +218,7 @@ module _ (own : LibName) where
         (λ p v j. takes-then s u v (all_depths depth (parts_of parts)) (depths depth p) (all_variables (parts_of parts)) (variables p) (all_literals (parts_of parts)) (literals p) k.takes j))
 
     mutual
-      pattern-takes : (t : Tree) (depth : ℕ) (s : Taken) → s.1.library ≡ own → GaveBy (IsOf depth s) (pattern c t depth s)
+      pattern-takes : (t : Tree) (depth : ℕ) (s : TakenVariables) → s.1.library ≡ own → GaveBy (IsOf depth s) (pattern c t depth s)
       pattern-takes (tree.atom r a) depth s n = takes-none s n
       pattern-takes (tree.leaf r x k) depth s n = leaf-takes (tree.leaf r x k) depth s tt n
       pattern-takes (tree.pair r a d) depth s n =
@@ -231,7 +231,7 @@ module _ (own : LibName) where
       elements-take (tree.pair r a d) = ((λ e u m. pattern-takes a e u m), elements-take d)
       elements-take (tree.vector r d) = tt
 
-      tail-takes : (t : Tree) (depth : ℕ) (s : Taken) → s.1.library ≡ own → GaveBy (IsOf depth s) (tail_pattern c t depth s)
+      tail-takes : (t : Tree) (depth : ℕ) (s : TakenVariables) → s.1.library ≡ own → GaveBy (IsOf depth s) (tail_pattern c t depth s)
       tail-takes (tree.atom r a) depth s n = takes-none s n
       tail-takes (tree.leaf r x k) depth s n = leaf-takes (tree.leaf r x k) depth s tt n
       tail-takes (tree.pair r a d) depth s n = tail-takes d depth s n
@@ -249,7 +249,7 @@ pub record Compiles (own : LibName) (old : Named) (c : Compiled) (new : Named) :
 pub compiles : (own : LibName) (c : PatternScope) (t : Tree) (names : Named) → names.library ≡ own → GaveBy (Compiles own names) (compiled c t names)
 compiles own c t names n = checked (literals_checked c.frames c.place c.literals)
   where
-    of : (r : Result (PlainPattern × Taken) Fault) → GaveBy (IsOf own 0 ([], names)) r → GaveBy (Compiles own names) (with_variables r)
+    of : (r : Result (PlainPattern × TakenVariables) Fault) → GaveBy (IsOf own 0 ([], names)) r → GaveBy (Compiles own names) (with_variables r)
     of (Err e) h = tt
     of (Ok p) h = record {
       library = h.library;

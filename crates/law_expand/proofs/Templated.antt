@@ -22,7 +22,7 @@ use Rattle.law_core.specs.Templates.{Depths, HasDepth, ItemHasDepth, Suits, Item
 use Rattle.law_core.proofs.LabelLemmas.{label-there}
 use Rattle.core_shapes.specs.Lists.{is_nil, tail_of}
 use Rattle.expand_standing.specs.Patterns.{has_variables, has_item_variables}
-use Rattle.eval_template.specs.Compile.{TemplateScope, variable_made, bound_made, label_made, is_special, leaf_made, TemplateElement, dots_behind, reach, with_ellipses, fitted, item_made, Walked, step, walked, constant_of, template_of, items_of, reaches, is_fixed, rebuilt, placed, fixed_list, list_joined, fixed_vector, vector_joined, escape_of, unescaped, list_parts, list_made, vector_made, template, elements_made, tail_made, compiled}
+use Rattle.eval_template.specs.Compile.{TemplateScope, variable_made, bound_made, label_made, is_special, leaf_made, TemplateElement, dots_behind, reach, with_ellipses, fitted, item_made, WalkedItems, step, walked, constant_of, template_of, items_of, reaches, is_fixed, rebuilt, placed, fixed_list, list_joined, fixed_vector, vector_joined, escape_of, unescaped, list_parts, list_made, vector_made, template, elements_made, tail_made, compiled}
 use Rattle.eval_pattern.specs.Keywords.{is_ellipsis}
 use Rattle.law_expand.proofs.Compiled.{Given}
 
@@ -243,14 +243,14 @@ module _ (Is : Label → ℕ → Type 0) where
     abbrev AllFit : ℕ → List MadeItem → Type 0
     AllFit under is = Each (ItemFits under) is
 
-    step-fits : (escaped : Bool) (under skips : ℕ) (x : TemplateElement) (es : List Tree) (is : List MadeItem) → IsElement x → AllFit under is → IfGood (λ (w : Walked). AllFit under w.1) (step c escaped under skips x es is)
+    step-fits : (escaped : Bool) (under skips : ℕ) (x : TemplateElement) (es : List Tree) (is : List MadeItem) → IsElement x → AllFit under is → IfGood (λ (w : WalkedItems). AllFit under w.1) (step c escaped under skips x es is)
     step-fits escaped under (suc skips) x es is one h = h
-    step-fits escaped under zero x es is one h = good-then (ItemFits under) (λ (w : Walked). AllFit under w.1) (item_made c escaped under x es) (λ i. Ok (length es, is ++ i ∷ [])) (item-fits escaped under x es one) (λ i k. each-append (ItemFits under) is (i ∷ []) h (k, tt))
+    step-fits escaped under zero x es is one h = good-then (ItemFits under) (λ (w : WalkedItems). AllFit under w.1) (item_made c escaped under x es) (λ i. Ok (length es, is ++ i ∷ [])) (item-fits escaped under x es one) (λ i k. each-append (ItemFits under) is (i ∷ []) h (k, tt))
 
     walked-fits : (escaped : Bool) (under skips : ℕ) (is : List MadeItem) (xs : List TemplateElement) → Each IsElement xs → AllFit under is → IfGood (AllFit under) (walked c escaped under skips is xs)
     walked-fits escaped under skips is [] all h = h
     walked-fits escaped under skips is (x ∷ xs) all h =
-        good-then (λ (w : Walked). AllFit under w.1) (AllFit under) (step c escaped under skips x (dots_behind c.frames escaped xs) is) (λ w. walked c escaped under w.0 w.1 xs)
+        good-then (λ (w : WalkedItems). AllFit under w.1) (AllFit under) (step c escaped under skips x (dots_behind c.frames escaped xs) is) (λ w. walked c escaped under w.0 w.1 xs)
         (step-fits escaped under skips x (dots_behind c.frames escaped xs) is all.0 h) (λ w k. walked-fits escaped under w.0 w.1 xs all.1 k)
 
     parts-fit : (escaped : Bool) (t : Tree) (xs : List TemplateElement) (tail : Bool → ℕ → Result Made Fault) (under : ℕ) → Each IsElement xs → ((e : Bool) (n : ℕ) → IfGood (MadeFits n) (tail e n)) → IfGood (MadeFits under) (list_parts c escaped (record { form = t; elements = xs; tail = tail }) under)

@@ -12,7 +12,7 @@ use Rattle.core_language.specs.declared.core_form.CoreForm.{CoreForm}
 use Rattle.core_language.specs.declared.core_form.CoreForm.TheVariants as form
 use Rattle.core_shapes.specs.Lists.{is_leaf, proper_elements, if_some, all_of}
 use Rattle.core_records.specs.Clauses.{keyword_of, fixed_field, immutable_field, mutable_field, field_by, field_in, field_of, fields_clause, parent_clause, parent_rtd_clause, protocol_clause, only_truth, sealed_clause, opaque_clause, nongenerative_clause, clause_by, clause_in, clause_of, no_clauses, if_free, with_clause, or_bad, next_clause, all_clauses}
-use Rattle.core_records.specs.Definitions.{Row, rtd, rcd, type_word, constructor_word, definition, definition_by, mutability, field_entry, field_entries, or_no_fields, fields_part, type_in, parent_type, uid_in, uid_part, or_false, type_operator, type_made, type_value, constructor_in, parent_constructor, protocol_part, constructor_operator, constructor_made, constructor_value, keyword_clause, keyword_body, keyword_value, keyword_definition, constructor_definition, predicate_definition, place_in, accessor_operator, accessor_value, accessor_definition, mutator_operator, mutator_value, mutator_definition, with_mutator, with_field, with_fields, first_definitions, definitions}
+use Rattle.core_records.specs.Definitions.{FormRow, rtd, rcd, type_word, constructor_word, definition, definition_by, mutability, field_entry, field_entries, or_no_fields, fields_part, type_in, parent_type, uid_in, uid_part, or_false, type_operator, type_made, type_value, constructor_in, parent_constructor, protocol_part, constructor_operator, constructor_made, constructor_value, keyword_clause, keyword_body, keyword_value, keyword_definition, constructor_definition, predicate_definition, place_in, accessor_operator, accessor_value, accessor_definition, mutator_operator, mutator_value, mutator_definition, with_mutator, with_field, with_fields, first_definitions, definitions}
 use Rattle.core_records.specs.Forms.{at_form, only_id, descriptor_form, definitions_for, named_form, defining_form, record_forms}
 use Rattle.core_records.specs.Introduced.{core_stamp, introduced, plain, boolean, Made, list_made, list_of_two, list_of_three, vector_made, quoted}
 use Rattle.core_records.specs.Names.{like, made_names, given_names, names_of}
@@ -219,7 +219,7 @@ module _ (P : LeafContext → Type 0) (written : P blank) (by_records : P (recor
 
   -- Definitions.
 
-  abbrev RowGood : Row → Type 0
+  abbrev RowGood : FormRow → Type 0
   RowGood r = OkHolds Ts r
 
   definition-good : (id value : Tree) → T id → T value → Good (definition id value)

@@ -19,13 +19,13 @@ use Rattle.eval_code.specs.Procedures.{first_case, bindings, has_text, text_numb
 use Rattle.eval_code.specs.Setting.{PlainSetting}
 use Rattle.eval_code.specs.Spread.{apply_args, spread_on, spread_to, spread}
 use Rattle.eval_code.specs.State.{WorldState, done, store, next_place, with_cell}
-use Rattle.law_given.specs.Calls.{End, Ends, Gives, call_to, call_of, CallEnds, Calls}
+use Rattle.law_given.specs.Calls.{CallEnd, Ends, Gives, call_to, call_of, CallEnds, Calls}
 use Rattle.law_given.proofs.Giving.{gives-done, ends-same, gives-same, ends-then, gives-charged, Evaluates}
 
 module _ (w : PlainSetting) where
   -- Procedures that a `lambda` made.
 
-  pub closure-ends : (number : CodeNo) (parent : Place) (args : List Value) (s : WorldState) (r : End) (t : WorldState)
+  pub closure-ends : (number : CodeNo) (parent : Place) (args : List Value) (s : WorldState) (r : CallEnd) (t : WorldState)
       → Ends (procedure_called w (eval_of w) number parent args s) r t → CallEnds w (call_to (value.Closure number parent) args) s r t
   unfolding applied spread first_called
   closure-ends number parent args s r t h = ends-same (procedure_called w (eval_of w) number parent args s) (call_of w (call_to (value.Closure number parent) args) s) r t (λ n. refl) h
@@ -34,7 +34,7 @@ module _ (w : PlainSetting) where
       → Gives (procedure_called w (eval_of w) number parent args s) v t → Calls w (call_to (value.Closure number parent) args) s v t
   closure-called number parent args s v t h = closure-ends number parent args s (Ok v) t h
 
-  pub closure-ends-back : (number : CodeNo) (parent : Place) (args : List Value) (s : WorldState) (r : End) (t : WorldState)
+  pub closure-ends-back : (number : CodeNo) (parent : Place) (args : List Value) (s : WorldState) (r : CallEnd) (t : WorldState)
       → CallEnds w (call_to (value.Closure number parent) args) s r t → Ends (procedure_called w (eval_of w) number parent args s) r t
   unfolding applied spread first_called
   closure-ends-back number parent args s r t h = ends-same (call_of w (call_to (value.Closure number parent) args) s) (procedure_called w (eval_of w) number parent args s) r t (λ n. refl) h
@@ -44,7 +44,7 @@ module _ (w : PlainSetting) where
   closure-back number parent args s v t h = closure-ends-back number parent args s (Ok v) t h
 
   -- the body of the case that takes the arguments, in a new cell with these variables
-  pub case-ends : (number : CodeNo) (parent : Place) (args : List Value) (s : WorldState) (code : PlainCode) (f : Formals) (body : PlainCore) (r : End) (t : WorldState)
+  pub case-ends : (number : CodeNo) (parent : Place) (args : List Value) (s : WorldState) (code : PlainCode) (f : Formals) (body : PlainCore) (r : CallEnd) (t : WorldState)
       → code_at w.codes number ≡ Some code → first_case code.cases (length args) ≡ Some (f, body)
       → Ends (λ n. entered w (eval_of w) body parent s.names n (bindings f.rest f.required args s.cells)) r t
       → Ends (procedure_called w (eval_of w) number parent args s) r t
@@ -105,7 +105,7 @@ module _ (w : PlainSetting) where
 
   -- Procedures that are given as texts: the text gives a procedure, which is called.
 
-  pub text-ends : (op : Op) (args : List Value) (s t u : WorldState) (code : PlainCode) (body : PlainCore) (number : CodeNo) (parent : Place) (r : End)
+  pub text-ends : (op : Op) (args : List Value) (s t u : WorldState) (code : PlainCode) (body : PlainCore) (number : CodeNo) (parent : Place) (r : CallEnd)
       → nat_eq op.0 names.APPLY ≡ false → has_text op.0 ≡ true → code_at w.codes (text_number op.0) ≡ Some code → text_body (Some code) ≡ Some body
       → Evaluates w body (next_place s) (with_cell (cell.Scope [] None) s) (value.Closure number parent) t
       → Ends (procedure_called w (eval_of w) number parent args t) r u

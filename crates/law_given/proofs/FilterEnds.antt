@@ -16,7 +16,7 @@ use Rattle.eval_code.specs.Variables.{Entries}
 use Rattle.law_eval.specs.Kept.{LaterWorld}
 use Rattle.law_eval.proofs.Keeping.{later_then}
 use Rattle.law_lists.specs.Runs.{IsList}
-use Rattle.law_given.specs.Calls.{End, call_to, CallEnds, Calls}
+use Rattle.law_given.specs.Calls.{CallEnd, call_to, CallEnds, Calls}
 use Rattle.law_given.specs.Codes.{label, code_no, var, one_case, app, car, cdr, filter_some, filter_loop}
 use Rattle.law_given.specs.Given.{Filters, Faults}
 use Rattle.law_given.specs.InTurn.{stops_here, stops_behind, AfterValue, AllEnd, chosen}
@@ -57,7 +57,7 @@ module _ (w : PlainSetting) (known : code_at w.codes (code_no 61) ≡ Some (proc
     enter : LaterWorld s at
     enter = loop.entered-later w 61 60 63 64 filter_loop known p home names f l s round
 
-    with-null : (r : End) (t : WorldState) → ExpressionEnds w filter_some q at r t → CallEnds w (call_to g (f ∷ l ∷ [])) s r t
+    with-null : (r : CallEnd) (t : WorldState) → ExpressionEnds w filter_some q at r t → CallEnds w (call_to g (f ∷ l ∷ [])) s r t
     with-null r t h =
         loop.loop-ends w 61 60 63 64 filter_loop known p home names f l s round r t
         (false-ends w _ _ _ q at at t (truth false) r (loop.not-null w 61 60 63 64 filter_loop known p home names f l s round at (later-refl at) x d pair) refl h)
@@ -96,7 +96,7 @@ module _ (w : PlainSetting) (known : code_at w.codes (code_no 61) ≡ Some (proc
         by false e = false-ends w _ _ _ q at u rest.state y (Err rest.fault) test e again
 
     -- by the end of the call
-    ends-by : (r : End) (u : WorldState) → CallEnds w (call_to f (x ∷ [])) at r u → AfterValue r (AllEnd w f xs u)
+    ends-by : (r : CallEnd) (u : WorldState) → CallEnds w (call_to f (x ∷ [])) at r u → AfterValue r (AllEnd w f xs u)
         → ((v : WorldState) → LaterWorld s v → AllEnd w f xs v → Kept xs d v ⊎ Faulted xs d v) → Kept (x ∷ xs) l s ⊎ Faulted (x ∷ xs) l s
     ends-by (Ok y) u h a again = elim (again u (later_then s at u enter (calls-later w f (x ∷ []) at y u h)) a) [
       | inl m ↦ inl (some w known f p x l d xs s round pair y u h m)

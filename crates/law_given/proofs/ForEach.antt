@@ -19,7 +19,7 @@ use Rattle.eval_code.specs.Variables.{Entries}
 use Rattle.law_eval.specs.Kept.{LaterWorld}
 use Rattle.law_eval.proofs.Keeping.{later_then, later_with}
 use Rattle.law_lists.specs.Runs.{IsList}
-use Rattle.law_given.specs.Calls.{End, call_to, CallEnds, Calls}
+use Rattle.law_given.specs.Calls.{CallEnd, call_to, CallEnds, Calls}
 use Rattle.law_given.specs.Codes.{label, code_no, var, prim, formals, one_case, app, datum_at, text_code, for_each_body, for_each_text}
 use Rattle.law_given.specs.Given.{Maps, Mapped, Visits, Visited, Faults}
 use Rattle.law_given.specs.InTurn.{InTurn, AllGive, AllEnd}
@@ -63,7 +63,7 @@ module _ (w : PlainSetting) (knows : Knows w.codes) (f l : Value) (s : WorldStat
   abbrev q : Place
   q = next_place outside
 
-  body-ends : (r : End) (t : WorldState) → ExpressionEnds w for_each_body q inner r t → CallEnds w (call_to (value.Prim (record { 0 = names.FOR_EACH })) (f ∷ l ∷ [])) s r t
+  body-ends : (r : CallEnd) (t : WorldState) → ExpressionEnds w for_each_body q inner r t → CallEnds w (call_to (value.Prim (record { 0 = names.FOR_EACH })) (f ∷ l ∷ [])) s r t
   unfolding has_text
   body-ends r t h =
       text-ends w (record { 0 = names.FOR_EACH }) (f ∷ l ∷ []) s outside t (text_code names.FOR_EACH for_each_text) for_each_text (code_no 21) p r refl refl knows.for_each_text refl
@@ -77,7 +77,7 @@ module _ (w : PlainSetting) (knows : Knows w.codes) (f l : Value) (s : WorldStat
   behind = later_then s outside inner (later_with s (cell.Scope [] None)) (later_with outside (cell.Scope vars (Some p)))
 
   -- (apply map f l ls)
-  mapping : (r : End) (t : WorldState) → CallEnds w (call_to (value.Prim (record { 0 = names.MAP })) (f ∷ l ∷ [])) inner r t → ExpressionEnds w (app (prim names.APPLY) (prim names.MAP ∷ var 23 ∷ var 24 ∷ var 25 ∷ [])) q inner r t
+  mapping : (r : CallEnd) (t : WorldState) → CallEnds w (call_to (value.Prim (record { 0 = names.MAP })) (f ∷ l ∷ [])) inner r t → ExpressionEnds w (app (prim names.APPLY) (prim names.MAP ∷ var 23 ∷ var 24 ∷ var 25 ∷ [])) q inner r t
   mapping r t h =
       call-four-ends w (prim names.APPLY) (prim names.MAP) (var 23) (var 24) (var 25) q inner inner inner inner inner inner t
       (value.Prim (record { 0 = names.APPLY })) (value.Prim (record { 0 = names.MAP })) f l nil r

@@ -14,18 +14,18 @@ use Rattle.eval_code.specs.State.{WorldState, done, Go, then_do, charged}
 use Rattle.eval_code.proofs.Fuel.{eval_of_is}
 use Rattle.eval_code.proofs.Paid.{charged_paid}
 use Rattle.law_eval.specs.Runs.{ByFuel}
-use Rattle.law_given.specs.Calls.{End, ended, Ends, Gives, call_to, CallEnds, Calls}
+use Rattle.law_given.specs.Calls.{CallEnd, ended, Ends, Gives, call_to, CallEnds, Calls}
 
 pub gives-done : (v : Value) (s : WorldState) → Gives (λ n. done v s n) v s
 gives-done v s = (0, λ left. ap (λ n. done v s n) (omega arith))
 
-pub ends-same : (p q : ByFuel) (r : End) (t : WorldState) → ((n : ℕ) → q n ≡ p n) → Ends p r t → Ends q r t
+pub ends-same : (p q : ByFuel) (r : CallEnd) (t : WorldState) → ((n : ℕ) → q n ≡ p n) → Ends p r t → Ends q r t
 ends-same p q r t e g = (g.0, λ left. e (left + g.0) ∙ g.1 left)
 
 pub gives-same : (p q : ByFuel) (v : Value) (t : WorldState) → ((n : ℕ) → q n ≡ p n) → Gives p v t → Gives q v t
 gives-same p q v t e g = ends-same p q (Ok v) t e g
 
-pub ends-then : (p : ByFuel) (go : Go) (x : Value) (s : WorldState) (r : End) (t : WorldState) → Gives p x s → Ends (go x s) r t → Ends (λ n. then_do (p n) go) r t
+pub ends-then : (p : ByFuel) (go : Go) (x : Value) (s : WorldState) (r : CallEnd) (t : WorldState) → Gives p x s → Ends (go x s) r t → Ends (λ n. then_do (p n) go) r t
 ends-then p go x s r t g h = (h.0 + g.0, by)
   where
     by : (left : ℕ) → then_do (p (left + (h.0 + g.0))) go ≡ ended r t left
@@ -40,7 +40,7 @@ gives-then p go x s v t g h = ends-then p go x s (Ok v) t g h
 pub ends-stopped : (p : ByFuel) (go : Go) (f : Bare) (t : WorldState) → Ends p (Err f) t → Ends (λ n. then_do (p n) go) (Err f) t
 ends-stopped p go f t g = (g.0, λ left. ap (λ o. then_do o go) (g.1 left))
 
-pub ends-charged : (cost : ℕ) (s : WorldState) (go : ByFuel) (r : End) (t : WorldState) → Ends go r t → Ends (λ n. charged cost s n go) r t
+pub ends-charged : (cost : ℕ) (s : WorldState) (go : ByFuel) (r : CallEnd) (t : WorldState) → Ends go r t → Ends (λ n. charged cost s n go) r t
 ends-charged cost s go r t h = (h.0 + cost, by)
   where
     by : (left : ℕ) → charged cost s (left + (h.0 + cost)) go ≡ ended r t left
@@ -57,10 +57,10 @@ module _ (w : PlainSetting) where
   Evaluates c scope s v t = Gives (eval_of w c scope s) v t
 
   -- likewise, with a value or a fault
-  abbrev pub ExpressionEnds : PlainCore → Place → WorldState → End → WorldState → Type 0
+  abbrev pub ExpressionEnds : PlainCore → Place → WorldState → CallEnd → WorldState → Type 0
   ExpressionEnds c scope s r t = Ends (eval_of w c scope s) r t
 
-  pub ends-step : (c : PlainCore) (scope : Place) (s : WorldState) (r : End) (t : WorldState) → Ends (expressed w (eval_of w) c scope s) r t → ExpressionEnds c scope s r t
+  pub ends-step : (c : PlainCore) (scope : Place) (s : WorldState) (r : CallEnd) (t : WorldState) → Ends (expressed w (eval_of w) c scope s) r t → ExpressionEnds c scope s r t
   ends-step c scope s r t h = (suc h.0, by)
     where
       by : (left : ℕ) → eval_of w c scope s (left + suc h.0) ≡ ended r t left
@@ -78,7 +78,7 @@ module _ (w : PlainSetting) where
   procedure-is number cs plain scope s = evaluates-step (procedure number cs plain) scope s (value.Closure number scope) s (gives-done (value.Closure number scope) s)
 
   -- the arm that the test tells
-  pub true-ends : (c d e : PlainCore) (scope : Place) (s t u : WorldState) (x : Value) (r : End) → Evaluates c scope s x t → truth_of x ≡ true → ExpressionEnds d scope t r u → ExpressionEnds (two_armed c d e) scope s r u
+  pub true-ends : (c d e : PlainCore) (scope : Place) (s t u : WorldState) (x : Value) (r : CallEnd) → Evaluates c scope s x t → truth_of x ≡ true → ExpressionEnds d scope t r u → ExpressionEnds (two_armed c d e) scope s r u
   true-ends c d e scope s t u x r test is h =
       ends-step (two_armed c d e) scope s r u
       (ends-then (eval_of w c scope s) (two_arms w (eval_of w) d e scope) x t r u test
@@ -91,7 +91,7 @@ module _ (w : PlainSetting) where
   pub if-true : (c d e : PlainCore) (scope : Place) (s t u : WorldState) (x v : Value) → Evaluates c scope s x t → truth_of x ≡ true → Evaluates d scope t v u → Evaluates (two_armed c d e) scope s v u
   if-true c d e scope s t u x v test is h = true-ends c d e scope s t u x (Ok v) test is h
 
-  pub false-ends : (c d e : PlainCore) (scope : Place) (s t u : WorldState) (x : Value) (r : End) → Evaluates c scope s x t → truth_of x ≡ false → ExpressionEnds e scope t r u → ExpressionEnds (two_armed c d e) scope s r u
+  pub false-ends : (c d e : PlainCore) (scope : Place) (s t u : WorldState) (x : Value) (r : CallEnd) → Evaluates c scope s x t → truth_of x ≡ false → ExpressionEnds e scope t r u → ExpressionEnds (two_armed c d e) scope s r u
   false-ends c d e scope s t u x r test is h =
       ends-step (two_armed c d e) scope s r u
       (ends-then (eval_of w c scope s) (two_arms w (eval_of w) d e scope) x t r u test
@@ -112,10 +112,10 @@ module _ (w : PlainSetting) where
   abbrev pub Operands : PlainCores → Place → List Value → WorldState → Value → WorldState → Type 0
   Operands cs scope vs s v t = Gives (operands w (eval_of w) cs scope vs s) v t
 
-  abbrev pub OperandsEnd : PlainCores → Place → List Value → WorldState → End → WorldState → Type 0
+  abbrev pub OperandsEnd : PlainCores → Place → List Value → WorldState → CallEnd → WorldState → Type 0
   OperandsEnd cs scope vs s r t = Ends (operands w (eval_of w) cs scope vs s) r t
 
-  pub operand-ends : (c : PlainCore) (cs : PlainCores) (scope : Place) (vs : List Value) (s t u : WorldState) (x : Value) (r : End)
+  pub operand-ends : (c : PlainCore) (cs : PlainCores) (scope : Place) (vs : List Value) (s t u : WorldState) (x : Value) (r : CallEnd)
       → Evaluates c scope s x t → OperandsEnd cs scope (vs ++ x ∷ []) t r u → OperandsEnd (more c cs) scope vs s r u
   operand-ends c cs scope vs s t u x r h k = ends-then (eval_of w c scope s) (λ v. operands w (eval_of w) cs scope (vs ++ v ∷ [])) x t r u h k
 
@@ -128,7 +128,7 @@ module _ (w : PlainSetting) where
       → ExpressionEnds c scope s (Err f) t → OperandsEnd (more c cs) scope vs s (Err f) t
   operand-stops c cs scope vs s t f h = ends-stopped (eval_of w c scope s) (λ v. operands w (eval_of w) cs scope (vs ++ v ∷ [])) f t h
 
-  pub call-ends : (c : PlainCore) (cs : PlainCores) (scope : Place) (s t u : WorldState) (f : Value) (r : End)
+  pub call-ends : (c : PlainCore) (cs : PlainCores) (scope : Place) (s t u : WorldState) (f : Value) (r : CallEnd)
       → Evaluates c scope s f t → OperandsEnd cs scope (f ∷ []) t r u → ExpressionEnds (call c cs) scope s r u
   call-ends c cs scope s t u f r h k =
       ends-step (call c cs) scope s r u (ends-then (eval_of w c scope s) (λ f. operands w (eval_of w) cs scope (f ∷ [])) f t r u h k)
@@ -138,7 +138,7 @@ module _ (w : PlainSetting) where
   call-is c cs scope s t u f v h k = call-ends c cs scope s t u f (Ok v) h k
 
   -- calls of one operand, of two and more
-  pub call-one-ends : (c d : PlainCore) (scope : Place) (s t u q : WorldState) (f x : Value) (r : End)
+  pub call-one-ends : (c d : PlainCore) (scope : Place) (s t u q : WorldState) (f x : Value) (r : CallEnd)
       → Evaluates c scope s f t → Evaluates d scope t x u → CallEnds w (call_to f (x ∷ [])) u r q → ExpressionEnds (call c (more d none)) scope s r q
   call-one-ends c d scope s t u q f x r g h k = call-ends c (more d none) scope s t q f r g (operand-ends d none scope (f ∷ []) t u q x r h k)
 
@@ -146,7 +146,7 @@ module _ (w : PlainSetting) where
       → Evaluates c scope s f t → Evaluates d scope t x u → Calls w (call_to f (x ∷ [])) u v r → Evaluates (call c (more d none)) scope s v r
   call-one c d scope s t u r f x v g h k = call-one-ends c d scope s t u r f x (Ok v) g h k
 
-  pub call-two-ends : (c d e : PlainCore) (scope : Place) (s t u q p : WorldState) (f x y : Value) (r : End)
+  pub call-two-ends : (c d e : PlainCore) (scope : Place) (s t u q p : WorldState) (f x y : Value) (r : CallEnd)
       → Evaluates c scope s f t → Evaluates d scope t x u → Evaluates e scope u y q → CallEnds w (call_to f (x ∷ y ∷ [])) q r p
       → ExpressionEnds (call c (more d (more e none))) scope s r p
   call-two-ends c d e scope s t u q p f x y r g h j k =
@@ -158,14 +158,14 @@ module _ (w : PlainSetting) where
       → Evaluates (call c (more d (more e none))) scope s v r
   call-two c d e scope s t u q r f x y v g h j k = call-two-ends c d e scope s t u q r f x y (Ok v) g h j k
 
-  pub call-three-ends : (c d e a : PlainCore) (scope : Place) (s t u q p o : WorldState) (f x y z : Value) (r : End)
+  pub call-three-ends : (c d e a : PlainCore) (scope : Place) (s t u q p o : WorldState) (f x y z : Value) (r : CallEnd)
       → Evaluates c scope s f t → Evaluates d scope t x u → Evaluates e scope u y q → Evaluates a scope q z p → CallEnds w (call_to f (x ∷ y ∷ z ∷ [])) p r o
       → ExpressionEnds (call c (more d (more e (more a none)))) scope s r o
   call-three-ends c d e a scope s t u q p o f x y z r g h j i k =
       call-ends c (more d (more e (more a none))) scope s t o f r g
       (operand-ends d (more e (more a none)) scope (f ∷ []) t u o x r h (operand-ends e (more a none) scope (f ∷ x ∷ []) u q o y r j (operand-ends a none scope (f ∷ x ∷ y ∷ []) q p o z r i k)))
 
-  pub call-four-ends : (c d e a b : PlainCore) (scope : Place) (s t u q p o l : WorldState) (f x y z k : Value) (r : End)
+  pub call-four-ends : (c d e a b : PlainCore) (scope : Place) (s t u q p o l : WorldState) (f x y z k : Value) (r : CallEnd)
       → Evaluates c scope s f t → Evaluates d scope t x u → Evaluates e scope u y q → Evaluates a scope q z p → Evaluates b scope p k o → CallEnds w (call_to f (x ∷ y ∷ z ∷ k ∷ [])) o r l
       → ExpressionEnds (call c (more d (more e (more a (more b none))))) scope s r l
   call-four-ends c d e a b scope s t u q p o l f x y z k r g h j i m n =

@@ -10,18 +10,18 @@ use Rattle.law_eval.specs.Runs.{ByFuel}
 use Rattle.law_eval.proofs.Keeping.{keeps-call, later_then}
 use Rattle.law_lists.specs.Runs.{IsList}
 use Rattle.law_lists.proofs.RunLemmas.{runs_still}
-use Rattle.law_given.specs.Calls.{End, Ends, call_to, call_of, CallEnds, Calls}
+use Rattle.law_given.specs.Calls.{CallEnd, Ends, call_to, call_of, CallEnds, Calls}
 use Rattle.law_given.specs.InTurn.{InTurn, no_call, one_call, Stops, stops_here, stops_behind, AllGive, AllEnd, SearchCalls, not_there, passed, there, SearchGives, SearchStops, search_stops, search_goes_on, SearchEnds}
 use Rattle.law_given.proofs.Looking.{later-stay}
 
 pub later-refl : (s : WorldState) → LaterWorld s s
 later-refl s = record { cells = keeps_refl s.cells; library = refl; names = omega arith }
 
-ends-later : (run : ByFuel) (r : End) (s t : WorldState) → ((n : ℕ) → EndsLater s (run n)) → Ends run r t → LaterWorld s t
+ends-later : (run : ByFuel) (r : CallEnd) (s t : WorldState) → ((n : ℕ) → EndsLater s (run n)) → Ends run r t → LaterWorld s t
 ends-later run (Ok v) s t ends g = subst (EndsLater s) (g.1 0) (ends (0 + g.0))
 ends-later run (Err f) s t ends g = subst (EndsLater s) (g.1 0) (ends (0 + g.0))
 
-pub call-ends-later : (w : PlainSetting) (f : Value) (args : List Value) (s : WorldState) (r : End) (t : WorldState) → CallEnds w (call_to f args) s r t → LaterWorld s t
+pub call-ends-later : (w : PlainSetting) (f : Value) (args : List Value) (s : WorldState) (r : CallEnd) (t : WorldState) → CallEnds w (call_to f args) s r t → LaterWorld s t
 call-ends-later w f args s r t h = ends-later (call_of w (call_to f args) s) r s t (λ n. keeps-call w (f ∷ args) s n) h
 
 pub calls-later : (w : PlainSetting) (f : Value) (args : List Value) (s : WorldState) (v : Value) (t : WorldState) → Calls w (call_to f args) s v t → LaterWorld s t

@@ -17,7 +17,7 @@ use Rattle.eval_code.specs.Variables.{Entries}
 use Rattle.law_eval.specs.Kept.{LaterWorld}
 use Rattle.law_eval.proofs.Keeping.{later_with}
 use Rattle.law_lists.proofs.RunLemmas.{pair_still}
-use Rattle.law_given.specs.Calls.{End, call_to, CallEnds, Calls}
+use Rattle.law_given.specs.Calls.{CallEnd, call_to, CallEnds, Calls}
 use Rattle.law_given.specs.Codes.{label, code_no, var, formals, one_case, app, car, cdr, is_null}
 use Rattle.law_given.proofs.Giving.{Evaluates, ExpressionEnds, call-one-ends, call-two-ends}
 use Rattle.law_given.proofs.Looking.{later-stay}
@@ -49,7 +49,7 @@ module _ (w : PlainSetting) (code go m n : ℕ) (body : PlainCore) (known : code
   abbrev q : Place
   q = next_place s
 
-  pub loop-ends : (r : End) (t : WorldState) → ExpressionEnds w body q entered r t → CallEnds w (call_to g (f ∷ l ∷ [])) s r t
+  pub loop-ends : (r : CallEnd) (t : WorldState) → ExpressionEnds w body q entered r t → CallEnds w (call_to g (f ∷ l ∷ [])) s r t
   loop-ends r t h =
       closure-ends w (code_no code) p (f ∷ l ∷ []) s r t
       (case-ends w (code_no code) p (f ∷ l ∷ []) s (procedure_code (code_no code) (one_case (m ∷ n ∷ []) None body) true) (formals (m ∷ n ∷ []) None) body r t known refl h)
@@ -87,14 +87,14 @@ module _ (w : PlainSetting) (code go m n : ℕ) (body : PlainCore) (known : code
       rest-read = cdr-is w (var n) q u u l list-read x d pair-then
 
       -- the call on the first element
-      pub first-ends : (r : End) (t : WorldState) → CallEnds w (call_to f (x ∷ [])) u r t → ExpressionEnds w (app (var m) (car (var n) ∷ [])) q u r t
+      pub first-ends : (r : CallEnd) (t : WorldState) → CallEnds w (call_to f (x ∷ [])) u r t → ExpressionEnds w (app (var m) (car (var n) ∷ [])) q u r t
       first-ends r t h = call-one-ends w (var m) (car (var n)) q u u u t f x r procedure-read first-read h
 
       pub first-called : (y : Value) (t : WorldState) → Calls w (call_to f (x ∷ [])) u y t → Evaluates w (app (var m) (car (var n) ∷ [])) q u y t
       first-called y t h = first-ends (Ok y) t h
 
       -- the loop along the rest
-      pub again-ends : (r : End) (t : WorldState) → CallEnds w (call_to g (f ∷ d ∷ [])) u r t → ExpressionEnds w (app (var go) (var m ∷ cdr (var n) ∷ [])) q u r t
+      pub again-ends : (r : CallEnd) (t : WorldState) → CallEnds w (call_to g (f ∷ d ∷ [])) u r t → ExpressionEnds w (app (var go) (var m ∷ cdr (var n) ∷ [])) q u r t
       again-ends r t h =
           call-two-ends w (var go) (var m) (cdr (var n)) q u u u u t g f d r
           (outer w u q (two_vars m n f l) p home inside (label go) g (names.no_loop f l) names.loop) procedure-read rest-read h

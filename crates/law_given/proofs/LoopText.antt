@@ -16,7 +16,7 @@ use Rattle.eval_code.specs.Setting.{PlainSetting}
 use Rattle.eval_code.specs.State.{WorldState, next_place, with_cell}
 use Rattle.law_eval.specs.Kept.{LaterWorld}
 use Rattle.law_eval.proofs.Keeping.{later_then, later_with}
-use Rattle.law_given.specs.Calls.{End, Ends, call_to, CallEnds, Calls}
+use Rattle.law_given.specs.Calls.{CallEnd, Ends, call_to, CallEnds, Calls}
 use Rattle.law_given.specs.Codes.{label, code_no, var, lambda, one_case, text_code}
 use Rattle.law_given.proofs.Giving.{Evaluates}
 use Rattle.law_given.proofs.Looking.{in_cell, variable-is}
@@ -44,7 +44,7 @@ module _ (w : PlainSetting) (s : WorldState) (go code : ℕ) where
 
   module _ (op : ℕ) (formals : List ℕ) (loop : PlainCore) (self : same_label (label go) (label go) ≡ true) (other : nat_eq op names.APPLY ≡ false) (yes : has_text op ≡ true) where
     -- the text gives a procedure, which is called
-    pub text-by-ends : (body : PlainCore) (number : ℕ) (args : List Value) (r : End) (t : WorldState)
+    pub text-by-ends : (body : PlainCore) (number : ℕ) (args : List Value) (r : CallEnd) (t : WorldState)
         → code_at w.codes (text_number op) ≡ Some (text_code op (loop_text go code formals loop body))
         → Evaluates w body home_place ready (value.Closure (code_no number) home_place) ready
         → Ends (procedure_called w (eval_of w) (code_no number) home_place args ready) r t
@@ -54,7 +54,7 @@ module _ (w : PlainSetting) (s : WorldState) (go code : ℕ) where
         (letrec-is w (label go) self (code_no code) (one_case formals None loop) true body (next_place s) outside (value.Closure (code_no number) home_place) ready is) h
 
     -- the procedure of the `letrec` itself
-    pub loop-by-ends : (args : List Value) (r : End) (t : WorldState)
+    pub loop-by-ends : (args : List Value) (r : CallEnd) (t : WorldState)
         → code_at w.codes (text_number op) ≡ Some (text_code op (loop_text go code formals loop (var go)))
         → lookup (same_label (label go)) (one_home (label go) (code_no code) home_place) ≡ Some (Some (value.Closure (code_no code) home_place))
         → CallEnds w (call_to (value.Closure (code_no code) home_place) args) ready r t

@@ -22,7 +22,7 @@ use Rattle.law_eval.specs.Kept.{LaterWorld}
 use Rattle.law_eval.proofs.Keeping.{later_then, later_with}
 use Rattle.law_lists.specs.Runs.{here, next, IsList}
 use Rattle.law_lists.proofs.RunLemmas.{stay_added, pair_still, runs_still}
-use Rattle.law_given.specs.Calls.{End, call_to, call_of, CallEnds, Calls}
+use Rattle.law_given.specs.Calls.{CallEnd, call_to, call_of, CallEnds, Calls}
 use Rattle.law_given.specs.Codes.{label, code_no, var, formals, one_case, car, cdr, prim, cons, map_first, map_others, map_one}
 use Rattle.law_given.specs.Given.{Maps, Mapped, Faults}
 use Rattle.law_given.specs.InTurn.{InTurn, no_call, one_call, stops_here, stops_behind, AfterValue, AllGive, AllEnd}
@@ -72,7 +72,7 @@ module _ (w : PlainSetting) (known : code_at w.codes (code_no 4) ≡ Some (proce
   begun l s = with_cell (cell.Scope (vars l) (Some p)) s
 
   -- the call, by its body
-  body-ends : (l : Value) (s : WorldState) (r : End) (t : WorldState) → ExpressionEnds w map_one (next_place s) (begun l s) r t → CallEnds w (call_to g (f ∷ l ∷ [])) s r t
+  body-ends : (l : Value) (s : WorldState) (r : CallEnd) (t : WorldState) → ExpressionEnds w map_one (next_place s) (begun l s) r t → CallEnds w (call_to g (f ∷ l ∷ [])) s r t
   body-ends l s r t h =
       closure-ends w (code_no 4) p (f ∷ l ∷ []) s r t
       (case-ends w (code_no 4) p (f ∷ l ∷ []) s (procedure_code (code_no 4) (one_case (6 ∷ 7 ∷ []) None map_one) true) (formals (6 ∷ 7 ∷ []) None) map_one r t known refl h)
@@ -120,12 +120,12 @@ module _ (w : PlainSetting) (known : code_at w.codes (code_no 4) ≡ Some (proce
     list-read = own w at q (vars l) p (map_home p) inside (label 7) l refl
 
     -- what the pair's making ends with, the whole ends with
-    by-cons : (r : End) (t : WorldState) → ExpressionEnds w (cons map_first map_others) q at r t → CallEnds w (call_to g (f ∷ l ∷ [])) s r t
+    by-cons : (r : CallEnd) (t : WorldState) → ExpressionEnds w (cons map_first map_others) q at r t → CallEnds w (call_to g (f ∷ l ∷ [])) s r t
     by-cons r t h =
         body-ends l s r t
         (false-ends w _ _ _ q at at t (truth false) r (null-is w (var 7) q at at l list-read false (pair-not-nil at.cells l x d pair-at)) refl h)
 
-    first-ends : (r : End) (u : WorldState) → CallEnds w (call_to f (x ∷ [])) at r u → ExpressionEnds w map_first q at r u
+    first-ends : (r : CallEnd) (u : WorldState) → CallEnds w (call_to f (x ∷ [])) at r u → ExpressionEnds w map_first q at r u
     first-ends r u h = call-one-ends w (var 6) (car (var 7)) q at at at u f x r (own w at q (vars l) p (map_home p) inside (label 6) f refl) (car-is w (var 7) q at at l list-read x d pair-at) h
 
     -- the call faults
@@ -149,7 +149,7 @@ module _ (w : PlainSetting) (known : code_at w.codes (code_no 4) ≡ Some (proce
       pair-then : pair_of u.cells l ≡ Some (x, d)
       pair-then = pair_still at.cells u.cells (later-stay at u behind) l x d pair-at
 
-      others-end : (r : End) (t : WorldState) → CallEnds w (call_to g (f ∷ d ∷ [])) u r t → ExpressionEnds w map_others q u r t
+      others-end : (r : CallEnd) (t : WorldState) → CallEnds w (call_to g (f ∷ d ∷ [])) u r t → ExpressionEnds w map_others q u r t
       others-end r t h =
           call-two-ends w (var 2) (var 6) (cdr (var 7)) q u u u u t g f d r
           (outer w u q (vars l) p (map_home p) inside-then (label 2) g refl refl)
@@ -181,7 +181,7 @@ module _ (w : PlainSetting) (known : code_at w.codes (code_no 4) ≡ Some (proce
       }
 
     -- by the end of the call
-    ends-by : (r : End) (u : WorldState) → CallEnds w (call_to f (x ∷ [])) at r u → AfterValue r (AllEnd w f xs u)
+    ends-by : (r : CallEnd) (u : WorldState) → CallEnds w (call_to f (x ∷ [])) at r u → AfterValue r (AllEnd w f xs u)
         → ((v : WorldState) → LaterWorld s v → AllEnd w f xs v → MapGives xs d v ⊎ Faulted xs d v) → MapGives (x ∷ xs) l s ⊎ Faulted (x ∷ xs) l s
     ends-by (Ok y) u h a again = elim (again u (later_then s at u enter (calls-later w f (x ∷ []) at y u h)) a) [
       | inl m ↦ inl (some y u h m)

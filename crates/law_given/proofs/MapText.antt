@@ -20,7 +20,7 @@ use Rattle.eval_code.specs.Variables.{Entries, cell_with, assigned}
 use Rattle.law_eval.specs.Kept.{LaterWorld}
 use Rattle.law_eval.proofs.Keeping.{later_then, later_with}
 use Rattle.law_lists.specs.Runs.{IsList}
-use Rattle.law_given.specs.Calls.{End, call_to, CallEnds, Calls}
+use Rattle.law_given.specs.Calls.{CallEnd, call_to, CallEnds, Calls}
 use Rattle.law_given.specs.Codes.{label, code_no, var, formals, one_case, lambda, text_code, map_one, map_many, map_body, map_text}
 use Rattle.law_given.specs.Given.{Maps, Mapped, Faults}
 use Rattle.law_given.specs.InTurn.{AllGive, AllEnd}
@@ -96,7 +96,7 @@ module _ (w : PlainSetting) (s : WorldState) where
     abbrev inner : WorldState
     inner = with_cell (cell.Scope vars (Some home_place)) ready
 
-    body-ends : (r : End) (t : WorldState) → ExpressionEnds w map_body (next_place ready) inner r t → CallEnds w (call_to (value.Prim (record { 0 = names.MAP })) (f ∷ l ∷ [])) s r t
+    body-ends : (r : CallEnd) (t : WorldState) → ExpressionEnds w map_body (next_place ready) inner r t → CallEnds w (call_to (value.Prim (record { 0 = names.MAP })) (f ∷ l ∷ [])) s r t
     unfolding has_text
     body-ends r t h =
         text-ends w (record { 0 = names.MAP }) (f ∷ l ∷ []) s ready t (text_code names.MAP map_text) map_text (code_no 15) home_place r refl refl knows.map_text refl text-is
@@ -120,7 +120,7 @@ module _ (w : PlainSetting) (s : WorldState) where
     home-inner = record { around = inside.around; is = inside.home }
 
     -- the loop along the list is called
-    loop-ends : (r : End) (t : WorldState) → CallEnds w (call_to (value.Closure (code_no 4) home_place) (f ∷ l ∷ [])) inner r t → CallEnds w (call_to (value.Prim (record { 0 = names.MAP })) (f ∷ l ∷ [])) s r t
+    loop-ends : (r : CallEnd) (t : WorldState) → CallEnds w (call_to (value.Closure (code_no 4) home_place) (f ∷ l ∷ [])) inner r t → CallEnds w (call_to (value.Prim (record { 0 = names.MAP })) (f ∷ l ∷ [])) s r t
     loop-ends r t h =
         body-ends r t
         (true-ends w _ _ _ q inner inner t (truth true) r

@@ -16,7 +16,7 @@ use Rattle.eval_code.specs.Variables.{Entries}
 use Rattle.law_eval.specs.Kept.{LaterWorld}
 use Rattle.law_eval.proofs.Keeping.{later_then}
 use Rattle.law_lists.specs.Runs.{IsList}
-use Rattle.law_given.specs.Calls.{End, call_to, CallEnds, Calls}
+use Rattle.law_given.specs.Calls.{CallEnd, call_to, CallEnds, Calls}
 use Rattle.law_given.specs.Codes.{label, code_no, one_case, memp_some, memp_loop}
 use Rattle.law_given.specs.Given.{FindsTail, SearchFaults}
 use Rattle.law_given.specs.InTurn.{search_stops, search_goes_on, AfterFalse, SearchEnds}
@@ -57,7 +57,7 @@ module _ (w : PlainSetting) (known : code_at w.codes (code_no 86) ≡ Some (proc
     enter : LaterWorld s at
     enter = loop.entered-later w 86 85 88 89 memp_loop known p home names f l s round
 
-    with-null : (r : End) (t : WorldState) → ExpressionEnds w memp_some q at r t → CallEnds w (call_to g (f ∷ l ∷ [])) s r t
+    with-null : (r : CallEnd) (t : WorldState) → ExpressionEnds w memp_some q at r t → CallEnds w (call_to g (f ∷ l ∷ [])) s r t
     with-null r t h =
         loop.loop-ends w 86 85 88 89 memp_loop known p home names f l s round r t
         (false-ends w _ _ _ q at at t (truth false) r (loop.not-null w 86 85 88 89 memp_loop known p home names f l s round at (later-refl at) x d pair) refl h)
@@ -83,7 +83,7 @@ module _ (w : PlainSetting) (known : code_at w.codes (code_no 86) ≡ Some (proc
     }
 
     -- by the end of the call
-    ends-by : IsList s.cells (x ∷ xs) l → (r : End) (u : WorldState) → CallEnds w (call_to f (x ∷ [])) at r u → AfterFalse r (SearchEnds w f xs u)
+    ends-by : IsList s.cells (x ∷ xs) l → (r : CallEnd) (u : WorldState) → CallEnds w (call_to f (x ∷ [])) at r u → AfterFalse r (SearchEnds w f xs u)
         → ((v : WorldState) → LaterWorld s v → SearchEnds w f xs v → Ended xs d v ⊎ Faulted xs d v) → Ended (x ∷ xs) l s ⊎ Faulted (x ∷ xs) l s
     ends-by list (Ok y) u h a again =
         by-truth (truth_of y) (Ended (x ∷ xs) l s ⊎ Faulted (x ∷ xs) l s) (λ e. inl (found w known f p x l d xs s round pair list y u h e))

@@ -19,7 +19,7 @@ use Rattle.eval_code.specs.Variables.{Entries}
 use Rattle.law_eval.specs.Kept.{LaterWorld}
 use Rattle.law_eval.proofs.Keeping.{later_then, later_with}
 use Rattle.law_lists.specs.Runs.{IsList}
-use Rattle.law_given.specs.Calls.{End, call_to, call_of, CallEnds, Calls}
+use Rattle.law_given.specs.Calls.{CallEnd, call_to, call_of, CallEnds, Calls}
 use Rattle.law_given.specs.Codes.{label, code_no, var, prim, formals, one_case, lambda, app, text_code, remp_test, remp_body, remp_text}
 use Rattle.law_given.specs.Given.{Filters, Faults}
 use Rattle.law_given.specs.InTurn.{InTurn, Stops, stops_here, stops_behind, AfterValue, AllEnd, chosen, others}
@@ -58,9 +58,9 @@ module _ (w : PlainSetting) (knows : Knows w.codes) (f l : Value) where
         inside : Inside (tested x s).cells (next_place s) ((label 74, Some x) ∷ []) p vars
         inside = entered-inside s ((label 74, Some x) ∷ []) p vars round
 
-    turned-end : (x : Value) (xs : List Value) (t : WorldState) → Home t.cells p vars → (r : End) (u : WorldState) → CallEnds w (call_to f (x ∷ [])) (tested x t) r u → AfterValue r (AllEnd w f xs u)
+    turned-end : (x : Value) (xs : List Value) (t : WorldState) → Home t.cells p vars → (r : CallEnd) (u : WorldState) → CallEnds w (call_to f (x ∷ [])) (tested x t) r u → AfterValue r (AllEnd w f xs u)
         → ((v : WorldState) → Home v.cells p vars → AllEnd w f xs v → AllEnd w turned xs v)
-        → (q : End) × (v : WorldState) × CallEnds w (call_to turned (x ∷ [])) t q v × AfterValue q (AllEnd w turned xs v)
+        → (q : CallEnd) × (v : WorldState) × CallEnds w (call_to turned (x ∷ [])) t q v × AfterValue q (AllEnd w turned xs v)
     turned-end x xs t round (Ok y) u h a again = (Ok (truth (is_false y)), u, turned-called w knows f l p x t round y u h, again u (home-later t u (far w knows f l p x t y u h) p vars round) a)
     turned-end x xs t round (Err e) u h a again = (Err e, u, turned-stops x t round e u h, tt)
 
@@ -72,7 +72,7 @@ module _ (w : PlainSetting) (knows : Knows w.codes) (f l : Value) where
 
     -- the call of f that stopped that procedure
     stop-here : (x : Value) (xs : List Value) (e : Bare) (s r t : WorldState) → LaterWorld s r → Home r.cells p vars → CallEnds w (call_to turned (x ∷ [])) r (Err e) t
-        → (q : End) (u : WorldState) → CallEnds w (call_to f (x ∷ [])) (tested x r) q u → Stops w f (x ∷ xs) s e t
+        → (q : CallEnd) (u : WorldState) → CallEnds w (call_to f (x ∷ [])) (tested x r) q u → Stops w f (x ∷ xs) s e t
     stop-here x xs e s r t k round c (Ok y) u h =
         let wrong : Ok (truth (is_false y)) ≡ Err e = ends-one-end (call_of w (call_to turned (x ∷ [])) r) (Ok (truth (is_false y))) (Err e) u t (turned-called w knows f l p x r round y u h) c in
         absurd (cc)
@@ -83,7 +83,7 @@ module _ (w : PlainSetting) (knows : Knows w.codes) (f l : Value) where
         (subst (λ a. CallEnds w (call_to f (x ∷ [])) (tested x r) a u) (ends-one-end (call_of w (call_to turned (x ∷ [])) r) (Err d) (Err e) u t mine c) h))
 
     stop-behind : (x z : Value) (xs : List Value) (e : Bare) (s r b t : WorldState) → LaterWorld s r → Home r.cells p vars → Calls w (call_to turned (x ∷ [])) r z b → Stops w turned xs b e t
-        → (q : End) (u : WorldState) → CallEnds w (call_to f (x ∷ [])) (tested x r) q u → AfterValue q (AllEnd w f xs u)
+        → (q : CallEnd) (u : WorldState) → CallEnds w (call_to f (x ∷ [])) (tested x r) q u → AfterValue q (AllEnd w f xs u)
         → ((v : WorldState) → Home v.cells p vars → AllEnd w f xs v → Stops w turned xs v e t → Stops w f xs v e t) → Stops w f (x ∷ xs) s e t
     stop-behind x z xs e s r b t k round c i (Ok y) u h a again =
         let same : u ≡ b = ends-one-state (call_of w (call_to turned (x ∷ [])) r) (Ok (truth (is_false y))) (Ok z) u b (turned-called w knows f l p x r round y u h) c in
@@ -115,7 +115,7 @@ module _ (w : PlainSetting) (knows : Knows w.codes) (f l : Value) where
     inside : Inside inner.cells q vars (next_place s) []
     inside = entered-inside outside vars (next_place s) [] (record { around = None; is = slice_get-added s.cells (cell.Scope [] None) })
 
-    by-filter : (r : End) (t : WorldState) → CallEnds w (call_to (value.Prim (record { 0 = names.FILTER })) (turned q ∷ l ∷ [])) inner r t → CallEnds w (call_to (value.Prim (record { 0 = names.REMP })) (f ∷ l ∷ [])) s r t
+    by-filter : (r : CallEnd) (t : WorldState) → CallEnds w (call_to (value.Prim (record { 0 = names.FILTER })) (turned q ∷ l ∷ [])) inner r t → CallEnds w (call_to (value.Prim (record { 0 = names.REMP })) (f ∷ l ∷ [])) s r t
     unfolding has_text
     by-filter r t h =
         text-ends w (record { 0 = names.REMP }) (f ∷ l ∷ []) s outside t (text_code names.REMP remp_text) remp_text (code_no 67) (next_place s) r refl refl knows.remp_text refl

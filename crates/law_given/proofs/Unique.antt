@@ -6,7 +6,7 @@ use Rattle.eval_code.specs.State.{WorldState, Outcome, done, faulted, unfit}
 use Rattle.law_eval.specs.Kept.{LaterWorld}
 use Rattle.law_eval.specs.Runs.{ByFuel}
 use Rattle.law_eval.proofs.Keeping.{later_then}
-use Rattle.law_given.specs.Calls.{End, ended, Ends, Gives, call_to, call_of}
+use Rattle.law_given.specs.Calls.{CallEnd, ended, Ends, Gives, call_to, call_of}
 use Rattle.law_given.specs.InTurn.{InTurn, no_call, one_call, AllGive, AllGiveBy}
 use Rattle.law_given.proofs.Later.{calls-later}
 
@@ -31,7 +31,7 @@ gives-one-state run v x t u g h = ap (state_or t) (gives-one run v x t u g h)
 
 -- likewise of each end
 
-abbrev end_or : End → Outcome → End
+abbrev end_or : CallEnd → Outcome → CallEnd
 end_or d (done v s n) = Ok v
 end_or d (faulted f s n) = Err f
 end_or d unfit = d
@@ -41,21 +41,21 @@ left_state d (done v s n) = s
 left_state d (faulted f s n) = s
 left_state d unfit = d
 
-end-of : (r d : End) (t : WorldState) (n : ℕ) → end_or d (ended r t n) ≡ r
+end-of : (r d : CallEnd) (t : WorldState) (n : ℕ) → end_or d (ended r t n) ≡ r
 end-of (Ok v) d t n = refl
 end-of (Err f) d t n = refl
 
-state-of : (r : End) (d t : WorldState) (n : ℕ) → left_state d (ended r t n) ≡ t
+state-of : (r : CallEnd) (d t : WorldState) (n : ℕ) → left_state d (ended r t n) ≡ t
 state-of (Ok v) d t n = refl
 state-of (Err f) d t n = refl
 
-ends-one : (run : ByFuel) (r q : End) (t u : WorldState) (g : Ends run r t) (h : Ends run q u) → ended r t h.0 ≡ ended q u g.0
+ends-one : (run : ByFuel) (r q : CallEnd) (t u : WorldState) (g : Ends run r t) (h : Ends run q u) → ended r t h.0 ≡ ended q u g.0
 ends-one run r q t u g h = let same : h.0 + g.0 ≡ g.0 + h.0 = omega arith in sym (g.1 h.0) ∙ ap run same ∙ h.1 g.0
 
-pub ends-one-end : (run : ByFuel) (r q : End) (t u : WorldState) → Ends run r t → Ends run q u → r ≡ q
+pub ends-one-end : (run : ByFuel) (r q : CallEnd) (t u : WorldState) → Ends run r t → Ends run q u → r ≡ q
 ends-one-end run r q t u g h = sym (end-of r r t h.0) ∙ ap (end_or r) (ends-one run r q t u g h) ∙ end-of q r u g.0
 
-pub ends-one-state : (run : ByFuel) (r q : End) (t u : WorldState) → Ends run r t → Ends run q u → t ≡ u
+pub ends-one-state : (run : ByFuel) (r q : CallEnd) (t u : WorldState) → Ends run r t → Ends run q u → t ≡ u
 ends-one-state run r q t u g h = sym (state-of r t t h.0) ∙ ap (left_state t) (ends-one run r q t u g h) ∙ state-of q t u g.0
 
 module _ (w : PlainSetting) (f : Value) (g : Value → Value) where

@@ -7,10 +7,10 @@ use Rattle.eval_code.specs.Procedures.{truth_of}
 use Rattle.eval_code.specs.Setting.{PlainSetting}
 use Rattle.eval_code.specs.State.{WorldState}
 use Rattle.law_eval.specs.Kept.{LaterWorld}
-use Rattle.law_given.specs.Calls.{End, call_to, CallEnds, Calls}
+use Rattle.law_given.specs.Calls.{CallEnd, call_to, CallEnds, Calls}
 
 -- where a call answered `#f`
-abbrev pub AfterFalse : End → Type 0 → Type 0
+abbrev pub AfterFalse : CallEnd → Type 0 → Type 0
 AfterFalse (Ok y) P = truth_of y ≡ false → P
 AfterFalse (Err e) P = Unit {0}
 
@@ -29,7 +29,7 @@ others (x ∷ xs) [] = []
 others (x ∷ xs) (y ∷ ys) = if truth_of y then others xs ys else x ∷ others xs ys
 
 -- where a call gave a value
-abbrev pub AfterValue : End → Type 0 → Type 0
+abbrev pub AfterValue : CallEnd → Type 0 → Type 0
 AfterValue (Ok y) P = P
 AfterValue (Err e) P = Unit {0}
 
@@ -70,7 +70,7 @@ module _ (w : PlainSetting) (f : Value) where
   abbrev pub SearchEnds : List Value → WorldState → Type 0
   SearchEnds [] s = Unit {0}
   SearchEnds (x ∷ xs) s = (t : WorldState) → LaterWorld s t
-      → (r : End) × (u : WorldState) × CallEnds w (call_to f (x ∷ [])) t r u × AfterFalse r (SearchEnds xs u)
+      → (r : CallEnd) × (u : WorldState) × CallEnds w (call_to f (x ∷ [])) t r u × AfterFalse r (SearchEnds xs u)
 
   -- A fold from the left: each call is on what the one before it gave and the next value.
   pub data FoldLeft : Value → List Value → WorldState → Value → WorldState → Type 0 where
@@ -135,4 +135,5 @@ module _ (w : PlainSetting) (f : Value) where
   -- Each of these calls ends, with a value or at a fault, whatever cells were added before it.
   abbrev pub AllEnd : List Value → WorldState → Type 0
   AllEnd [] s = Unit {0}
-  AllEnd (x ∷ xs) s = (t : WorldState) → LaterWorld s t → (r : End) × (u : WorldState) × CallEnds w (call_to f (x ∷ [])) t r u × AfterValue r (AllEnd xs u)
+  AllEnd (x ∷ xs) s =
+      (t : WorldState) → LaterWorld s t → (r : CallEnd) × (u : WorldState) × CallEnds w (call_to f (x ∷ [])) t r u × AfterValue r (AllEnd xs u)

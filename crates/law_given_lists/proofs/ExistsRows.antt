@@ -19,7 +19,7 @@ use Rattle.law_eval.specs.Kept.{LaterWorld}
 use Rattle.law_eval.proofs.Keeping.{later_then, later_with}
 use Rattle.law_lists.specs.Runs.{IsList}
 use Rattle.law_lists.proofs.RunLemmas.{pair_still}
-use Rattle.law_given.specs.Calls.{End, Ends, call_to, call_of, CallEnds, Calls}
+use Rattle.law_given.specs.Calls.{CallEnd, Ends, call_to, call_of, CallEnds, Calls}
 use Rattle.law_given.specs.Codes.{label, code_no, var, formals, one_case, lambda, cdrs, on_cars, exists_next, exists_loop}
 use Rattle.law_given.proofs.FindLoop.{by-truth}
 use Rattle.law_given.proofs.Giving.{Evaluates, ExpressionEnds, procedure-is}
@@ -53,7 +53,7 @@ module _ (w : PlainSetting) (knows : Knows w.codes) (f : Value) (p : Place) wher
 
   -- the loop on a list of lists that stand in rows
   abbrev Holds : List (List Value) → Value → WorldState → Type 0
-  Holds rows lv s = (r : End) × (t : WorldState) × CallEnds w (call_to g (f ∷ lv ∷ [])) s r t × ExistsByRows w f rows s r t
+  Holds rows lv s = (r : CallEnd) × (t : WorldState) × CallEnds w (call_to g (f ∷ lv ∷ [])) s r t × ExistsByRows w f rows s r t
 
   module _ (lv l : Value) (more : List Value) (s : WorldState) (round : Home s.cells p home) (lists : IsList s.cells (l ∷ more) lv) where
     abbrev at : WorldState
@@ -65,7 +65,7 @@ module _ (w : PlainSetting) (knows : Knows w.codes) (f : Value) (p : Place) wher
     enter : LaterWorld s at
     enter = entered-later w 43 42 45 46 exists_loop knows.exists_loop p home names f lv s round
 
-    body-iff : (r : End) (t : WorldState) → Iff (CallEnds w (call_to g (f ∷ lv ∷ [])) s r t) (ExpressionEnds w exists_loop q at r t)
+    body-iff : (r : CallEnd) (t : WorldState) → Iff (CallEnds w (call_to g (f ∷ lv ∷ [])) s r t) (ExpressionEnds w exists_loop q at r t)
     body-iff = loop.body-iff w knows 43 42 45 46 exists_loop knows.exists_loop p home names f lv s round
 
     nothing : l ≡ nil → Calls w (call_to g (f ∷ lv ∷ [])) s (truth false) at
@@ -88,11 +88,11 @@ module _ (w : PlainSetting) (knows : Knows w.codes) (f : Value) (p : Place) wher
       till-asked : LaterWorld s asked.state
       till-asked = later_then s at asked.state enter asked-at
 
-      ask-iff : (r : End) (t : WorldState) → Iff (ExpressionEnds w (on_cars (var 45) (var 46)) q at r t) (CallEnds w (call_to f row) asked.state r t)
+      ask-iff : (r : CallEnd) (t : WorldState) → Iff (ExpressionEnds w (on_cars (var 45) (var 46)) q at r t) (CallEnds w (call_to f row) asked.state r t)
       ask-iff = loop.ask-iff w knows 43 42 45 46 exists_loop knows.exists_loop p home names f lv s round l more lists at (later-refl at) row (d ∷ ds) pairs
 
       -- the last row
-      last-iff : d ≡ nil → (r : End) (t : WorldState) → Iff (CallEnds w (call_to g (f ∷ lv ∷ [])) s r t) (CallEnds w (call_to f row) asked.state r t)
+      last-iff : d ≡ nil → (r : CallEnd) (t : WorldState) → Iff (CallEnds w (call_to g (f ∷ lv ∷ [])) s r t) (CallEnds w (call_to f row) asked.state r t)
       last-iff e r t =
           iff-then (body-iff r t)
           (iff-then (false-iff w _ _ _ q at at (truth false) r t (loop.first-null w knows 43 42 45 46 exists_loop knows.exists_loop p home names f lv s round l more lists at (later-refl at) false (pair-not-nil s.cells l x d pair)) refl)
@@ -107,7 +107,7 @@ module _ (w : PlainSetting) (knows : Knows w.codes) (f : Value) (p : Place) wher
       go_on = λ v. operands w (eval_of w) none q ((looks ∷ []) ++ v ∷ [])
 
       -- a row before it
-      next-iff : is_nil d ≡ false → (r : End) (t : WorldState) → Iff (CallEnds w (call_to g (f ∷ lv ∷ [])) s r t) (Split (eval_of w (on_cars (var 45) (var 46)) q at) go_on r t)
+      next-iff : is_nil d ≡ false → (r : CallEnd) (t : WorldState) → Iff (CallEnds w (call_to g (f ∷ lv ∷ [])) s r t) (Split (eval_of w (on_cars (var 45) (var 46)) q at) go_on r t)
       next-iff e r t =
           iff-then (body-iff r t)
           (iff-then (false-iff w _ _ _ q at at (truth false) r t (loop.first-null w knows 43 42 45 46 exists_loop knows.exists_loop p home names f lv s round l more lists at (later-refl at) false (pair-not-nil s.cells l x d pair)) refl)
@@ -137,7 +137,7 @@ module _ (w : PlainSetting) (knows : Knows w.codes) (f : Value) (p : Place) wher
         answer-read : Evaluates w (var 50) (next_place u) looked y looked
         answer-read = own w looked (next_place u) frame q (two_vars 45 46 f lv) inside-looked (label 50) y refl
 
-        looked-iff : (r : End) (t : WorldState) → Iff (Ends (go_on y u) r t) (ExpressionEnds w exists_next (next_place u) looked r t)
+        looked-iff : (r : CallEnd) (t : WorldState) → Iff (Ends (go_on y u) r t) (ExpressionEnds w exists_next (next_place u) looked r t)
         looked-iff r t =
             iff-then (closure-iff w (code_no 48) q (y ∷ []) u r t)
             (case-iff w (code_no 48) q (y ∷ []) u (procedure_code (code_no 48) (one_case (50 ∷ []) None exists_next) true) (formals (50 ∷ []) None) exists_next r t knows.exists_next refl)
@@ -174,7 +174,7 @@ module _ (w : PlainSetting) (knows : Knows w.codes) (f : Value) (p : Place) wher
             (in_cell (later-stay u looked look-later p.0 (cell.Scope home around.around) around.home) refl)))
             (omega (arith, third, second))
 
-        again-iff : truth_of y ≡ false → (r : End) (t : WorldState) → Iff (Ends (go_on y u) r t) (CallEnds w (call_to g (f ∷ left.value ∷ [])) left.state r t)
+        again-iff : truth_of y ≡ false → (r : CallEnd) (t : WorldState) → Iff (Ends (go_on y u) r t) (CallEnds w (call_to g (f ∷ left.value ∷ [])) left.state r t)
         again-iff e r t =
             iff-then (looked-iff r t)
             (iff-then (false-iff w _ _ _ (next_place u) looked looked y r t answer-read e)
@@ -186,7 +186,7 @@ module _ (w : PlainSetting) (knows : Knows w.codes) (f : Value) (p : Place) wher
         ends-here : truth_of y ≡ true → Ends (go_on y u) (Ok y) looked
         ends-here e = (looked-iff (Ok y) looked).1 ((true-iff w _ _ _ (next_place u) looked looked y (Ok y) looked answer-read e).1 answer-read)
 
-      next-ends : (next : List Value) (rows : List (List Value)) → is_nil d ≡ false → (r : End) (u : WorldState) (called : CallEnds w (call_to f row) asked.state r u)
+      next-ends : (next : List Value) (rows : List (List Value)) → is_nil d ≡ false → (r : CallEnd) (u : WorldState) (called : CallEnds w (call_to f row) asked.state r u)
           → AfterValue r (λ y. truth_of y ≡ false → ExistsEnds w f (next ∷ rows) u)
           → ((v : WorldState) (lw : Value) → LaterWorld s v → IsList v.cells (d ∷ ds) lw → ExistsEnds w f (next ∷ rows) v → Holds (next ∷ rows) lw v) → Holds (row ∷ next ∷ rows) lv s
       next-ends next rows e (Err b) u called a again = (Err b, u, (next-iff e (Err b) u).1 (stopped ((ask-iff (Err b) u).1 called)), some_stops till-asked called)
@@ -200,15 +200,15 @@ module _ (w : PlainSetting) (knows : Knows w.codes) (f : Value) (p : Place) wher
             some_behind till-asked called is (exists-from w f (next ∷ rows) m.0 u (left y u called).state m.1 (till-left y u called) m.3),
           ))
 
-      next-did : (next : List Value) (rows : List (List Value)) → is_nil d ≡ false → (r : End) (t : WorldState) → CallEnds w (call_to g (f ∷ lv ∷ [])) s r t
-          → ((v : WorldState) (lw : Value) → LaterWorld s v → IsList v.cells (d ∷ ds) lw → (e : End) (o : WorldState) → CallEnds w (call_to g (f ∷ lw ∷ [])) v e o → ExistsByRows w f (next ∷ rows) v e o)
+      next-did : (next : List Value) (rows : List (List Value)) → is_nil d ≡ false → (r : CallEnd) (t : WorldState) → CallEnds w (call_to g (f ∷ lv ∷ [])) s r t
+          → ((v : WorldState) (lw : Value) → LaterWorld s v → IsList v.cells (d ∷ ds) lw → (e : CallEnd) (o : WorldState) → CallEnds w (call_to g (f ∷ lw ∷ [])) v e o → ExistsByRows w f (next ∷ rows) v e o)
           → ExistsByRows w f (row ∷ next ∷ rows) s r t
       next-did next rows e r t called again = by r t ((next-iff e r t).0 called)
         where
           first : (y : Value) (u : WorldState) → Evaluates w (on_cars (var 45) (var 46)) q at y u → Calls w (call_to f row) asked.state y u
           first y u h = (ask-iff (Ok y) u).0 h
 
-          by : (r : End) (t : WorldState) → Split (eval_of w (on_cars (var 45) (var 46)) q at) go_on r t → ExistsByRows w f (row ∷ next ∷ rows) s r t
+          by : (r : CallEnd) (t : WorldState) → Split (eval_of w (on_cars (var 45) (var 46)) q at) go_on r t → ExistsByRows w f (row ∷ next ∷ rows) s r t
           by r t (stopped {e = b} h) = some_stops till-asked ((ask-iff (Err b) t).0 h)
           by r t (went y u g1 onward) =
               by-truth (truth_of y) (ExistsByRows w f (row ∷ next ∷ rows) s r t)
@@ -237,7 +237,7 @@ module _ (w : PlainSetting) (knows : Knows w.codes) (f : Value) (p : Place) wher
 
   -- whatever a call came to, it did so
   exists-did : (rows : List (List Value)) (lv l : Value) (more : List Value) (s : WorldState) → Home s.cells p home → IsList s.cells (l ∷ more) lv → InRows s.cells rows (l ∷ more)
-      → (r : End) (t : WorldState) → CallEnds w (call_to g (f ∷ lv ∷ [])) s r t → ExistsByRows w f rows s r t
+      → (r : CallEnd) (t : WorldState) → CallEnds w (call_to g (f ∷ lv ∷ [])) s r t → ExistsByRows w f rows s r t
   exists-did [] lv l more s round lists rs r t called =
       let done = nothing lv l more s round lists (rows-none rs) in
       subst (λ a. ExistsByRows w f [] s r a) (ends-one-state (call_of w (call_to g (f ∷ lv ∷ [])) s) (Ok (truth false)) r (at lv l more s round lists) t done called)
@@ -271,23 +271,23 @@ module _ (w : PlainSetting) (knows : Knows w.codes) (f l : Value) (more : List V
     begun-lists : IsList begun.cells (l ∷ more) lv
     begun-lists = loop.lists-are w s 42 43 ops.EXISTS 53 55 56 57 45 46 exists_loop refl refl is_text enter_names knows.exists_text knows.exists_body f l more
 
-    begun-iff : (e : End) (t : WorldState) → Iff (CallEnds w (call_to (value.Prim (record { 0 = ops.EXISTS })) (f ∷ l ∷ more)) s e t) (CallEnds w (call_to (value.Closure (code_no 43) (home_place w s 42 43)) (f ∷ lv ∷ [])) begun e t)
+    begun-iff : (e : CallEnd) (t : WorldState) → Iff (CallEnds w (call_to (value.Prim (record { 0 = ops.EXISTS })) (f ∷ l ∷ more)) s e t) (CallEnds w (call_to (value.Closure (code_no 43) (home_place w s 42 43)) (f ∷ lv ∷ [])) begun e t)
     begun-iff = loop.entered-iff w s 42 43 ops.EXISTS 53 55 56 57 45 46 exists_loop refl refl is_text enter_names knows.exists_text knows.exists_body f l more
 
-    ended-by : ExistsEnds w f rows s → (e : End) × (t : WorldState) × CallEnds w (call_to (value.Prim (record { 0 = ops.EXISTS })) (f ∷ l ∷ more)) s e t × ExistsByRows w f rows s e t
+    ended-by : ExistsEnds w f rows s → (e : CallEnd) × (t : WorldState) × CallEnds w (call_to (value.Prim (record { 0 = ops.EXISTS })) (f ∷ l ∷ more)) s e t × ExistsByRows w f rows s e t
     ended-by give =
         let m = exists-ends w knows f (home_place w s 42 43) rows lv l more begun begun-home begun-lists (rows-later s begun far-begun r) (exists-ends-later w f rows s begun far-begun give) in
         (m.0, m.1, (begun-iff m.0 m.1).1 m.2, exists-from w f rows m.0 s begun m.1 far-begun m.3)
 
-    did-by : (e : End) (t : WorldState) → CallEnds w (call_to (value.Prim (record { 0 = ops.EXISTS })) (f ∷ l ∷ more)) s e t → ExistsByRows w f rows s e t
+    did-by : (e : CallEnd) (t : WorldState) → CallEnds w (call_to (value.Prim (record { 0 = ops.EXISTS })) (f ∷ l ∷ more)) s e t → ExistsByRows w f rows s e t
     did-by e t called =
         exists-from w f rows e s begun t far-begun
         (exists-did w knows f (home_place w s 42 43) rows lv l more begun begun-home begun-lists (rows-later s begun far-begun r) e t ((begun-iff e t).0 called))
 
-  pub exists-ended : ExistsEnds w f rows s → (e : End) × (t : WorldState) × CallEnds w (call_to (value.Prim (record { 0 = ops.EXISTS })) (f ∷ l ∷ more)) s e t × ExistsByRows w f rows s e t
+  pub exists-ended : ExistsEnds w f rows s → (e : CallEnd) × (t : WorldState) × CallEnds w (call_to (value.Prim (record { 0 = ops.EXISTS })) (f ∷ l ∷ more)) s e t × ExistsByRows w f rows s e t
   unfolding has_text
   exists-ended give = ended-by refl give
 
-  pub exists-only : (e : End) (t : WorldState) → CallEnds w (call_to (value.Prim (record { 0 = ops.EXISTS })) (f ∷ l ∷ more)) s e t → ExistsByRows w f rows s e t
+  pub exists-only : (e : CallEnd) (t : WorldState) → CallEnds w (call_to (value.Prim (record { 0 = ops.EXISTS })) (f ∷ l ∷ more)) s e t → ExistsByRows w f rows s e t
   unfolding has_text
   exists-only e t called = did-by refl e t called

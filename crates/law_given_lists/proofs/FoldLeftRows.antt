@@ -18,7 +18,7 @@ use Rattle.eval_code.specs.Variables.{Entries}
 use Rattle.law_eval.specs.Kept.{LaterWorld}
 use Rattle.law_eval.proofs.Keeping.{later_then, later_with}
 use Rattle.law_lists.specs.Runs.{IsList}
-use Rattle.law_given.specs.Calls.{End, Ends, call_to, call_of, CallEnds, Calls}
+use Rattle.law_given.specs.Calls.{CallEnd, Ends, call_to, call_of, CallEnds, Calls}
 use Rattle.law_given.specs.Codes.{label, code_no, var, prim, formals, one_case, app, car, cars, cdrs, first_is_null, fold_left_loop}
 use Rattle.law_given.proofs.Giving.{Evaluates, ExpressionEnds, primitive-is}
 use Rattle.law_given.proofs.Inside.{Inside, Home, one_home, home-later, inside-later, entered-inside, own, outer}
@@ -48,7 +48,7 @@ module _ (w : PlainSetting) (knows : Knows w.codes) (f : Value) (p : Place) wher
 
   -- the loop on a value and a list of lists that stand in rows
   abbrev Folds : Value → List (List Value) → Value → WorldState → Type 0
-  Folds z rows lv s = (r : End) × (t : WorldState) × CallEnds w (call_to g (f ∷ z ∷ lv ∷ [])) s r t × FoldLeftByRows w f z rows s r t
+  Folds z rows lv s = (r : CallEnd) × (t : WorldState) × CallEnds w (call_to g (f ∷ z ∷ lv ∷ [])) s r t × FoldLeftByRows w f z rows s r t
 
   module _ (z lv l : Value) (ls : List Value) (s : WorldState) (round : Home s.cells p home) (lists : IsList s.cells (l ∷ ls) lv) where
     abbrev vars : Entries
@@ -63,7 +63,7 @@ module _ (w : PlainSetting) (knows : Knows w.codes) (f : Value) (p : Place) wher
     enter : LaterWorld s at
     enter = later_with s (cell.Scope vars (Some p))
 
-    body-iff : (r : End) (t : WorldState) → Iff (CallEnds w (call_to g (f ∷ z ∷ lv ∷ [])) s r t) (ExpressionEnds w fold_left_loop q at r t)
+    body-iff : (r : CallEnd) (t : WorldState) → Iff (CallEnds w (call_to g (f ∷ z ∷ lv ∷ [])) s r t) (ExpressionEnds w fold_left_loop q at r t)
     body-iff r t =
         iff-then (closure-iff w (code_no 94) p (f ∷ z ∷ lv ∷ []) s r t)
         (case-iff w (code_no 94) p (f ∷ z ∷ lv ∷ []) s (procedure_code (code_no 94) (one_case (96 ∷ 97 ∷ 98 ∷ []) None fold_left_loop) true) (formals (96 ∷ 97 ∷ 98 ∷ []) None) fold_left_loop r t knows.fold_left_loop refl)
@@ -102,7 +102,7 @@ module _ (w : PlainSetting) (knows : Knows w.codes) (f : Value) (p : Place) wher
       abbrev on_row : PlainCore
       on_row = app (prim names.APPLY) (var 96 ∷ var 97 ∷ cars (var 98) ∷ [])
 
-      step-iff : (r : End) (t : WorldState) → Iff (ExpressionEnds w on_row q at r t) (CallEnds w (call_to f (z ∷ row)) asked.state r t)
+      step-iff : (r : CallEnd) (t : WorldState) → Iff (ExpressionEnds w on_row q at r t) (CallEnds w (call_to f (z ∷ row)) asked.state r t)
       step-iff r t =
           iff-then
           (three-iff w (prim names.APPLY) (var 96) (var 97) (cars (var 98)) q at at at at asked.state t (value.Prim (record { 0 = names.APPLY })) f z asked.value r
@@ -114,7 +114,7 @@ module _ (w : PlainSetting) (knows : Knows w.codes) (f : Value) (p : Place) wher
       abbrev go_on : Go
       go_on = λ v. operands w (eval_of w) (more (cdrs (var 98)) none) q ((g ∷ f ∷ []) ++ v ∷ [])
 
-      next-iff : (r : End) (t : WorldState) → Iff (CallEnds w (call_to g (f ∷ z ∷ lv ∷ [])) s r t) (Split (eval_of w on_row q at) go_on r t)
+      next-iff : (r : CallEnd) (t : WorldState) → Iff (CallEnds w (call_to g (f ∷ z ∷ lv ∷ [])) s r t) (Split (eval_of w on_row q at) go_on r t)
       next-iff r t =
           iff-then (body-iff r t)
           (iff-then (false-iff w _ _ _ q at at (truth false) r t (first-null false (pair-not-nil s.cells l x d pair)) refl)
@@ -143,12 +143,12 @@ module _ (w : PlainSetting) (knows : Knows w.codes) (f : Value) (p : Place) wher
         far : LaterWorld s left.state
         far = later_then s at left.state enter (later_then at u left.state behind till-left)
 
-        again-iff : (r : End) (t : WorldState) → Real r → Iff (Ends (go_on y u) r t) (CallEnds w (call_to g (f ∷ y ∷ left.value ∷ [])) left.state r t)
+        again-iff : (r : CallEnd) (t : WorldState) → Real r → Iff (Ends (go_on y u) r t) (CallEnds w (call_to g (f ∷ y ∷ left.value ∷ [])) left.state r t)
         again-iff r t real =
             last-iff w (cdrs (var 98)) q g (f ∷ y ∷ []) u left.state left.value r t real
             (cdrs-is w knows u lv (l ∷ ls) lists-then row (d ∷ ds) pairs-then (var 98) q (own w u q vars p home inside-then (label 98) lv refl))
 
-      next-ends : (rows : List (List Value)) (r : End) (u : WorldState) (called : CallEnds w (call_to f (z ∷ row)) asked.state r u) → AfterValue r (λ y. FoldLeftEnds w f y rows u)
+      next-ends : (rows : List (List Value)) (r : CallEnd) (u : WorldState) (called : CallEnds w (call_to f (z ∷ row)) asked.state r u) → AfterValue r (λ y. FoldLeftEnds w f y rows u)
           → ((y : Value) (v : WorldState) (lw : Value) → LaterWorld s v → IsList v.cells (d ∷ ds) lw → FoldLeftEnds w f y rows v → Folds y rows lw v) → Folds z (row ∷ rows) lv s
       next-ends rows (Err b) u called a again = (Err b, u, (next-iff (Err b) u).1 (stopped ((step-iff (Err b) u).1 called)), left_stops till-asked called)
       next-ends rows (Ok y) u called a again =
@@ -160,17 +160,17 @@ module _ (w : PlainSetting) (knows : Knows w.codes) (f : Value) (p : Place) wher
             left_step till-asked called (left-from w f y rows m.0 u (left y u called).state m.1 (till-left y u called) m.3),
           )
 
-      next-did : (rows : List (List Value)) (r : End) (t : WorldState) → CallEnds w (call_to g (f ∷ z ∷ lv ∷ [])) s r t
-          → ((y : Value) (v : WorldState) (lw : Value) → LaterWorld s v → IsList v.cells (d ∷ ds) lw → (e : End) (o : WorldState) → CallEnds w (call_to g (f ∷ y ∷ lw ∷ [])) v e o → FoldLeftByRows w f y rows v e o)
+      next-did : (rows : List (List Value)) (r : CallEnd) (t : WorldState) → CallEnds w (call_to g (f ∷ z ∷ lv ∷ [])) s r t
+          → ((y : Value) (v : WorldState) (lw : Value) → LaterWorld s v → IsList v.cells (d ∷ ds) lw → (e : CallEnd) (o : WorldState) → CallEnds w (call_to g (f ∷ y ∷ lw ∷ [])) v e o → FoldLeftByRows w f y rows v e o)
           → FoldLeftByRows w f z (row ∷ rows) s r t
       next-did rows r t called again = by r t (call-real w g (f ∷ z ∷ lv ∷ []) s r t called) ((next-iff r t).0 called)
         where
-          on : (r : End) (t : WorldState) → Real r → (y : Value) (u : WorldState) (h : Calls w (call_to f (z ∷ row)) asked.state y u) → Ends (go_on y u) r t → FoldLeftByRows w f z (row ∷ rows) s r t
+          on : (r : CallEnd) (t : WorldState) → Real r → (y : Value) (u : WorldState) (h : Calls w (call_to f (z ∷ row)) asked.state y u) → Ends (go_on y u) r t → FoldLeftByRows w f z (row ∷ rows) s r t
           on r t real y u h onward =
               left_step till-asked h
               (left-from w f y rows r u (left y u h).state t (till-left y u h) (again y (left y u h).state (left y u h).value (far y u h) (left y u h).list r t ((again-iff y u h r t real).0 onward)))
 
-          by : (r : End) (t : WorldState) → Real r → Split (eval_of w on_row q at) go_on r t → FoldLeftByRows w f z (row ∷ rows) s r t
+          by : (r : CallEnd) (t : WorldState) → Real r → Split (eval_of w on_row q at) go_on r t → FoldLeftByRows w f z (row ∷ rows) s r t
           by r t real (stopped {e = b} h) = left_stops till-asked ((step-iff (Err b) t).0 h)
           by r t real (went y u h onward) = on r t real y u ((step-iff (Ok y) u).0 h) onward
 
@@ -185,7 +185,7 @@ module _ (w : PlainSetting) (knows : Knows w.codes) (f : Value) (p : Place) wher
 
   -- whatever a call came to, it did so
   fold-left-did : (rows : List (List Value)) (z lv l : Value) (ls : List Value) (s : WorldState) → Home s.cells p home → IsList s.cells (l ∷ ls) lv → InRows s.cells rows (l ∷ ls)
-      → (r : End) (t : WorldState) → CallEnds w (call_to g (f ∷ z ∷ lv ∷ [])) s r t → FoldLeftByRows w f z rows s r t
+      → (r : CallEnd) (t : WorldState) → CallEnds w (call_to g (f ∷ z ∷ lv ∷ [])) s r t → FoldLeftByRows w f z rows s r t
   fold-left-did [] z lv l ls s round lists rs r t called =
       let done = nothing z lv l ls s round lists (rows-none rs) in
       subst (λ a. FoldLeftByRows w f z [] s r a) (ends-one-state (call_of w (call_to g (f ∷ z ∷ lv ∷ [])) s) (Ok z) r (at z lv l ls s round lists) t done called)
@@ -215,23 +215,23 @@ module _ (w : PlainSetting) (knows : Knows w.codes) (f z l : Value) (ls : List V
     begun-lists : IsList begun.cells (l ∷ ls) lv
     begun-lists = text.lists-are w s 93 94 names.FOLD_LEFT 101 103 104 105 106 96 97 98 fold_left_loop refl refl is_text enter_names knows.fold_left_text knows.fold_left_body f z l ls
 
-    begun-iff : (e : End) (t : WorldState) → Iff (CallEnds w (call_to (value.Prim (record { 0 = names.FOLD_LEFT })) (f ∷ z ∷ l ∷ ls)) s e t) (CallEnds w (call_to (value.Closure (code_no 94) (home_place w s 93 94)) (f ∷ z ∷ lv ∷ [])) begun e t)
+    begun-iff : (e : CallEnd) (t : WorldState) → Iff (CallEnds w (call_to (value.Prim (record { 0 = names.FOLD_LEFT })) (f ∷ z ∷ l ∷ ls)) s e t) (CallEnds w (call_to (value.Closure (code_no 94) (home_place w s 93 94)) (f ∷ z ∷ lv ∷ [])) begun e t)
     begun-iff = text.entered-iff w s 93 94 names.FOLD_LEFT 101 103 104 105 106 96 97 98 fold_left_loop refl refl is_text enter_names knows.fold_left_text knows.fold_left_body f z l ls
 
-    ended-by : FoldLeftEnds w f z rows s → (e : End) × (t : WorldState) × CallEnds w (call_to (value.Prim (record { 0 = names.FOLD_LEFT })) (f ∷ z ∷ l ∷ ls)) s e t × FoldLeftByRows w f z rows s e t
+    ended-by : FoldLeftEnds w f z rows s → (e : CallEnd) × (t : WorldState) × CallEnds w (call_to (value.Prim (record { 0 = names.FOLD_LEFT })) (f ∷ z ∷ l ∷ ls)) s e t × FoldLeftByRows w f z rows s e t
     ended-by give =
         let m = fold-left-ends w knows f (home_place w s 93 94) rows z lv l ls begun begun-home begun-lists (rows-later s begun far-begun r) (left-ends-later w f z rows s begun far-begun give) in
         (m.0, m.1, (begun-iff m.0 m.1).1 m.2, left-from w f z rows m.0 s begun m.1 far-begun m.3)
 
-    did-by : (e : End) (t : WorldState) → CallEnds w (call_to (value.Prim (record { 0 = names.FOLD_LEFT })) (f ∷ z ∷ l ∷ ls)) s e t → FoldLeftByRows w f z rows s e t
+    did-by : (e : CallEnd) (t : WorldState) → CallEnds w (call_to (value.Prim (record { 0 = names.FOLD_LEFT })) (f ∷ z ∷ l ∷ ls)) s e t → FoldLeftByRows w f z rows s e t
     did-by e t called =
         left-from w f z rows e s begun t far-begun
         (fold-left-did w knows f (home_place w s 93 94) rows z lv l ls begun begun-home begun-lists (rows-later s begun far-begun r) e t ((begun-iff e t).0 called))
 
-  pub fold-left-ended : FoldLeftEnds w f z rows s → (e : End) × (t : WorldState) × CallEnds w (call_to (value.Prim (record { 0 = names.FOLD_LEFT })) (f ∷ z ∷ l ∷ ls)) s e t × FoldLeftByRows w f z rows s e t
+  pub fold-left-ended : FoldLeftEnds w f z rows s → (e : CallEnd) × (t : WorldState) × CallEnds w (call_to (value.Prim (record { 0 = names.FOLD_LEFT })) (f ∷ z ∷ l ∷ ls)) s e t × FoldLeftByRows w f z rows s e t
   unfolding has_text
   fold-left-ended give = ended-by refl give
 
-  pub fold-left-only : (e : End) (t : WorldState) → CallEnds w (call_to (value.Prim (record { 0 = names.FOLD_LEFT })) (f ∷ z ∷ l ∷ ls)) s e t → FoldLeftByRows w f z rows s e t
+  pub fold-left-only : (e : CallEnd) (t : WorldState) → CallEnds w (call_to (value.Prim (record { 0 = names.FOLD_LEFT })) (f ∷ z ∷ l ∷ ls)) s e t → FoldLeftByRows w f z rows s e t
   unfolding has_text
   fold-left-only e t called = did-by refl e t called

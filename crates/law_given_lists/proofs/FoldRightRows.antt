@@ -24,7 +24,7 @@ use Rattle.law_eval.specs.Kept.{LaterWorld}
 use Rattle.law_eval.proofs.Keeping.{later_then, later_with}
 use Rattle.law_lists.specs.Runs.{Runs, here, next, IsList}
 use Rattle.law_lists.proofs.RunLemmas.{stored_runs, runs_stored}
-use Rattle.law_given.specs.Calls.{End, call_to, call_of, CallEnds, Calls}
+use Rattle.law_given.specs.Calls.{CallEnd, call_to, call_of, CallEnds, Calls}
 use Rattle.law_given.specs.Codes.{label, code_no, var, prim, formals, one_case, app, car, cars, cdrs, first_is_null, fold_right_args, fold_right_loop}
 use Rattle.law_given.proofs.Giving.{Evaluates, ExpressionEnds, primitive-is, call-two}
 use Rattle.law_given.proofs.Inside.{Inside, Home, one_home, home-later, inside-later, entered-inside, own, outer}
@@ -59,7 +59,7 @@ module _ (w : PlainSetting) (knows : Knows w.codes) (f z : Value) (p : Place) wh
 
   -- the loop on a list of lists that stand in rows
   abbrev Folds : List (List Value) → Value → WorldState → Type 0
-  Folds rows lv s = (r : End) × (t : WorldState) × CallEnds w (call_to g (f ∷ z ∷ lv ∷ [])) s r t × FoldRightByRows w f z rows s r t
+  Folds rows lv s = (r : CallEnd) × (t : WorldState) × CallEnds w (call_to g (f ∷ z ∷ lv ∷ [])) s r t × FoldRightByRows w f z rows s r t
 
   module _ (lv l : Value) (ls : List Value) (s : WorldState) (round : Home s.cells p home) (lists : IsList s.cells (l ∷ ls) lv) where
     abbrev vars : Entries
@@ -74,7 +74,7 @@ module _ (w : PlainSetting) (knows : Knows w.codes) (f z : Value) (p : Place) wh
     enter : LaterWorld s at
     enter = later_with s (cell.Scope vars (Some p))
 
-    body-iff : (r : End) (t : WorldState) → Iff (CallEnds w (call_to g (f ∷ z ∷ lv ∷ [])) s r t) (ExpressionEnds w fold_right_loop q at r t)
+    body-iff : (r : CallEnd) (t : WorldState) → Iff (CallEnds w (call_to g (f ∷ z ∷ lv ∷ [])) s r t) (ExpressionEnds w fold_right_loop q at r t)
     body-iff r t =
         iff-then (closure-iff w (code_no 110) p (f ∷ z ∷ lv ∷ []) s r t)
         (case-iff w (code_no 110) p (f ∷ z ∷ lv ∷ []) s (procedure_code (code_no 110) (one_case (112 ∷ 113 ∷ 114 ∷ []) None fold_right_loop) true) (formals (112 ∷ 113 ∷ 114 ∷ []) None) fold_right_loop r t knows.fold_right_loop refl)
@@ -132,7 +132,7 @@ module _ (w : PlainSetting) (knows : Knows w.codes) (f z : Value) (p : Place) wh
       abbrev in_list : PlainCore
       in_list = app (prim ops.LIST) (again ∷ [])
 
-      again-iff : (r : End) (t : WorldState) → Iff (ExpressionEnds w again q asked.state r t) (CallEnds w (call_to g (f ∷ z ∷ left.value ∷ [])) left.state r t)
+      again-iff : (r : CallEnd) (t : WorldState) → Iff (ExpressionEnds w again q asked.state r t) (CallEnds w (call_to g (f ∷ z ∷ left.value ∷ [])) left.state r t)
       again-iff r t =
           three-iff w (var 109) (var 112) (var 113) (cdrs (var 114)) q asked.state asked.state asked.state asked.state left.state t g f z left.value r
           (outer w asked.state q vars p home inside-asked (label 109) g refl refl)
@@ -140,24 +140,24 @@ module _ (w : PlainSetting) (knows : Knows w.codes) (f z : Value) (p : Place) wh
           (cdrs-is w knows asked.state lv (l ∷ ls) lists-asked row (d ∷ ds) pairs-asked (var 114) q (own w asked.state q vars p home inside-asked (label 114) lv refl))
 
       -- (list (go f z (map cdr ls)))
-      list-iff : (r : End) (t : WorldState) → Iff (ExpressionEnds w in_list q asked.state r t) (Split (eval_of w again q asked.state) (λ v. operands w (eval_of w) none q ((value.Prim (record { 0 = ops.LIST }) ∷ []) ++ v ∷ [])) r t)
+      list-iff : (r : CallEnd) (t : WorldState) → Iff (ExpressionEnds w in_list q asked.state r t) (Split (eval_of w again q asked.state) (λ v. operands w (eval_of w) none q ((value.Prim (record { 0 = ops.LIST }) ∷ []) ++ v ∷ [])) r t)
       list-iff r t = first-iff w (prim ops.LIST) again none q asked.state asked.state (value.Prim (record { 0 = ops.LIST })) r t (primitive-is w (record { 0 = ops.LIST }) q asked.state)
 
       cars-read : Evaluates w (cars (var 114)) q at asked.value asked.state
       cars-read = cars-is w knows at lv (l ∷ ls) lists-at row (d ∷ ds) pairs-at (var 114) q list-read
 
       -- (append (map car ls) (list ..))
-      args-iff : (r : End) (t : WorldState)
+      args-iff : (r : CallEnd) (t : WorldState)
           → Iff (ExpressionEnds w fold_right_args q at r t) (Split (eval_of w in_list q asked.state) (λ v. operands w (eval_of w) none q ((value.Prim (record { 0 = ops.APPEND }) ∷ asked.value ∷ []) ++ v ∷ [])) r t)
       args-iff r t = second-iff w (prim ops.APPEND) (cars (var 114)) in_list none q at at asked.state (value.Prim (record { 0 = ops.APPEND })) asked.value r t (primitive-is w (record { 0 = ops.APPEND }) q at) cars-read
 
       abbrev go_on : Go
       go_on = λ v. operands w (eval_of w) none q ((value.Prim (record { 0 = ops.APPLY }) ∷ f ∷ []) ++ v ∷ [])
 
-      not-empty : (r : End) (t : WorldState) → Iff (CallEnds w (call_to g (f ∷ z ∷ lv ∷ [])) s r t) (ExpressionEnds w (app (prim ops.APPLY) (var 112 ∷ fold_right_args ∷ [])) q at r t)
+      not-empty : (r : CallEnd) (t : WorldState) → Iff (CallEnds w (call_to g (f ∷ z ∷ lv ∷ [])) s r t) (ExpressionEnds w (app (prim ops.APPLY) (var 112 ∷ fold_right_args ∷ [])) q at r t)
       not-empty r t = iff-then (body-iff r t) (false-iff w _ _ _ q at at (truth false) r t (first-null false (pair-not-nil s.cells l x d pair)) refl)
 
-      next-iff : (r : End) (t : WorldState) → Iff (CallEnds w (call_to g (f ∷ z ∷ lv ∷ [])) s r t) (Split (eval_of w fold_right_args q at) go_on r t)
+      next-iff : (r : CallEnd) (t : WorldState) → Iff (CallEnds w (call_to g (f ∷ z ∷ lv ∷ [])) s r t) (Split (eval_of w fold_right_args q at) go_on r t)
       next-iff r t =
           iff-then (not-empty r t)
           (second-iff w (prim ops.APPLY) (var 112) fold_right_args none q at at at (value.Prim (record { 0 = ops.APPLY })) f r t (primitive-is w (record { 0 = ops.APPLY }) q at) (own w at q vars p home inside (label 112) f refl))
@@ -201,7 +201,7 @@ module _ (w : PlainSetting) (knows : Knows w.codes) (f z : Value) (p : Place) wh
             (list-is w again q asked.state u y ((again-iff (Ok y) u).1 called))
             (appended w asked.value (next_pair w u) row listed row-elements)
 
-        value-iff : (r : End) (t : WorldState) → Iff (CallEnds w (call_to g (f ∷ z ∷ lv ∷ [])) s r t) (CallEnds w (call_to f (row ++ y ∷ [])) joined r t)
+        value-iff : (r : CallEnd) (t : WorldState) → Iff (CallEnds w (call_to g (f ∷ z ∷ lv ∷ [])) s r t) (CallEnds w (call_to f (row ++ y ∷ [])) joined r t)
         value-iff r t =
             iff-then (not-empty r t)
             (iff-then (two-iff w (prim ops.APPLY) (var 112) fold_right_args q at at at joined t (value.Prim (record { 0 = ops.APPLY })) f arguments r
@@ -213,10 +213,10 @@ module _ (w : PlainSetting) (knows : Knows w.codes) (f z : Value) (p : Place) wh
       fault-ends e u h = (next-iff (Err e) u).1 (stopped ((args-iff (Err e) u).1 (stopped ((list-iff (Err e) u).1 (stopped ((again-iff (Err e) u).1 h))))))
 
       next-ends : (rows : List (List Value)) → Folds rows left.value left.state
-          → ((y : Value) (t u : WorldState) → FoldRightByRows w f z rows s (Ok y) t → LaterWorld t u → (r : End) × (v : WorldState) × CallEnds w (call_to f (row ++ y ∷ [])) u r v) → Folds (row ∷ rows) lv s
+          → ((y : Value) (t u : WorldState) → FoldRightByRows w f z rows s (Ok y) t → LaterWorld t u → (r : CallEnd) × (v : WorldState) × CallEnds w (call_to f (row ++ y ∷ [])) u r v) → Folds (row ∷ rows) lv s
       next-ends rows m give = by m.0 m.1 m.2 (right-from w f z rows m.0 s left.state m.1 far m.3)
         where
-          by : (r : End) (t : WorldState) → CallEnds w (call_to g (f ∷ z ∷ left.value ∷ [])) left.state r t → FoldRightByRows w f z rows s r t → Folds (row ∷ rows) lv s
+          by : (r : CallEnd) (t : WorldState) → CallEnds w (call_to g (f ∷ z ∷ left.value ∷ [])) left.state r t → FoldRightByRows w f z rows s r t → Folds (row ∷ rows) lv s
           by (Err e) t h fold = (Err e, t, fault-ends e t h, right_stops fold)
           by (Ok y) t h fold =
               let made = give y t (joined y t h) fold (joined-later y t h) in
@@ -224,34 +224,34 @@ module _ (w : PlainSetting) (knows : Knows w.codes) (f z : Value) (p : Place) wh
 
       -- what the loop came to, where the arguments came to something
 
-      abbrev LoopCame : End → WorldState → Type 0
+      abbrev LoopCame : CallEnd → WorldState → Type 0
       LoopCame r t = ((y : Value) × (u : WorldState) × Calls w (call_to g (f ∷ z ∷ left.value ∷ [])) left.state y u) ⊎ ((e : Bare) × (Err e ≡ r) × CallEnds w (call_to g (f ∷ z ∷ left.value ∷ [])) left.state (Err e) t)
 
-      of-list : (r : End) (t : WorldState) → Split (eval_of w again q asked.state) (λ v. operands w (eval_of w) none q ((value.Prim (record { 0 = ops.LIST }) ∷ []) ++ v ∷ [])) r t → LoopCame r t
+      of-list : (r : CallEnd) (t : WorldState) → Split (eval_of w again q asked.state) (λ v. operands w (eval_of w) none q ((value.Prim (record { 0 = ops.LIST }) ∷ []) ++ v ∷ [])) r t → LoopCame r t
       of-list r t (went y u h onward) = inl (y, u, (again-iff (Ok y) u).0 h)
       of-list r t (stopped {e = e} h) = inr (e, refl, (again-iff (Err e) t).0 h)
 
-      gave : (r : End) (t : WorldState) (v : Value) → LoopCame (Ok v) t → (y : Value) × (u : WorldState) × Calls w (call_to g (f ∷ z ∷ left.value ∷ [])) left.state y u
+      gave : (r : CallEnd) (t : WorldState) (v : Value) → LoopCame (Ok v) t → (y : Value) × (u : WorldState) × Calls w (call_to g (f ∷ z ∷ left.value ∷ [])) left.state y u
       gave r t v (inl h) = h
       gave r t v (inr h) = let wrong : Err h.0 ≡ Ok v = h.1 in absurd (cc)
 
-      of-args : (r : End) (t : WorldState) → Split (eval_of w in_list q asked.state) (λ v. operands w (eval_of w) none q ((value.Prim (record { 0 = ops.APPEND }) ∷ asked.value ∷ []) ++ v ∷ [])) r t → LoopCame r t
+      of-args : (r : CallEnd) (t : WorldState) → Split (eval_of w in_list q asked.state) (λ v. operands w (eval_of w) none q ((value.Prim (record { 0 = ops.APPEND }) ∷ asked.value ∷ []) ++ v ∷ [])) r t → LoopCame r t
       of-args r t (went v u h onward) = inl (gave (Ok v) u v (of-list (Ok v) u ((list-iff (Ok v) u).0 h)))
       of-args r t (stopped {e = e} h) = of-list (Err e) t ((list-iff (Err e) t).0 h)
 
-      next-did : (rows : List (List Value)) (r : End) (t : WorldState) → CallEnds w (call_to g (f ∷ z ∷ lv ∷ [])) s r t
-          → ((e : End) (o : WorldState) → CallEnds w (call_to g (f ∷ z ∷ left.value ∷ [])) left.state e o → FoldRightByRows w f z rows left.state e o) → FoldRightByRows w f z (row ∷ rows) s r t
+      next-did : (rows : List (List Value)) (r : CallEnd) (t : WorldState) → CallEnds w (call_to g (f ∷ z ∷ lv ∷ [])) s r t
+          → ((e : CallEnd) (o : WorldState) → CallEnds w (call_to g (f ∷ z ∷ left.value ∷ [])) left.state e o → FoldRightByRows w f z rows left.state e o) → FoldRightByRows w f z (row ∷ rows) s r t
       next-did rows r t called more = of-split r t called ((next-iff r t).0 called)
         where
-          by-value : (r : End) (t : WorldState) → CallEnds w (call_to g (f ∷ z ∷ lv ∷ [])) s r t → (y : Value) (u : WorldState) → Calls w (call_to g (f ∷ z ∷ left.value ∷ [])) left.state y u → FoldRightByRows w f z (row ∷ rows) s r t
+          by-value : (r : CallEnd) (t : WorldState) → CallEnds w (call_to g (f ∷ z ∷ lv ∷ [])) s r t → (y : Value) (u : WorldState) → Calls w (call_to g (f ∷ z ∷ left.value ∷ [])) left.state y u → FoldRightByRows w f z (row ∷ rows) s r t
           by-value r t called y u h = right_step (right-from w f z rows (Ok y) s left.state u far (more (Ok y) u h)) (joined-later y u h) ((value-iff y u h r t).0 called)
 
-          by : (r : End) (t : WorldState) → CallEnds w (call_to g (f ∷ z ∷ lv ∷ [])) s r t → LoopCame r t → FoldRightByRows w f z (row ∷ rows) s r t
+          by : (r : CallEnd) (t : WorldState) → CallEnds w (call_to g (f ∷ z ∷ lv ∷ [])) s r t → LoopCame r t → FoldRightByRows w f z (row ∷ rows) s r t
           by r t called (inl h) = by-value r t called h.0 h.1 h.2
           by r t called (inr h) =
               subst (λ a. FoldRightByRows w f z (row ∷ rows) s a t) h.1 (right_stops (right-from w f z rows (Err h.0) s left.state t far (more (Err h.0) t h.2)))
 
-          of-split : (r : End) (t : WorldState) → CallEnds w (call_to g (f ∷ z ∷ lv ∷ [])) s r t → Split (eval_of w fold_right_args q at) go_on r t → FoldRightByRows w f z (row ∷ rows) s r t
+          of-split : (r : CallEnd) (t : WorldState) → CallEnds w (call_to g (f ∷ z ∷ lv ∷ [])) s r t → Split (eval_of w fold_right_args q at) go_on r t → FoldRightByRows w f z (row ∷ rows) s r t
           of-split r t called (stopped {e = e} h) = by (Err e) t called (of-args (Err e) t ((args-iff (Err e) t).0 h))
           of-split r t called (went v u h onward) = let k = gave (Ok v) u v (of-args (Ok v) u ((args-iff (Ok v) u).0 h)) in by-value r t called k.0 k.1 k.2
 
@@ -267,7 +267,7 @@ module _ (w : PlainSetting) (knows : Knows w.codes) (f z : Value) (p : Place) wh
 
   -- whatever a call came to, it did so
   fold-right-did : (rows : List (List Value)) (lv l : Value) (ls : List Value) (s : WorldState) → Home s.cells p home → IsList s.cells (l ∷ ls) lv → InRows s.cells rows (l ∷ ls)
-      → (r : End) (t : WorldState) → CallEnds w (call_to g (f ∷ z ∷ lv ∷ [])) s r t → FoldRightByRows w f z rows s r t
+      → (r : CallEnd) (t : WorldState) → CallEnds w (call_to g (f ∷ z ∷ lv ∷ [])) s r t → FoldRightByRows w f z rows s r t
   fold-right-did [] lv l ls s round lists rs r t called =
       let done = nothing lv l ls s round lists (rows-none rs) in
       subst (λ a. FoldRightByRows w f z [] s r a) (ends-one-state (call_of w (call_to g (f ∷ z ∷ lv ∷ [])) s) (Ok z) r (at lv l ls s round lists) t done called)
@@ -299,23 +299,23 @@ module _ (w : PlainSetting) (knows : Knows w.codes) (f z l : Value) (ls : List V
     begun-lists : IsList begun.cells (l ∷ ls) lv
     begun-lists = text.lists-are w s 109 110 ops.FOLD_RIGHT 117 119 120 121 122 112 113 114 fold_right_loop refl refl is_text enter_names knows.fold_right_text knows.fold_right_body f z l ls
 
-    begun-iff : (e : End) (t : WorldState) → Iff (CallEnds w (call_to (value.Prim (record { 0 = ops.FOLD_RIGHT })) (f ∷ z ∷ l ∷ ls)) s e t) (CallEnds w (call_to (value.Closure (code_no 110) (home_place w s 109 110)) (f ∷ z ∷ lv ∷ [])) begun e t)
+    begun-iff : (e : CallEnd) (t : WorldState) → Iff (CallEnds w (call_to (value.Prim (record { 0 = ops.FOLD_RIGHT })) (f ∷ z ∷ l ∷ ls)) s e t) (CallEnds w (call_to (value.Closure (code_no 110) (home_place w s 109 110)) (f ∷ z ∷ lv ∷ [])) begun e t)
     begun-iff = text.entered-iff w s 109 110 ops.FOLD_RIGHT 117 119 120 121 122 112 113 114 fold_right_loop refl refl is_text enter_names knows.fold_right_text knows.fold_right_body f z l ls
 
-    ended-by : FoldRightEnds w f z rows s → (e : End) × (t : WorldState) × CallEnds w (call_to (value.Prim (record { 0 = ops.FOLD_RIGHT })) (f ∷ z ∷ l ∷ ls)) s e t × FoldRightByRows w f z rows s e t
+    ended-by : FoldRightEnds w f z rows s → (e : CallEnd) × (t : WorldState) × CallEnds w (call_to (value.Prim (record { 0 = ops.FOLD_RIGHT })) (f ∷ z ∷ l ∷ ls)) s e t × FoldRightByRows w f z rows s e t
     ended-by give =
         let m = fold-right-ends w knows f z (home_place w s 109 110) rows lv l ls begun begun-home begun-lists (rows-later s begun far-begun r) (right-ends-later w f z rows s begun far-begun give) in
         (m.0, m.1, (begun-iff m.0 m.1).1 m.2, right-from w f z rows m.0 s begun m.1 far-begun m.3)
 
-    did-by : (e : End) (t : WorldState) → CallEnds w (call_to (value.Prim (record { 0 = ops.FOLD_RIGHT })) (f ∷ z ∷ l ∷ ls)) s e t → FoldRightByRows w f z rows s e t
+    did-by : (e : CallEnd) (t : WorldState) → CallEnds w (call_to (value.Prim (record { 0 = ops.FOLD_RIGHT })) (f ∷ z ∷ l ∷ ls)) s e t → FoldRightByRows w f z rows s e t
     did-by e t called =
         right-from w f z rows e s begun t far-begun
         (fold-right-did w knows f z (home_place w s 109 110) rows lv l ls begun begun-home begun-lists (rows-later s begun far-begun r) e t ((begun-iff e t).0 called))
 
-  pub fold-right-ended : FoldRightEnds w f z rows s → (e : End) × (t : WorldState) × CallEnds w (call_to (value.Prim (record { 0 = ops.FOLD_RIGHT })) (f ∷ z ∷ l ∷ ls)) s e t × FoldRightByRows w f z rows s e t
+  pub fold-right-ended : FoldRightEnds w f z rows s → (e : CallEnd) × (t : WorldState) × CallEnds w (call_to (value.Prim (record { 0 = ops.FOLD_RIGHT })) (f ∷ z ∷ l ∷ ls)) s e t × FoldRightByRows w f z rows s e t
   unfolding has_text
   fold-right-ended give = ended-by refl give
 
-  pub fold-right-only : (e : End) (t : WorldState) → CallEnds w (call_to (value.Prim (record { 0 = ops.FOLD_RIGHT })) (f ∷ z ∷ l ∷ ls)) s e t → FoldRightByRows w f z rows s e t
+  pub fold-right-only : (e : CallEnd) (t : WorldState) → CallEnds w (call_to (value.Prim (record { 0 = ops.FOLD_RIGHT })) (f ∷ z ∷ l ∷ ls)) s e t → FoldRightByRows w f z rows s e t
   unfolding has_text
   fold-right-only e t called = did-by refl e t called

@@ -16,7 +16,7 @@ use Rattle.eval_code.specs.Variables.{Entries}
 use Rattle.law_eval.specs.Kept.{LaterWorld}
 use Rattle.law_eval.proofs.Keeping.{later_then, later_with}
 use Rattle.law_lists.specs.Runs.{IsList}
-use Rattle.law_given.specs.Calls.{End, call_to, CallEnds}
+use Rattle.law_given.specs.Calls.{CallEnd, call_to, CallEnds}
 use Rattle.law_given.specs.Codes.{label, code_no, var, formals, one_case, lambda, cons, text_code, enter_fold}
 use Rattle.law_given.proofs.Giving.{procedure-is}
 use Rattle.law_given.proofs.Inside.{Inside, Home, one_home, entered-inside, own, outer, letrec-is}
@@ -100,7 +100,7 @@ module _ (w : PlainSetting) (s : WorldState) (go code : ℕ) (op k a b c d : ℕ
   pub lists-are : IsList loop_state.cells (l ∷ more) lists_value
   lists-are = list-more inner.cells l (rest_list more at_ready) more (list-later kept inner kept-inner more (rest_list more at_ready) (rest-is more at_ready))
 
-  pub entered-iff : (e : End) (t : WorldState) → Iff (CallEnds w (call_to (value.Prim (record { 0 = op })) (f ∷ z ∷ l ∷ more)) s e t) (CallEnds w (call_to (value.Closure (code_no code) home_at) (f ∷ z ∷ lists_value ∷ [])) loop_state e t)
+  pub entered-iff : (e : CallEnd) (t : WorldState) → Iff (CallEnds w (call_to (value.Prim (record { 0 = op })) (f ∷ z ∷ l ∷ more)) s e t) (CallEnds w (call_to (value.Closure (code_no code) home_at) (f ∷ z ∷ lists_value ∷ [])) loop_state e t)
   entered-iff e t =
       iff-then
       (text-iff w (record { 0 = op }) (f ∷ z ∷ l ∷ more) s at_ready t (text_code op (loop_text go code (m ∷ n ∷ o ∷ []) body given)) (loop_text go code (m ∷ n ∷ o ∷ []) body given) (code_no k) home_at e other yes_text text refl

@@ -18,7 +18,7 @@ use Rattle.law_eval.specs.Kept.{LaterWorld}
 use Rattle.law_eval.proofs.Keeping.{later_then}
 use Rattle.law_lists.specs.Runs.{IsList}
 use Rattle.law_lists.proofs.RunLemmas.{pair_still}
-use Rattle.law_given.specs.Calls.{End, Ends, call_to, call_of, CallEnds, Calls}
+use Rattle.law_given.specs.Calls.{CallEnd, Ends, call_to, call_of, CallEnds, Calls}
 use Rattle.law_given.specs.Codes.{label, code_no, var, app, datum_at, cdrs, on_cars, for_all_loop}
 use Rattle.law_given.proofs.FindLoop.{by-truth}
 use Rattle.law_given.proofs.Giving.{Evaluates, ExpressionEnds}
@@ -52,7 +52,7 @@ module _ (w : PlainSetting) (knows : Knows w.codes) (f : Value) (p : Place) wher
 
   -- the loop on a list of lists that stand in rows
   abbrev Holds : List (List Value) → Value → WorldState → Type 0
-  Holds rows lv s = (r : End) × (t : WorldState) × CallEnds w (call_to g (f ∷ lv ∷ [])) s r t × ForAllByRows w f rows s r t
+  Holds rows lv s = (r : CallEnd) × (t : WorldState) × CallEnds w (call_to g (f ∷ lv ∷ [])) s r t × ForAllByRows w f rows s r t
 
   module _ (lv l : Value) (more : List Value) (s : WorldState) (round : Home s.cells p home) (lists : IsList s.cells (l ∷ more) lv) where
     abbrev at : WorldState
@@ -64,7 +64,7 @@ module _ (w : PlainSetting) (knows : Knows w.codes) (f : Value) (p : Place) wher
     enter : LaterWorld s at
     enter = entered-later w 29 28 31 32 for_all_loop knows.for_all_loop p home names f lv s round
 
-    body-iff : (r : End) (t : WorldState) → Iff (CallEnds w (call_to g (f ∷ lv ∷ [])) s r t) (ExpressionEnds w for_all_loop q at r t)
+    body-iff : (r : CallEnd) (t : WorldState) → Iff (CallEnds w (call_to g (f ∷ lv ∷ [])) s r t) (ExpressionEnds w for_all_loop q at r t)
     body-iff = loop.body-iff w knows 29 28 31 32 for_all_loop knows.for_all_loop p home names f lv s round
 
     nothing : l ≡ nil → Calls w (call_to g (f ∷ lv ∷ [])) s (truth true) at
@@ -87,11 +87,11 @@ module _ (w : PlainSetting) (knows : Knows w.codes) (f : Value) (p : Place) wher
       till-asked : LaterWorld s asked.state
       till-asked = later_then s at asked.state enter asked-at
 
-      ask-iff : (r : End) (t : WorldState) → Iff (ExpressionEnds w (on_cars (var 31) (var 32)) q at r t) (CallEnds w (call_to f row) asked.state r t)
+      ask-iff : (r : CallEnd) (t : WorldState) → Iff (ExpressionEnds w (on_cars (var 31) (var 32)) q at r t) (CallEnds w (call_to f row) asked.state r t)
       ask-iff = loop.ask-iff w knows 29 28 31 32 for_all_loop knows.for_all_loop p home names f lv s round l more lists at (later-refl at) row (d ∷ ds) pairs
 
       -- the last row
-      last-iff : d ≡ nil → (r : End) (t : WorldState) → Iff (CallEnds w (call_to g (f ∷ lv ∷ [])) s r t) (CallEnds w (call_to f row) asked.state r t)
+      last-iff : d ≡ nil → (r : CallEnd) (t : WorldState) → Iff (CallEnds w (call_to g (f ∷ lv ∷ [])) s r t) (CallEnds w (call_to f row) asked.state r t)
       last-iff e r t =
           iff-then (body-iff r t)
           (iff-then (false-iff w _ _ _ q at at (truth false) r t (loop.first-null w knows 29 28 31 32 for_all_loop knows.for_all_loop p home names f lv s round l more lists at (later-refl at) false (pair-not-nil s.cells l x d pair)) refl)
@@ -102,7 +102,7 @@ module _ (w : PlainSetting) (knows : Knows w.codes) (f : Value) (p : Place) wher
       no_more = datum_at ops.FOR_ALL 163 165 (a.Bool false)
 
       -- a row before it
-      next-iff : is_nil d ≡ false → (r : End) (t : WorldState) → Iff (CallEnds w (call_to g (f ∷ lv ∷ [])) s r t) (Split (eval_of w (on_cars (var 31) (var 32)) q at) (two_arms w (eval_of w) (app (var 28) (var 31 ∷ cdrs (var 32) ∷ [])) no_more q) r t)
+      next-iff : is_nil d ≡ false → (r : CallEnd) (t : WorldState) → Iff (CallEnds w (call_to g (f ∷ lv ∷ [])) s r t) (Split (eval_of w (on_cars (var 31) (var 32)) q at) (two_arms w (eval_of w) (app (var 28) (var 31 ∷ cdrs (var 32) ∷ [])) no_more q) r t)
       next-iff e r t =
           iff-then (body-iff r t)
           (iff-then (false-iff w _ _ _ q at at (truth false) r t (loop.first-null w knows 29 28 31 32 for_all_loop knows.for_all_loop p home names f lv s round l more lists at (later-refl at) false (pair-not-nil s.cells l x d pair)) refl)
@@ -124,7 +124,7 @@ module _ (w : PlainSetting) (knows : Knows w.codes) (f : Value) (p : Place) wher
         far : LaterWorld s left.state
         far = later_then s at left.state enter (later_then at u left.state behind till-left)
 
-        again-iff : truth_of y ≡ true → (r : End) (t : WorldState) → Iff (Ends ((two_arms w (eval_of w) (app (var 28) (var 31 ∷ cdrs (var 32) ∷ [])) no_more q) y u) r t) (CallEnds w (call_to g (f ∷ left.value ∷ [])) left.state r t)
+        again-iff : truth_of y ≡ true → (r : CallEnd) (t : WorldState) → Iff (Ends ((two_arms w (eval_of w) (app (var 28) (var 31 ∷ cdrs (var 32) ∷ [])) no_more q) y u) r t) (CallEnds w (call_to g (f ∷ left.value ∷ [])) left.state r t)
         again-iff e r t =
             iff-then (true-arm w (app (var 28) (var 31 ∷ cdrs (var 32) ∷ [])) no_more q y u r t e)
             (loop.again-iff w knows 29 28 31 32 for_all_loop knows.for_all_loop p home names f lv s round l more lists u behind row (d ∷ ds) pairs r t)
@@ -132,7 +132,7 @@ module _ (w : PlainSetting) (knows : Knows w.codes) (f : Value) (p : Place) wher
         ends-here : truth_of y ≡ false → Ends ((two_arms w (eval_of w) (app (var 28) (var 31 ∷ cdrs (var 32) ∷ [])) no_more q) y u) (Ok (truth false)) u
         ends-here e = (false-arm w (app (var 28) (var 31 ∷ cdrs (var 32) ∷ [])) no_more q y u (Ok (truth false)) u e).1 (bool-is w _ false q u)
 
-      next-ends : (next : List Value) (rows : List (List Value)) → is_nil d ≡ false → (r : End) (u : WorldState) (called : CallEnds w (call_to f row) asked.state r u)
+      next-ends : (next : List Value) (rows : List (List Value)) → is_nil d ≡ false → (r : CallEnd) (u : WorldState) (called : CallEnds w (call_to f row) asked.state r u)
           → AfterValue r (λ y. truth_of y ≡ true → ForAllEnds w f (next ∷ rows) u)
           → ((v : WorldState) (lw : Value) → LaterWorld s v → IsList v.cells (d ∷ ds) lw → ForAllEnds w f (next ∷ rows) v → Holds (next ∷ rows) lw v) → Holds (row ∷ next ∷ rows) lv s
       next-ends next rows e (Err b) u called a again = (Err b, u, (next-iff e (Err b) u).1 (stopped ((ask-iff (Err b) u).1 called)), all_stops till-asked called)
@@ -146,15 +146,15 @@ module _ (w : PlainSetting) (knows : Knows w.codes) (f : Value) (p : Place) wher
           ))
           (λ is. (Ok (truth false), u, (next-iff e (Ok (truth false)) u).1 (went y u ((ask-iff (Ok y) u).1 called) (ends-here y u called is)), all_but till-asked called is))
 
-      next-did : (next : List Value) (rows : List (List Value)) → is_nil d ≡ false → (r : End) (t : WorldState) → CallEnds w (call_to g (f ∷ lv ∷ [])) s r t
-          → ((v : WorldState) (lw : Value) → LaterWorld s v → IsList v.cells (d ∷ ds) lw → (e : End) (o : WorldState) → CallEnds w (call_to g (f ∷ lw ∷ [])) v e o → ForAllByRows w f (next ∷ rows) v e o)
+      next-did : (next : List Value) (rows : List (List Value)) → is_nil d ≡ false → (r : CallEnd) (t : WorldState) → CallEnds w (call_to g (f ∷ lv ∷ [])) s r t
+          → ((v : WorldState) (lw : Value) → LaterWorld s v → IsList v.cells (d ∷ ds) lw → (e : CallEnd) (o : WorldState) → CallEnds w (call_to g (f ∷ lw ∷ [])) v e o → ForAllByRows w f (next ∷ rows) v e o)
           → ForAllByRows w f (row ∷ next ∷ rows) s r t
       next-did next rows e r t called again = by r t ((next-iff e r t).0 called)
         where
           first : (y : Value) (u : WorldState) → Evaluates w (on_cars (var 31) (var 32)) q at y u → Calls w (call_to f row) asked.state y u
           first y u h = (ask-iff (Ok y) u).0 h
 
-          by : (r : End) (t : WorldState) → Split (eval_of w (on_cars (var 31) (var 32)) q at) (two_arms w (eval_of w) (app (var 28) (var 31 ∷ cdrs (var 32) ∷ [])) no_more q) r t → ForAllByRows w f (row ∷ next ∷ rows) s r t
+          by : (r : CallEnd) (t : WorldState) → Split (eval_of w (on_cars (var 31) (var 32)) q at) (two_arms w (eval_of w) (app (var 28) (var 31 ∷ cdrs (var 32) ∷ [])) no_more q) r t → ForAllByRows w f (row ∷ next ∷ rows) s r t
           by r t (stopped {e = b} h) = all_stops till-asked ((ask-iff (Err b) t).0 h)
           by r t (went y u g1 onward) =
               by-truth (truth_of y) (ForAllByRows w f (row ∷ next ∷ rows) s r t)
@@ -183,7 +183,7 @@ module _ (w : PlainSetting) (knows : Knows w.codes) (f : Value) (p : Place) wher
 
   -- whatever a call came to, it did so
   for-all-did : (rows : List (List Value)) (lv l : Value) (more : List Value) (s : WorldState) → Home s.cells p home → IsList s.cells (l ∷ more) lv → InRows s.cells rows (l ∷ more)
-      → (r : End) (t : WorldState) → CallEnds w (call_to g (f ∷ lv ∷ [])) s r t → ForAllByRows w f rows s r t
+      → (r : CallEnd) (t : WorldState) → CallEnds w (call_to g (f ∷ lv ∷ [])) s r t → ForAllByRows w f rows s r t
   for-all-did [] lv l more s round lists rs r t called =
       let done = nothing lv l more s round lists (rows-none rs) in
       subst (λ a. ForAllByRows w f [] s r a) (ends-one-state (call_of w (call_to g (f ∷ lv ∷ [])) s) (Ok (truth true)) r (at lv l more s round lists) t done called)
@@ -217,23 +217,23 @@ module _ (w : PlainSetting) (knows : Knows w.codes) (f l : Value) (more : List V
     begun-lists : IsList begun.cells (l ∷ more) lv
     begun-lists = loop.lists-are w s 28 29 ops.FOR_ALL 35 37 38 39 31 32 for_all_loop refl refl is_text enter_names knows.for_all_text knows.for_all_body f l more
 
-    begun-iff : (e : End) (t : WorldState) → Iff (CallEnds w (call_to (value.Prim (record { 0 = ops.FOR_ALL })) (f ∷ l ∷ more)) s e t) (CallEnds w (call_to (value.Closure (code_no 29) (home_place w s 28 29)) (f ∷ lv ∷ [])) begun e t)
+    begun-iff : (e : CallEnd) (t : WorldState) → Iff (CallEnds w (call_to (value.Prim (record { 0 = ops.FOR_ALL })) (f ∷ l ∷ more)) s e t) (CallEnds w (call_to (value.Closure (code_no 29) (home_place w s 28 29)) (f ∷ lv ∷ [])) begun e t)
     begun-iff = loop.entered-iff w s 28 29 ops.FOR_ALL 35 37 38 39 31 32 for_all_loop refl refl is_text enter_names knows.for_all_text knows.for_all_body f l more
 
-    ended-by : ForAllEnds w f rows s → (e : End) × (t : WorldState) × CallEnds w (call_to (value.Prim (record { 0 = ops.FOR_ALL })) (f ∷ l ∷ more)) s e t × ForAllByRows w f rows s e t
+    ended-by : ForAllEnds w f rows s → (e : CallEnd) × (t : WorldState) × CallEnds w (call_to (value.Prim (record { 0 = ops.FOR_ALL })) (f ∷ l ∷ more)) s e t × ForAllByRows w f rows s e t
     ended-by give =
         let m = for-all-ends w knows f (home_place w s 28 29) rows lv l more begun begun-home begun-lists (rows-later s begun far-begun r) (for-all-ends-later w f rows s begun far-begun give) in
         (m.0, m.1, (begun-iff m.0 m.1).1 m.2, all-from w f rows m.0 s begun m.1 far-begun m.3)
 
-    did-by : (e : End) (t : WorldState) → CallEnds w (call_to (value.Prim (record { 0 = ops.FOR_ALL })) (f ∷ l ∷ more)) s e t → ForAllByRows w f rows s e t
+    did-by : (e : CallEnd) (t : WorldState) → CallEnds w (call_to (value.Prim (record { 0 = ops.FOR_ALL })) (f ∷ l ∷ more)) s e t → ForAllByRows w f rows s e t
     did-by e t called =
         all-from w f rows e s begun t far-begun
         (for-all-did w knows f (home_place w s 28 29) rows lv l more begun begun-home begun-lists (rows-later s begun far-begun r) e t ((begun-iff e t).0 called))
 
-  pub for-all-ended : ForAllEnds w f rows s → (e : End) × (t : WorldState) × CallEnds w (call_to (value.Prim (record { 0 = ops.FOR_ALL })) (f ∷ l ∷ more)) s e t × ForAllByRows w f rows s e t
+  pub for-all-ended : ForAllEnds w f rows s → (e : CallEnd) × (t : WorldState) × CallEnds w (call_to (value.Prim (record { 0 = ops.FOR_ALL })) (f ∷ l ∷ more)) s e t × ForAllByRows w f rows s e t
   unfolding has_text
   for-all-ended give = ended-by refl give
 
-  pub for-all-only : (e : End) (t : WorldState) → CallEnds w (call_to (value.Prim (record { 0 = ops.FOR_ALL })) (f ∷ l ∷ more)) s e t → ForAllByRows w f rows s e t
+  pub for-all-only : (e : CallEnd) (t : WorldState) → CallEnds w (call_to (value.Prim (record { 0 = ops.FOR_ALL })) (f ∷ l ∷ more)) s e t → ForAllByRows w f rows s e t
   unfolding has_text
   for-all-only e t called = did-by refl e t called

@@ -21,7 +21,7 @@ use Rattle.eval_code.specs.Variables.{Entries}
 use Rattle.law_eval.specs.Kept.{LaterWorld}
 use Rattle.law_eval.proofs.Keeping.{later_then, later_with}
 use Rattle.law_lists.specs.Runs.{here, IsList}
-use Rattle.law_given.specs.Calls.{End, call_to, call_of, CallEnds, Calls}
+use Rattle.law_given.specs.Calls.{CallEnd, call_to, call_of, CallEnds, Calls}
 use Rattle.law_given.specs.Codes.{label, code_no, var, prim, formals, one_case, app, car, cons, first_is_null, text_code, map_many, map_body, map_text}
 use Rattle.law_given.proofs.Giving.{Evaluates, ExpressionEnds, primitive-is, operand-stops, call-two}
 use Rattle.law_given.proofs.Inside.{Inside, Home, home-later, inside-later, entered-inside, own, outer}
@@ -43,7 +43,7 @@ use Rattle.law_given_lists.proofs.Splitting.{Iff, iff-then, Split, went, stopped
 use Rattle.law_given_lists.proofs.Steps.{call-real, true-iff, false-iff, first-iff, operand-split, two-iff, apply-iff, closure-iff, case-iff, text-iff}
 
 -- what was done from a later state on was done from an earlier one on
-did-from : (w : PlainSetting) (f : Value) (rows : List (List Value)) (r : End) (o s t : WorldState) → LaterWorld o s → MapDid w f rows s r t → MapDid w f rows o r t
+did-from : (w : PlainSetting) (f : Value) (rows : List (List Value)) (r : CallEnd) (o s t : WorldState) → LaterWorld o s → MapDid w f rows s r t → MapDid w f rows o r t
 did-from w f rows (Ok v) o s t k d = (d.0, in-turn-from w f rows d.0 o s t k d.1, d.2)
 did-from w f rows (Err e) o s t k d = stops-from w f rows e o s t k d
 
@@ -56,7 +56,7 @@ module _ (w : PlainSetting) (knows : Knows w.codes) (f : Value) (p : Place) wher
   one = value.Closure (code_no 4) p
 
   abbrev Gives : List (List Value) → Value → WorldState → Type 0
-  Gives rows lv s = (r : End) × (t : WorldState) × CallEnds w (call_to g (f ∷ lv ∷ [])) s r t × MapDid w f rows s r t
+  Gives rows lv s = (r : CallEnd) × (t : WorldState) × CallEnds w (call_to g (f ∷ lv ∷ [])) s r t × MapDid w f rows s r t
 
   module _ (lv l : Value) (ls : List Value) (s : WorldState) (round : Home s.cells p (map_home p)) (lists : IsList s.cells (l ∷ ls) lv) where
     abbrev vars : Entries
@@ -71,7 +71,7 @@ module _ (w : PlainSetting) (knows : Knows w.codes) (f : Value) (p : Place) wher
     enter : LaterWorld s at
     enter = later_with s (cell.Scope vars (Some p))
 
-    body-iff : (r : End) (t : WorldState) → Iff (CallEnds w (call_to g (f ∷ lv ∷ [])) s r t) (ExpressionEnds w map_many q at r t)
+    body-iff : (r : CallEnd) (t : WorldState) → Iff (CallEnds w (call_to g (f ∷ lv ∷ [])) s r t) (ExpressionEnds w map_many q at r t)
     body-iff r t =
         iff-then (closure-iff w (code_no 9) p (f ∷ lv ∷ []) s r t)
         (case-iff w (code_no 9) p (f ∷ lv ∷ []) s (procedure_code (code_no 9) (one_case (11 ∷ 12 ∷ []) None map_many) true) (formals (11 ∷ 12 ∷ []) None) map_many r t knows.map_many refl)
@@ -130,7 +130,7 @@ module _ (w : PlainSetting) (knows : Knows w.codes) (f : Value) (p : Place) wher
       abbrev on_rest : PlainCore
       on_rest = app (var 3) (var 11 ∷ app (var 2) (prim names.CDR ∷ var 12 ∷ []) ∷ [])
 
-      ask-iff : (r : End) (t : WorldState) → Iff (ExpressionEnds w on_row q at r t) (CallEnds w (call_to f row) asked.state r t)
+      ask-iff : (r : CallEnd) (t : WorldState) → Iff (ExpressionEnds w on_row q at r t) (CallEnds w (call_to f row) asked.state r t)
       ask-iff r t =
           iff-then
           (two-iff w (prim names.APPLY) (var 11) (app (var 2) (prim names.CAR ∷ var 12 ∷ [])) q at at at asked.state t (value.Prim (record { 0 = names.APPLY })) f asked.value r
@@ -141,7 +141,7 @@ module _ (w : PlainSetting) (knows : Knows w.codes) (f : Value) (p : Place) wher
       abbrev go_on : Go
       go_on = λ v. operands w (eval_of w) (more on_rest none) q ((value.Prim (record { 0 = names.CONS }) ∷ []) ++ v ∷ [])
 
-      next-iff : (r : End) (t : WorldState) → Iff (CallEnds w (call_to g (f ∷ lv ∷ [])) s r t) (Split (eval_of w on_row q at) go_on r t)
+      next-iff : (r : CallEnd) (t : WorldState) → Iff (CallEnds w (call_to g (f ∷ lv ∷ [])) s r t) (Split (eval_of w on_row q at) go_on r t)
       next-iff r t =
           iff-then (body-iff r t)
           (iff-then (false-iff w _ _ _ q at at (truth false) r t (first-null false (pair-not-nil s.cells l x d pair)) refl)
@@ -160,7 +160,7 @@ module _ (w : PlainSetting) (knows : Knows w.codes) (f : Value) (p : Place) wher
         far : LaterWorld s left.state
         far = later_then s at left.state enter (later_then at u left.state behind till-left)
 
-        again-iff : (r : End) (t : WorldState) → Iff (ExpressionEnds w on_rest q u r t) (CallEnds w (call_to g (f ∷ left.value ∷ [])) left.state r t)
+        again-iff : (r : CallEnd) (t : WorldState) → Iff (ExpressionEnds w on_rest q u r t) (CallEnds w (call_to g (f ∷ left.value ∷ [])) left.state r t)
         again-iff r t =
             two-iff w (var 3) (var 11) (app (var 2) (prim names.CDR ∷ var 12 ∷ [])) q u u u left.state t g f left.value r
             (outer w u q vars p (map_home p) (inside-then u behind) (label 3) g refl refl) (own w u q vars p (map_home p) (inside-then u behind) (label 11) f refl)
@@ -184,38 +184,38 @@ module _ (w : PlainSetting) (knows : Knows w.codes) (f : Value) (p : Place) wher
           list-more t.cells y v did.0 did.2,
         )
 
-      next-ends : (rows : List (List Value)) (r : End) (u : WorldState) (called : CallEnds w (call_to f row) asked.state r u) → AfterValue r (λ _. AllEnd w f rows u)
+      next-ends : (rows : List (List Value)) (r : CallEnd) (u : WorldState) (called : CallEnds w (call_to f row) asked.state r u) → AfterValue r (λ _. AllEnd w f rows u)
           → ((v : WorldState) (lw : Value) → LaterWorld s v → IsList v.cells (d ∷ ds) lw → AllEnd w f rows v → Gives rows lw v) → Gives (row ∷ rows) lv s
       next-ends rows (Err b) u called a again = (Err b, u, (next-iff (Err b) u).1 (stopped ((ask-iff (Err b) u).1 called)), stops_here till-asked called)
       next-ends rows (Ok y) u called a again =
           let m = again (left y u called).state (left y u called).value (far y u called) (left y u called).list (all-end-later w f rows u (left y u called).state (till-left y u called) a) in
           by m.0 m.1 m.2 (did-from w f rows m.0 u (left y u called).state m.1 (till-left y u called) m.3)
         where
-          by : (r : End) (t : WorldState) → CallEnds w (call_to g (f ∷ (left y u called).value ∷ [])) (left y u called).state r t → MapDid w f rows u r t → Gives (row ∷ rows) lv s
+          by : (r : CallEnd) (t : WorldState) → CallEnds w (call_to g (f ∷ (left y u called).value ∷ [])) (left y u called).state r t → MapDid w f rows u r t → Gives (row ∷ rows) lv s
           by (Ok v) t h did = (Ok (next_pair w t), with_cell (cell.Pair y v) t, paired y u called v t h, whole y u called rows v t did)
           by (Err e) t h did = (Err e, t, fault-behind y u called e t h, stops_behind till-asked called did)
 
-      next-did : (rows : List (List Value)) (r : End) (t : WorldState) → CallEnds w (call_to g (f ∷ lv ∷ [])) s r t
-          → ((v : WorldState) (lw : Value) → LaterWorld s v → IsList v.cells (d ∷ ds) lw → (e : End) (o : WorldState) → CallEnds w (call_to g (f ∷ lw ∷ [])) v e o → MapDid w f rows v e o)
+      next-did : (rows : List (List Value)) (r : CallEnd) (t : WorldState) → CallEnds w (call_to g (f ∷ lv ∷ [])) s r t
+          → ((v : WorldState) (lw : Value) → LaterWorld s v → IsList v.cells (d ∷ ds) lw → (e : CallEnd) (o : WorldState) → CallEnds w (call_to g (f ∷ lw ∷ [])) v e o → MapDid w f rows v e o)
           → MapDid w f (row ∷ rows) s r t
       next-did rows r t called again = by r t called ((next-iff r t).0 called)
         where
-          of-rest : (y : Value) (u : WorldState) (h : Calls w (call_to f row) asked.state y u) (e : End) (o : WorldState) → ExpressionEnds w on_rest q u e o → MapDid w f rows u e o
+          of-rest : (y : Value) (u : WorldState) (h : Calls w (call_to f row) asked.state y u) (e : CallEnd) (o : WorldState) → ExpressionEnds w on_rest q u e o → MapDid w f rows u e o
           of-rest y u h e o k =
               did-from w f rows e u (left y u h).state o (till-left y u h) (again (left y u h).state (left y u h).value (far y u h) (left y u h).list e o ((again-iff y u h e o).0 k))
 
-          same : (r : End) (t : WorldState) → CallEnds w (call_to g (f ∷ lv ∷ [])) s r t → (e : End) (o : WorldState) → CallEnds w (call_to g (f ∷ lv ∷ [])) s e o → MapDid w f (row ∷ rows) s e o → MapDid w f (row ∷ rows) s r t
+          same : (r : CallEnd) (t : WorldState) → CallEnds w (call_to g (f ∷ lv ∷ [])) s r t → (e : CallEnd) (o : WorldState) → CallEnds w (call_to g (f ∷ lv ∷ [])) s e o → MapDid w f (row ∷ rows) s e o → MapDid w f (row ∷ rows) s r t
           same r t called e o other did =
               subst (λ a. MapDid w f (row ∷ rows) s r a) (ends-one-state (call_of w (call_to g (f ∷ lv ∷ [])) s) e r o t other called)
               (subst (λ a. MapDid w f (row ∷ rows) s a o) (ends-one-end (call_of w (call_to g (f ∷ lv ∷ [])) s) e r o t other called) did)
 
-          of-operand : (y : Value) (u : WorldState) (h : Calls w (call_to f row) asked.state y u) (r : End) (t : WorldState) → CallEnds w (call_to g (f ∷ lv ∷ [])) s r t
+          of-operand : (y : Value) (u : WorldState) (h : Calls w (call_to f row) asked.state y u) (r : CallEnd) (t : WorldState) → CallEnds w (call_to g (f ∷ lv ∷ [])) s r t
               → Split (eval_of w on_rest q u) (λ v. operands w (eval_of w) none q ((value.Prim (record { 0 = names.CONS }) ∷ y ∷ []) ++ v ∷ [])) r t → MapDid w f (row ∷ rows) s r t
           of-operand y u h r t called (stopped {e = e} k) = stops_behind till-asked h (of-rest y u h (Err e) t k)
           of-operand y u h r t called (went v o k onward) =
               same r t called (Ok (next_pair w o)) (with_cell (cell.Pair y v) o) (paired y u h v o ((again-iff y u h (Ok v) o).0 k)) (whole y u h rows v o (of-rest y u h (Ok v) o k))
 
-          by : (r : End) (t : WorldState) → CallEnds w (call_to g (f ∷ lv ∷ [])) s r t → Split (eval_of w on_row q at) go_on r t → MapDid w f (row ∷ rows) s r t
+          by : (r : CallEnd) (t : WorldState) → CallEnds w (call_to g (f ∷ lv ∷ [])) s r t → Split (eval_of w on_row q at) go_on r t → MapDid w f (row ∷ rows) s r t
           by r t called (stopped {e = b} h) = stops_here till-asked ((ask-iff (Err b) t).0 h)
           by r t called (went y u h onward) =
               of-operand y u ((ask-iff (Ok y) u).0 h) r t called (operand-split w on_rest none q (value.Prim (record { 0 = names.CONS }) ∷ y ∷ []) u r t (call-real w g (f ∷ lv ∷ []) s r t called) onward)
@@ -231,7 +231,7 @@ module _ (w : PlainSetting) (knows : Knows w.codes) (f : Value) (p : Place) wher
 
   -- whatever a call came to, it did so
   many-did : (rows : List (List Value)) (lv l : Value) (ls : List Value) (s : WorldState) → Home s.cells p (map_home p) → IsList s.cells (l ∷ ls) lv → InRows s.cells rows (l ∷ ls)
-      → (r : End) (t : WorldState) → CallEnds w (call_to g (f ∷ lv ∷ [])) s r t → MapDid w f rows s r t
+      → (r : CallEnd) (t : WorldState) → CallEnds w (call_to g (f ∷ lv ∷ [])) s r t → MapDid w f rows s r t
   many-did [] lv l ls s round lists rs r t called =
       let done = nothing lv l ls s round lists (rows-none rs) in
       subst (λ a. MapDid w f [] s r a) (ends-one-state (call_of w (call_to g (f ∷ lv ∷ [])) s) (Ok nil) r (at lv l ls s round lists) t done called)
@@ -301,7 +301,7 @@ module _ (w : PlainSetting) (knows : Knows w.codes) (f l m : Value) (ms : List V
   lists-are : IsList begun.cells (l ∷ m ∷ ms) lists
   lists-are = list-more inner.cells l rest (m ∷ ms) (list-later kept inner kept-inner (m ∷ ms) rest (rest-is (m ∷ ms) ready))
 
-  entered-iff : has_text names.MAP ≡ true → (e : End) (t : WorldState)
+  entered-iff : has_text names.MAP ≡ true → (e : CallEnd) (t : WorldState)
       → Iff (CallEnds w (call_to (value.Prim (record { 0 = names.MAP })) (f ∷ l ∷ m ∷ ms)) s e t) (CallEnds w (call_to (value.Closure (code_no 9) home_at) (f ∷ lists ∷ [])) begun e t)
   entered-iff is_text e t =
       iff-then
@@ -317,13 +317,13 @@ module _ (w : PlainSetting) (knows : Knows w.codes) (f l m : Value) (ms : List V
       (cons-is w (var 18) place inner inner l (own w inner place entries home_at (map_home home_at) inside-inner (label 18) l refl) (var 19) rest inner (own w inner place entries home_at (map_home home_at) inside-inner (label 19) rest refl)))))
 
   module _ (rows : List (List Value)) (r : InRows s.cells rows (l ∷ m ∷ ms)) where
-    pub map-ended : AllEnd w f rows s → (e : End) × (t : WorldState) × CallEnds w (call_to (value.Prim (record { 0 = names.MAP })) (f ∷ l ∷ m ∷ ms)) s e t × MapDid w f rows s e t
+    pub map-ended : AllEnd w f rows s → (e : CallEnd) × (t : WorldState) × CallEnds w (call_to (value.Prim (record { 0 = names.MAP })) (f ∷ l ∷ m ∷ ms)) s e t × MapDid w f rows s e t
     unfolding has_text
     map-ended give =
         let d = many-ends w knows f home_at rows lists l (m ∷ ms) begun home-begun lists-are (rows-later s begun far-begun r) (all-end-later w f rows s begun far-begun give) in
         (d.0, d.1, (entered-iff refl d.0 d.1).1 d.2, did-from w f rows d.0 s begun d.1 far-begun d.3)
 
-    pub map-only : (e : End) (t : WorldState) → CallEnds w (call_to (value.Prim (record { 0 = names.MAP })) (f ∷ l ∷ m ∷ ms)) s e t → MapDid w f rows s e t
+    pub map-only : (e : CallEnd) (t : WorldState) → CallEnds w (call_to (value.Prim (record { 0 = names.MAP })) (f ∷ l ∷ m ∷ ms)) s e t → MapDid w f rows s e t
     unfolding has_text
     map-only e t called =
         did-from w f rows e s begun t far-begun

@@ -6,7 +6,7 @@ use Rattle.eval_code.specs.Setting.{PlainSetting}
 use Rattle.eval_code.specs.State.{WorldState}
 use Rattle.law_eval.specs.Kept.{LaterWorld}
 use Rattle.law_eval.proofs.Keeping.{later_then}
-use Rattle.law_given.specs.Calls.{End}
+use Rattle.law_given.specs.Calls.{CallEnd}
 use Rattle.law_given_lists.specs.RowCalls.{RowsInTurn, no_call, one_call, RowsStop, stops_here, stops_behind, AllEnd, ForAllByRows, all_none, all_last, all_but, all_so_far, all_stops, ForAllEnds}
 use Rattle.law_given_lists.specs.RowCalls.{ExistsByRows, some_none, some_last, some_here, some_behind, some_stops, ExistsEnds, FoldLeftByRows, left_end, left_step, left_stops, FoldLeftEnds, FoldRightByRows, right_end, right_step, right_stops, FoldRightEnds}
 
@@ -27,7 +27,7 @@ module _ (w : PlainSetting) (f : Value) where
   all-end-later [] s t k g = tt
   all-end-later (row ∷ rows) s t k g = λ u h. g u (later_then s t u k h)
 
-  pub all-from : (rows : List (List Value)) (e : End) (r s t : WorldState) → LaterWorld r s → ForAllByRows w f rows s e t → ForAllByRows w f rows r e t
+  pub all-from : (rows : List (List Value)) (e : CallEnd) (r s t : WorldState) → LaterWorld r s → ForAllByRows w f rows s e t → ForAllByRows w f rows r e t
   all-from rows e r s t k (all_none h) = all_none (later_then r s t k h)
   all-from rows e r s t k (all_last {t = u} h c) = all_last (later_then r s u k h) c
   all-from rows e r s t k (all_but {t = u} h c is) = all_but (later_then r s u k h) c is
@@ -38,7 +38,7 @@ module _ (w : PlainSetting) (f : Value) where
   for-all-ends-later [] s t k g = tt
   for-all-ends-later (row ∷ rows) s t k g = λ u h. g u (later_then s t u k h)
 
-  pub exists-from : (rows : List (List Value)) (e : End) (r s t : WorldState) → LaterWorld r s → ExistsByRows w f rows s e t → ExistsByRows w f rows r e t
+  pub exists-from : (rows : List (List Value)) (e : CallEnd) (r s t : WorldState) → LaterWorld r s → ExistsByRows w f rows s e t → ExistsByRows w f rows r e t
   exists-from rows e r s t k (some_none h) = some_none (later_then r s t k h)
   exists-from rows e r s t k (some_last {t = u} h c) = some_last (later_then r s u k h) c
   exists-from rows e r s t k (some_here {t = u} h c is i) = some_here (later_then r s u k h) c is i
@@ -49,7 +49,7 @@ module _ (w : PlainSetting) (f : Value) where
   exists-ends-later [] s t k g = tt
   exists-ends-later (row ∷ rows) s t k g = λ u h. g u (later_then s t u k h)
 
-  pub left-from : (z : Value) (rows : List (List Value)) (e : End) (r s t : WorldState) → LaterWorld r s → FoldLeftByRows w f z rows s e t → FoldLeftByRows w f z rows r e t
+  pub left-from : (z : Value) (rows : List (List Value)) (e : CallEnd) (r s t : WorldState) → LaterWorld r s → FoldLeftByRows w f z rows s e t → FoldLeftByRows w f z rows r e t
   left-from z rows e r s t k (left_end h) = left_end (later_then r s t k h)
   left-from z rows e r s t k (left_step {t = u} h c i) = left_step (later_then r s u k h) c i
   left-from z rows e r s t k (left_stops {t = u} h c) = left_stops (later_then r s u k h) c
@@ -58,7 +58,7 @@ module _ (w : PlainSetting) (f : Value) where
   left-ends-later z [] s t k g = tt
   left-ends-later z (row ∷ rows) s t k g = λ u h. g u (later_then s t u k h)
 
-  pub right-from : (z : Value) (rows : List (List Value)) (e : End) (r s t : WorldState) → LaterWorld r s → FoldRightByRows w f z rows s e t → FoldRightByRows w f z rows r e t
+  pub right-from : (z : Value) (rows : List (List Value)) (e : CallEnd) (r s t : WorldState) → LaterWorld r s → FoldRightByRows w f z rows s e t → FoldRightByRows w f z rows r e t
   right-from z rows e r s t k (right_end h) = right_end (later_then r s t k h)
   right-from z rows e r s t k (right_step {x = x} {rows = rest} {t = u} i h c) = right_step (right-from z rest (Ok x) r s u k i) h c
   right-from z rows e r s t k (right_stops {rows = rest} {e = b} i) = right_stops (right-from z rest (Err b) r s t k i)

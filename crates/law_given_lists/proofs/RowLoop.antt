@@ -25,7 +25,7 @@ use Rattle.law_eval.specs.Kept.{LaterWorld}
 use Rattle.law_eval.proofs.Keeping.{later_then, later_with}
 use Rattle.law_lists.specs.Runs.{IsList}
 use Rattle.law_lists.proofs.RunLemmas.{stored_runs}
-use Rattle.law_given.specs.Calls.{End, call_to, CallEnds}
+use Rattle.law_given.specs.Calls.{CallEnd, call_to, CallEnds}
 use Rattle.law_given.specs.Codes.{label, code_no, var, formals, one_case, lambda, app, car, cdr, cons, is_null, first_is_null, cdrs, on_cars, text_code}
 use Rattle.law_given.proofs.Giving.{Evaluates, ExpressionEnds, procedure-is}
 use Rattle.law_given.proofs.Inside.{Inside, Home, one_home, inside-later, entered-inside, own, outer, letrec-is}
@@ -52,7 +52,7 @@ module _ (w : PlainSetting) (knows : Knows w.codes) (code go m n : ℕ) (body : 
   at = loop.entered w code go m n body known p home names f lv s round
 
   -- the call of the loop, by its body
-  pub body-iff : (r : End) (t : WorldState) → Iff (CallEnds w (call_to (value.Closure (code_no code) p) (f ∷ lv ∷ [])) s r t) (ExpressionEnds w body q at r t)
+  pub body-iff : (r : CallEnd) (t : WorldState) → Iff (CallEnds w (call_to (value.Closure (code_no code) p) (f ∷ lv ∷ [])) s r t) (ExpressionEnds w body q at r t)
   body-iff r t =
       iff-then (closure-iff w (code_no code) p (f ∷ lv ∷ []) s r t)
       (case-iff w (code_no code) p (f ∷ lv ∷ []) s (procedure_code (code_no code) (one_case (m ∷ n ∷ []) None body) true) (formals (m ∷ n ∷ []) None) body r t known refl)
@@ -90,13 +90,13 @@ module _ (w : PlainSetting) (knows : Knows w.codes) (code go m n : ℕ) (body : 
       left-later = cdrs-later w knows u lv (l ∷ more) lists-then row rest pairs-then
 
       -- f is called on the row
-      pub ask-iff : (r : End) (t : WorldState) → Iff (ExpressionEnds w (on_cars (var m) (var n)) q u r t) (CallEnds w (call_to f row) asked.state r t)
+      pub ask-iff : (r : CallEnd) (t : WorldState) → Iff (ExpressionEnds w (on_cars (var m) (var n)) q u r t) (CallEnds w (call_to f row) asked.state r t)
       ask-iff r t =
           on-cars-iff w knows u lv (l ∷ more) lists-then row rest pairs-then (var n) q (loop.list-read w code go m n body known p home names f lv s round u behind) (var m) f
           (loop.procedure-read w code go m n body known p home names f lv s round u behind) r t
 
       -- the loop goes on along the rests
-      pub again-iff : (r : End) (t : WorldState) → Iff (ExpressionEnds w (app (var go) (var m ∷ cdrs (var n) ∷ [])) q u r t) (CallEnds w (call_to (value.Closure (code_no code) p) (f ∷ left.value ∷ [])) left.state r t)
+      pub again-iff : (r : CallEnd) (t : WorldState) → Iff (ExpressionEnds w (app (var go) (var m ∷ cdrs (var n) ∷ [])) q u r t) (CallEnds w (call_to (value.Closure (code_no code) p) (f ∷ left.value ∷ [])) left.state r t)
       again-iff r t =
           two-iff w (var go) (var m) (cdrs (var n)) q u u u left.state t (value.Closure (code_no code) p) f left.value r
           (outer w u q (two_vars m n f lv) p home (inside-later at u behind q (two_vars m n f lv) p home (entered-inside s (two_vars m n f lv) p home round)) (label go) (value.Closure (code_no code) p) (names.no_loop f lv) names.loop)
@@ -194,7 +194,7 @@ module _ (w : PlainSetting) (s : WorldState) (go code : ℕ) (op k a b c : ℕ) 
   pub lists-are : IsList loop_state.cells (l ∷ more) lists_value
   lists-are = list-more inner.cells l (rest_list more at_ready) more (list-later kept inner kept-inner more (rest_list more at_ready) (rest-is more at_ready))
 
-  pub entered-iff : (e : End) (t : WorldState) → Iff (CallEnds w (call_to (value.Prim (record { 0 = op })) (f ∷ l ∷ more)) s e t) (CallEnds w (call_to (value.Closure (code_no code) home_at) (f ∷ lists_value ∷ [])) loop_state e t)
+  pub entered-iff : (e : CallEnd) (t : WorldState) → Iff (CallEnds w (call_to (value.Prim (record { 0 = op })) (f ∷ l ∷ more)) s e t) (CallEnds w (call_to (value.Closure (code_no code) home_at) (f ∷ lists_value ∷ [])) loop_state e t)
   entered-iff e t =
       iff-then
       (text-iff w (record { 0 = op }) (f ∷ l ∷ more) s at_ready t (text_code op (loop_text go code (m ∷ n ∷ []) body given)) (loop_text go code (m ∷ n ∷ []) body given) (code_no k) home_at e other yes_text text refl

@@ -12,7 +12,7 @@ use Rattle.eval_code.specs.State.{WorldState}
 use Rattle.law_eval.specs.Kept.{LaterWorld}
 use Rattle.law_lists.specs.Runs.{IsList}
 use Rattle.law_lists.proofs.RunLemmas.{pair_still}
-use Rattle.law_given.specs.Calls.{End, call_to, CallEnds, Calls}
+use Rattle.law_given.specs.Calls.{CallEnd, call_to, CallEnds, Calls}
 use Rattle.law_given.specs.Codes.{prim, cars, cdrs, on_cars}
 use Rattle.law_given.specs.Given.{Maps}
 use Rattle.law_given.specs.InTurn.{AllGive, AllGiveBy}
@@ -121,7 +121,7 @@ module _ (w : PlainSetting) (knows : Knows w.codes) (s : WorldState) (lv : Value
         (primitive-is w (record { 0 = names.MAP }) scope s) (primitive-is w (record { 0 = names.CDR }) scope s) h cdrs-given.called
 
     -- f is called on the row
-    pub on-cars-iff : (e : PlainCore) (f : Value) → Evaluates w e scope s f s → (r : End) (t : WorldState) → Iff (ExpressionEnds w (on_cars e c) scope s r t) (CallEnds w (call_to f row) cars-given.state r t)
+    pub on-cars-iff : (e : PlainCore) (f : Value) → Evaluates w e scope s f s → (r : CallEnd) (t : WorldState) → Iff (ExpressionEnds w (on_cars e c) scope s r t) (CallEnds w (call_to f row) cars-given.state r t)
     on-cars-iff e f k r t =
         iff-then
         (two-iff w (prim names.APPLY) e (cars c) scope s s s cars-given.state t (value.Prim (record { 0 = names.APPLY })) f cars-given.value r (primitive-is w (record { 0 = names.APPLY }) scope s) k cars-is)

@@ -9,7 +9,7 @@ use Rattle.eval_code.proofs.Paid.{within_or_past}
 use Rattle.law_eval.specs.MoreFuel.{more_left, IsSpent, SpendsPast, LeavesAtLeast, LeavesAtMost}
 use Rattle.law_eval.specs.Runs.{ByFuel}
 use Rattle.law_eval.proofs.Carried.{AllCarried, more_is_left, left_is_not_needed, spent_where_needed, fuel_falls}
-use Rattle.law_given.specs.Calls.{End, ended, Ends, Gives}
+use Rattle.law_given.specs.Calls.{CallEnd, ended, Ends, Gives}
 use Rattle.law_given.proofs.Enough.{enough-least, enough-by}
 use Rattle.law_given.proofs.Giving.{ends-then, ends-stopped}
 use Rattle.law_given.proofs.Unique.{ends-one-end, ends-one-state}
@@ -22,7 +22,7 @@ pub iff-then : {A B C : Type 0} → Iff A B → Iff B C → Iff A C
 iff-then p q = (λ a. q.0 (p.0 a), λ c. p.1 (q.1 c))
 
 -- a fault that isn't want of fuel
-abbrev pub Real : End → Type 0
+abbrev pub Real : CallEnd → Type 0
 Real (Ok v) = Unit {0}
 Real (Err f) = f ≡ fuel_spent → ⊥
 
@@ -53,11 +53,11 @@ module _ (run : ByFuel) (carried : AllCarried run) (t : WorldState) (cost : ℕ)
           let wrong : unfit ≡ faulted fuel_spent t (cost - cost) = sym (ap (more_left (cost - m)) e) ∙ sym more ∙ ap run whole ∙ spent-at cost (omega arith) in
           cc
 
-pub real-of : (run : ByFuel) → AllCarried run → (r : End) (t : WorldState) → Ends run r t → Real r
+pub real-of : (run : ByFuel) → AllCarried run → (r : CallEnd) (t : WorldState) → Ends run r t → Real r
 real-of run carried (Ok v) t h = tt
 real-of run carried (Err f) t h = λ e. never run carried t h.0 (λ left. h.1 left ∙ ap (λ f. faulted f t left) e)
 
-abbrev value_in : Value → End → Value
+abbrev value_in : Value → CallEnd → Value
 value_in d (Ok v) = v
 value_in d (Err f) = d
 
@@ -103,25 +103,25 @@ module _ (run : ByFuel) (carried : AllCarried run) where
       let leaves : LeavesAtLeast m (run ((n - m) + m)) = subst (LeavesAtLeast m) (sym whole) (real, omega arith) in
       none-left m (run (n - m)) f t (sym (left_is_not_needed run carried (n - m) m leaves) ∙ whole)
 
-  pub enough-ends : (r : End) (t : WorldState) (n m : ℕ) → Real r → run n ≡ ended r t m → Ends run r t
+  pub enough-ends : (r : CallEnd) (t : WorldState) (n m : ℕ) → Real r → run n ≡ ended r t m → Ends run r t
   enough-ends (Ok v) t n m real e = (n - m, enough-by run (fuel_falls run carried) (left_is_not_needed run carried) (more_is_left run carried) n m v t e)
   enough-ends (Err f) t n m real e = (n - m, fault-by (n - m) f t real (fault-exact n m f t real e))
 
 -- A first part gives a value, with which the run goes on; or it faults, and so does the run.
-pub data Split (p : ByFuel) (go : Go) : End → WorldState → Type 0 where
-  went : (x : Value) (u : WorldState) {r : End} {t : WorldState} → Gives p x u → Ends (go x u) r t → Split p go r t
+pub data Split (p : ByFuel) (go : Go) : CallEnd → WorldState → Type 0 where
+  went : (x : Value) (u : WorldState) {r : CallEnd} {t : WorldState} → Gives p x u → Ends (go x u) r t → Split p go r t
   stopped : {e : Bare} {t : WorldState} → Ends p (Err e) t → Split p go (Err e) t
 
-pub split-ends : (p : ByFuel) (go : Go) (r : End) (t : WorldState) → Split p go r t → Ends (λ n. then_do (p n) go) r t
+pub split-ends : (p : ByFuel) (go : Go) (r : CallEnd) (t : WorldState) → Split p go r t → Ends (λ n. then_do (p n) go) r t
 split-ends p go r t (went x u g h) = ends-then p go x u r t g h
 split-ends p go r t (stopped {e = e} g) = ends-stopped p go e t g
 
 module _ (p : ByFuel) (go : Go) (carried : AllCarried p) where
-  stopped-by : (n m : ℕ) (f : Bare) (u : WorldState) → p n ≡ faulted f u m → (r : End) (t : WorldState) → Real r → faulted f u m ≡ ended r t 0 → Split p go r t
+  stopped-by : (n m : ℕ) (f : Bare) (u : WorldState) → p n ≡ faulted f u m → (r : CallEnd) (t : WorldState) → Real r → faulted f u m ≡ ended r t 0 → Split p go r t
   stopped-by n m f u is (Ok v) t real e = absurd (cc)
   stopped-by n m f u is (Err d) t real e = stopped (enough-ends p carried (Err d) t n 0 real (is ∙ e))
 
-  pub split-of : (r : End) (t : WorldState) → Real r → Ends (λ n. then_do (p n) go) r t → Split p go r t
+  pub split-of : (r : CallEnd) (t : WorldState) → Real r → Ends (λ n. then_do (p n) go) r t → Split p go r t
   split-of r t real g = by (p (0 + g.0)) refl
     where
       by : (o : Outcome) → p (0 + g.0) ≡ o → Split p go r t
@@ -140,18 +140,18 @@ module _ (p : ByFuel) (go : Go) (carried : AllCarried p) where
       by (faulted f u m) e = stopped-by (0 + g.0) m f u e r t real (sym (ap (λ o. then_do o go) e) ∙ g.1 0)
       by unfit e = unfit-by r (sym (ap (λ o. then_do o go) e) ∙ g.1 0)
         where
-          unfit-by : (r : End) → unfit ≡ ended r t 0 → Split p go r t
+          unfit-by : (r : CallEnd) → unfit ≡ ended r t 0 → Split p go r t
           unfit-by (Ok v) h = absurd (cc)
           unfit-by (Err f) h = absurd (cc)
 
-  pub split-iff : (r : End) (t : WorldState) → Real r → Iff (Ends (λ n. then_do (p n) go) r t) (Split p go r t)
+  pub split-iff : (r : CallEnd) (t : WorldState) → Real r → Iff (Ends (λ n. then_do (p n) go) r t) (Split p go r t)
   split-iff r t real = (split-of r t real, split-ends p go r t)
 
   -- where the first part is known
-  known-by : (x : Value) (u : WorldState) (r : End) (t : WorldState) → Gives p x u → Split p go r t → Ends (go x u) r t
+  known-by : (x : Value) (u : WorldState) (r : CallEnd) (t : WorldState) → Gives p x u → Split p go r t → Ends (go x u) r t
   known-by x u r t h (went y v g k) =
       subst (λ a. Ends (go a u) r t) (ap (value_in y) (ends-one-end p (Ok y) (Ok x) v u g h)) (subst (λ b. Ends (go y b) r t) (ends-one-state p (Ok y) (Ok x) v u g h) k)
   known-by x u r t h (stopped {e = f} g) = let wrong : Ok x ≡ Err f = ends-one-end p (Ok x) (Err f) u t h g in absurd (cc)
 
-  pub known-ends : (x : Value) (u : WorldState) (r : End) (t : WorldState) → Real r → Gives p x u → Ends (λ n. then_do (p n) go) r t → Ends (go x u) r t
+  pub known-ends : (x : Value) (u : WorldState) (r : CallEnd) (t : WorldState) → Real r → Gives p x u → Ends (λ n. then_do (p n) go) r t → Ends (go x u) r t
   known-ends x u r t real h g = known-by x u r t h (split-of r t real g)

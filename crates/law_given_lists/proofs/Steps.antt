@@ -19,7 +19,7 @@ use Rattle.eval_code.specs.State.{WorldState, faulted, next_place, with_cell}
 use Rattle.eval_code.proofs.Fuel.{eval_of_is}
 use Rattle.law_eval.specs.Runs.{ByFuel}
 use Rattle.law_eval.proofs.Carried.{AllCarried, all_carried}
-use Rattle.law_given.specs.Calls.{End, ended, Ends, call_to, call_of, CallEnds}
+use Rattle.law_given.specs.Calls.{CallEnd, ended, Ends, call_to, call_of, CallEnds}
 use Rattle.law_given.proofs.Applying.{applies, apply-ends}
 use Rattle.law_given.proofs.Calling.{called-at-once, not-apply, closure-ends, closure-ends-back, case-ends, text-ends}
 use Rattle.law_given.proofs.Giving.{ends-same, Evaluates, ExpressionEnds, ends-step, true-ends, false-ends, OperandsEnd, operand-ends, call-ends, call-one-ends, call-two-ends, call-three-ends, call-four-ends}
@@ -29,18 +29,18 @@ module _ (w : PlainSetting) where
   carried : (c : PlainCore) (scope : Place) (s : WorldState) → AllCarried (eval_of w c scope s)
   carried c scope s = all_carried.expressions w c scope s
 
-  pub call-real : (f : Value) (args : List Value) (s : WorldState) (r : End) (t : WorldState) → CallEnds w (call_to f args) s r t → Real r
+  pub call-real : (f : Value) (args : List Value) (s : WorldState) (r : CallEnd) (t : WorldState) → CallEnds w (call_to f args) s r t → Real r
   call-real f args s r t h = real-of (call_of w (call_to f args) s) (all_carried.calls w (f ∷ args) s) r t h
 
-  pub expression-real : (c : PlainCore) (scope : Place) (s : WorldState) (r : End) (t : WorldState) → ExpressionEnds w c scope s r t → Real r
+  pub expression-real : (c : PlainCore) (scope : Place) (s : WorldState) (r : CallEnd) (t : WorldState) → ExpressionEnds w c scope s r t → Real r
   expression-real c scope s r t h = real-of (eval_of w c scope s) (carried c scope s) r t h
 
   -- a unit was spent at the start
-  spent-first : (c : PlainCore) (scope : Place) (s : WorldState) (r : End) (t : WorldState) → Real r → faulted fuel_spent s zero ≡ ended r t 0 → ⊥
+  spent-first : (c : PlainCore) (scope : Place) (s : WorldState) (r : CallEnd) (t : WorldState) → Real r → faulted fuel_spent s zero ≡ ended r t 0 → ⊥
   spent-first c scope s (Ok v) t real e = cc
   spent-first c scope s (Err f) t real e = let wrong : f ≡ fuel_spent = cc in real wrong
 
-  expressed-by : (c : PlainCore) (scope : Place) (s : WorldState) (r : End) (t : WorldState) → Real r → (cost : ℕ) → ((left : ℕ) → eval_of w c scope s (left + cost) ≡ ended r t left) → Ends (expressed w (eval_of w) c scope s) r t
+  expressed-by : (c : PlainCore) (scope : Place) (s : WorldState) (r : CallEnd) (t : WorldState) → Real r → (cost : ℕ) → ((left : ℕ) → eval_of w c scope s (left + cost) ≡ ended r t left) → Ends (expressed w (eval_of w) c scope s) r t
   expressed-by c scope s r t real zero h =
       let none : 0 + zero ≡ zero = omega arith in
       absurd (spent-first c scope s r t real (ap (λ n. unrolled w (eval_of w) c scope s n) (sym none) ∙ sym (eval_of_is w c scope s (0 + zero)) ∙ h 0))
@@ -51,17 +51,17 @@ module _ (w : PlainSetting) where
           let e : suc (left + k) ≡ left + suc k = omega arith in
           ap (λ n. unrolled w (eval_of w) c scope s n) e ∙ sym (eval_of_is w c scope s (left + suc k)) ∙ h left
 
-  pub expressed-ends : (c : PlainCore) (scope : Place) (s : WorldState) (r : End) (t : WorldState) → ExpressionEnds w c scope s r t → Ends (expressed w (eval_of w) c scope s) r t
+  pub expressed-ends : (c : PlainCore) (scope : Place) (s : WorldState) (r : CallEnd) (t : WorldState) → ExpressionEnds w c scope s r t → Ends (expressed w (eval_of w) c scope s) r t
   expressed-ends c scope s r t h = expressed-by c scope s r t (expression-real c scope s r t h) h.0 h.1
 
   -- Of an `if`.
 
-  arms-ends : (b c : Bool) (o p : ByFuel) (r : End) (t : WorldState) → b ≡ c → Ends (λ n. if b then o n else p n) r t → Ends (λ n. if c then o n else p n) r t
+  arms-ends : (b c : Bool) (o p : ByFuel) (r : CallEnd) (t : WorldState) → b ≡ c → Ends (λ n. if b then o n else p n) r t → Ends (λ n. if c then o n else p n) r t
   arms-ends b true o p r t e g = ends-same (λ n. if b then o n else p n) o r t (λ n. sym (ap (λ b. if b then o n else p n) e)) g
   arms-ends b false o p r t e g = ends-same (λ n. if b then o n else p n) p r t (λ n. sym (ap (λ b. if b then o n else p n) e)) g
 
   -- its test isn't known
-  pub test-iff : (c d e : PlainCore) (scope : Place) (s : WorldState) (r : End) (t : WorldState)
+  pub test-iff : (c d e : PlainCore) (scope : Place) (s : WorldState) (r : CallEnd) (t : WorldState)
       → Iff (ExpressionEnds w (two_armed c d e) scope s r t) (Split (eval_of w c scope s) (two_arms w (eval_of w) d e scope) r t)
   test-iff c d e scope s r t = (
     λ h. split-of (eval_of w c scope s) (two_arms w (eval_of w) d e scope) (carried c scope s) r t (expression-real (two_armed c d e) scope s r t h) (expressed-ends (two_armed c d e) scope s r t h),
@@ -69,19 +69,19 @@ module _ (w : PlainSetting) where
   )
 
   -- the arm that a value tells
-  pub true-arm : (d e : PlainCore) (scope : Place) (x : Value) (t : WorldState) (r : End) (u : WorldState) → truth_of x ≡ true → Iff (Ends (two_arms w (eval_of w) d e scope x t) r u) (ExpressionEnds w d scope t r u)
+  pub true-arm : (d e : PlainCore) (scope : Place) (x : Value) (t : WorldState) (r : CallEnd) (u : WorldState) → truth_of x ≡ true → Iff (Ends (two_arms w (eval_of w) d e scope x t) r u) (ExpressionEnds w d scope t r u)
   true-arm d e scope x t r u is = (
     λ h. arms-ends (truth_of x) true (eval_of w d scope t) (eval_of w e scope t) r u is h,
     λ h. arms-ends true (truth_of x) (eval_of w d scope t) (eval_of w e scope t) r u (sym is) h,
   )
 
-  pub false-arm : (d e : PlainCore) (scope : Place) (x : Value) (t : WorldState) (r : End) (u : WorldState) → truth_of x ≡ false → Iff (Ends (two_arms w (eval_of w) d e scope x t) r u) (ExpressionEnds w e scope t r u)
+  pub false-arm : (d e : PlainCore) (scope : Place) (x : Value) (t : WorldState) (r : CallEnd) (u : WorldState) → truth_of x ≡ false → Iff (Ends (two_arms w (eval_of w) d e scope x t) r u) (ExpressionEnds w e scope t r u)
   false-arm d e scope x t r u is = (
     λ h. arms-ends (truth_of x) false (eval_of w d scope t) (eval_of w e scope t) r u is h,
     λ h. arms-ends false (truth_of x) (eval_of w d scope t) (eval_of w e scope t) r u (sym is) h,
   )
 
-  pub true-iff : (c d e : PlainCore) (scope : Place) (s t : WorldState) (x : Value) (r : End) (u : WorldState) → Evaluates w c scope s x t → truth_of x ≡ true
+  pub true-iff : (c d e : PlainCore) (scope : Place) (s t : WorldState) (x : Value) (r : CallEnd) (u : WorldState) → Evaluates w c scope s x t → truth_of x ≡ true
       → Iff (ExpressionEnds w (two_armed c d e) scope s r u) (ExpressionEnds w d scope t r u)
   true-iff c d e scope s t x r u h is = (
     λ g. (true-arm d e scope x t r u is).0 (known-ends (eval_of w c scope s) (two_arms w (eval_of w) d e scope) (carried c scope s) x t r u (expression-real (two_armed c d e) scope s r u g) h
@@ -89,7 +89,7 @@ module _ (w : PlainSetting) where
     λ g. true-ends w c d e scope s t u x r h is g,
   )
 
-  pub false-iff : (c d e : PlainCore) (scope : Place) (s t : WorldState) (x : Value) (r : End) (u : WorldState) → Evaluates w c scope s x t → truth_of x ≡ false
+  pub false-iff : (c d e : PlainCore) (scope : Place) (s t : WorldState) (x : Value) (r : CallEnd) (u : WorldState) → Evaluates w c scope s x t → truth_of x ≡ false
       → Iff (ExpressionEnds w (two_armed c d e) scope s r u) (ExpressionEnds w e scope t r u)
   false-iff c d e scope s t x r u h is = (
     λ g. (false-arm d e scope x t r u is).0 (known-ends (eval_of w c scope s) (two_arms w (eval_of w) d e scope) (carried c scope s) x t r u (expression-real (two_armed c d e) scope s r u g) h
@@ -100,25 +100,25 @@ module _ (w : PlainSetting) where
   -- Of a call.
 
   -- what is called is known
-  pub called-known : (c : PlainCore) (cs : PlainCores) (scope : Place) (s t : WorldState) (f : Value) (r : End) (u : WorldState) → Evaluates w c scope s f t
+  pub called-known : (c : PlainCore) (cs : PlainCores) (scope : Place) (s t : WorldState) (f : Value) (r : CallEnd) (u : WorldState) → Evaluates w c scope s f t
       → ExpressionEnds w (call c cs) scope s r u → OperandsEnd w cs scope (f ∷ []) t r u
   called-known c cs scope s t f r u h g =
       known-ends (eval_of w c scope s) (λ f. operands w (eval_of w) cs scope (f ∷ [])) (carried c scope s) f t r u (expression-real (call c cs) scope s r u g) h
       (expressed-ends (call c cs) scope s r u g)
 
   -- an operand is known
-  pub operand-known : (d : PlainCore) (cs : PlainCores) (scope : Place) (vs : List Value) (t u : WorldState) (x : Value) (r : End) (q : WorldState) → Real r → Evaluates w d scope t x u
+  pub operand-known : (d : PlainCore) (cs : PlainCores) (scope : Place) (vs : List Value) (t u : WorldState) (x : Value) (r : CallEnd) (q : WorldState) → Real r → Evaluates w d scope t x u
       → OperandsEnd w (more d cs) scope vs t r q → OperandsEnd w cs scope (vs ++ x ∷ []) u r q
   operand-known d cs scope vs t u x r q real h g =
       known-ends (eval_of w d scope t) (λ v. operands w (eval_of w) cs scope (vs ++ v ∷ [])) (carried d scope t) x u r q real h g
 
   -- an operand isn't
-  pub operand-split : (d : PlainCore) (cs : PlainCores) (scope : Place) (vs : List Value) (t : WorldState) (r : End) (q : WorldState) → Real r
+  pub operand-split : (d : PlainCore) (cs : PlainCores) (scope : Place) (vs : List Value) (t : WorldState) (r : CallEnd) (q : WorldState) → Real r
       → OperandsEnd w (more d cs) scope vs t r q → Split (eval_of w d scope t) (λ v. operands w (eval_of w) cs scope (vs ++ v ∷ [])) r q
   operand-split d cs scope vs t r q real g = split-of (eval_of w d scope t) (λ v. operands w (eval_of w) cs scope (vs ++ v ∷ [])) (carried d scope t) r q real g
 
   -- a call of what is known, whose first operand isn't
-  pub first-iff : (c d : PlainCore) (cs : PlainCores) (scope : Place) (s t : WorldState) (f : Value) (r : End) (q : WorldState) → Evaluates w c scope s f t
+  pub first-iff : (c d : PlainCore) (cs : PlainCores) (scope : Place) (s t : WorldState) (f : Value) (r : CallEnd) (q : WorldState) → Evaluates w c scope s f t
       → Iff (ExpressionEnds w (call c (more d cs)) scope s r q) (Split (eval_of w d scope t) (λ v. operands w (eval_of w) cs scope ((f ∷ []) ++ v ∷ [])) r q)
   first-iff c d cs scope s t f r q h = (
     λ g. operand-split d cs scope (f ∷ []) t r q (expression-real (call c (more d cs)) scope s r q g) (called-known c (more d cs) scope s t f r q h g),
@@ -126,7 +126,7 @@ module _ (w : PlainSetting) where
   )
 
   -- whose second operand isn't
-  pub second-iff : (c d e : PlainCore) (cs : PlainCores) (scope : Place) (s t u : WorldState) (f x : Value) (r : End) (q : WorldState) → Evaluates w c scope s f t → Evaluates w d scope t x u
+  pub second-iff : (c d e : PlainCore) (cs : PlainCores) (scope : Place) (s t u : WorldState) (f x : Value) (r : CallEnd) (q : WorldState) → Evaluates w c scope s f t → Evaluates w d scope t x u
       → Iff (ExpressionEnds w (call c (more d (more e cs))) scope s r q) (Split (eval_of w e scope u) (λ v. operands w (eval_of w) cs scope ((f ∷ x ∷ []) ++ v ∷ [])) r q)
   second-iff c d e cs scope s t u f x r q h k = (
     λ g. let real = expression-real (call c (more d (more e cs))) scope s r q g in
@@ -137,12 +137,12 @@ module _ (w : PlainSetting) where
   )
 
   -- the last operand, which is known
-  pub last-iff : (d : PlainCore) (scope : Place) (f : Value) (vs : List Value) (t u : WorldState) (x : Value) (r : End) (q : WorldState) → Real r → Evaluates w d scope t x u
+  pub last-iff : (d : PlainCore) (scope : Place) (f : Value) (vs : List Value) (t u : WorldState) (x : Value) (r : CallEnd) (q : WorldState) → Real r → Evaluates w d scope t x u
       → Iff (OperandsEnd w (more d none) scope (f ∷ vs) t r q) (CallEnds w (call_to f (vs ++ x ∷ [])) u r q)
   last-iff d scope f vs t u x r q real k = (λ g. operand-known d none scope (f ∷ vs) t u x r q real k g, λ g. operand-ends w d none scope (f ∷ vs) t u q x r k g)
 
   -- two expressions in a row
-  pub sequence-iff : (c d : PlainCore) (scope : Place) (s : WorldState) (r : End) (t : WorldState)
+  pub sequence-iff : (c d : PlainCore) (scope : Place) (s : WorldState) (r : CallEnd) (t : WorldState)
       → Iff (ExpressionEnds w (sequence (more c (more d none))) scope s r t) (Split (eval_of w c scope s) (λ x. in_sequence w (eval_of w) (more d none) scope) r t)
   sequence-iff c d scope s r t = (
     λ h. split-of (eval_of w c scope s) (λ x. in_sequence w (eval_of w) (more d none) scope) (carried c scope s) r t (expression-real (sequence (more c (more d none))) scope s r t h)
@@ -150,7 +150,7 @@ module _ (w : PlainSetting) where
     λ h. ends-step w (sequence (more c (more d none))) scope s r t (split-ends (eval_of w c scope s) (λ x. in_sequence w (eval_of w) (more d none) scope) r t h),
   )
 
-  pub one-iff : (c d : PlainCore) (scope : Place) (s t u q : WorldState) (f x : Value) (r : End) → Evaluates w c scope s f t → Evaluates w d scope t x u
+  pub one-iff : (c d : PlainCore) (scope : Place) (s t u q : WorldState) (f x : Value) (r : CallEnd) → Evaluates w c scope s f t → Evaluates w d scope t x u
       → Iff (ExpressionEnds w (call c (more d none)) scope s r q) (CallEnds w (call_to f (x ∷ [])) u r q)
   one-iff c d scope s t u q f x r h k = (
     λ g. let real = expression-real (call c (more d none)) scope s r q g in
@@ -158,7 +158,7 @@ module _ (w : PlainSetting) where
     λ g. call-one-ends w c d scope s t u q f x r h k g,
   )
 
-  pub two-iff : (c d e : PlainCore) (scope : Place) (s t u q p : WorldState) (f x y : Value) (r : End) → Evaluates w c scope s f t → Evaluates w d scope t x u → Evaluates w e scope u y q
+  pub two-iff : (c d e : PlainCore) (scope : Place) (s t u q p : WorldState) (f x y : Value) (r : CallEnd) → Evaluates w c scope s f t → Evaluates w d scope t x u → Evaluates w e scope u y q
       → Iff (ExpressionEnds w (call c (more d (more e none))) scope s r p) (CallEnds w (call_to f (x ∷ y ∷ [])) q r p)
   two-iff c d e scope s t u q p f x y r h k j = (
     λ g. let real = expression-real (call c (more d (more e none))) scope s r p g in
@@ -167,7 +167,7 @@ module _ (w : PlainSetting) where
     λ g. call-two-ends w c d e scope s t u q p f x y r h k j g,
   )
 
-  pub three-iff : (c d e a : PlainCore) (scope : Place) (s t u q p o : WorldState) (f x y z : Value) (r : End)
+  pub three-iff : (c d e a : PlainCore) (scope : Place) (s t u q p o : WorldState) (f x y z : Value) (r : CallEnd)
       → Evaluates w c scope s f t → Evaluates w d scope t x u → Evaluates w e scope u y q → Evaluates w a scope q z p
       → Iff (ExpressionEnds w (call c (more d (more e (more a none)))) scope s r o) (CallEnds w (call_to f (x ∷ y ∷ z ∷ [])) p r o)
   three-iff c d e a scope s t u q p o f x y z r h k j i = (
@@ -178,7 +178,7 @@ module _ (w : PlainSetting) where
     λ g. call-three-ends w c d e a scope s t u q p o f x y z r h k j i g,
   )
 
-  pub four-iff : (c d e a b : PlainCore) (scope : Place) (s t u q p o l : WorldState) (f x y z k : Value) (r : End)
+  pub four-iff : (c d e a b : PlainCore) (scope : Place) (s t u q p o l : WorldState) (f x y z k : Value) (r : CallEnd)
       → Evaluates w c scope s f t → Evaluates w d scope t x u → Evaluates w e scope u y q → Evaluates w a scope q z p → Evaluates w b scope p k o
       → Iff (ExpressionEnds w (call c (more d (more e (more a (more b none))))) scope s r l) (CallEnds w (call_to f (x ∷ y ∷ z ∷ k ∷ [])) o r l)
   four-iff c d e a b scope s t u q p o l f x y z k r g h j i m = (
@@ -191,23 +191,23 @@ module _ (w : PlainSetting) where
   )
 
   -- the call that a call of `apply` stands for
-  apply-back : (f : Value) (front xs : List Value) (l : Value) (s : WorldState) (r : End) (t : WorldState) → list_elements s.cells l ≡ Some xs
+  apply-back : (f : Value) (front xs : List Value) (l : Value) (s : WorldState) (r : CallEnd) (t : WorldState) → list_elements s.cells l ≡ Some xs
       → CallEnds w (call_to (value.Prim (record { 0 = names.APPLY })) (f ∷ (front ++ l ∷ []))) s r t → CallEnds w (call_to f (front ++ xs)) s r t
   apply-back f front xs l s r t has g =
       enough-ends (call_of w (call_to f (front ++ xs)) s) (all_carried.calls w (f ∷ (front ++ xs)) s) r t g.0 (length xs) (call-real (value.Prim (record { 0 = names.APPLY })) (f ∷ (front ++ l ∷ [])) s r t g)
       (sym (applies w f front xs l s (length xs + g.0) g.0 (omega arith) has) ∙ g.1 (length xs))
 
-  pub apply-iff : (f : Value) (front xs : List Value) (l : Value) (s : WorldState) (r : End) (t : WorldState) → list_elements s.cells l ≡ Some xs
+  pub apply-iff : (f : Value) (front xs : List Value) (l : Value) (s : WorldState) (r : CallEnd) (t : WorldState) → list_elements s.cells l ≡ Some xs
       → Iff (CallEnds w (call_to (value.Prim (record { 0 = names.APPLY })) (f ∷ (front ++ l ∷ []))) s r t) (CallEnds w (call_to f (front ++ xs)) s r t)
   apply-iff f front xs l s r t has = (apply-back f front xs l s r t has, apply-ends w f front xs l s r t has)
 
   -- Of procedures and texts.
 
-  pub closure-iff : (number : CodeNo) (parent : Place) (args : List Value) (s : WorldState) (r : End) (t : WorldState)
+  pub closure-iff : (number : CodeNo) (parent : Place) (args : List Value) (s : WorldState) (r : CallEnd) (t : WorldState)
       → Iff (CallEnds w (call_to (value.Closure number parent) args) s r t) (Ends (procedure_called w (eval_of w) number parent args s) r t)
   closure-iff number parent args s r t = (closure-ends-back w number parent args s r t, closure-ends w number parent args s r t)
 
-  case-back : (number : CodeNo) (parent : Place) (args : List Value) (s : WorldState) (code : PlainCode) (f : Formals) (body : PlainCore) (r : End) (t : WorldState)
+  case-back : (number : CodeNo) (parent : Place) (args : List Value) (s : WorldState) (code : PlainCode) (f : Formals) (body : PlainCore) (r : CallEnd) (t : WorldState)
       → code_at w.codes number ≡ Some code → first_case code.cases (length args) ≡ Some (f, body)
       → Ends (procedure_called w (eval_of w) number parent args s) r t
       → Ends (λ n. entered w (eval_of w) body parent s.names n (bindings f.rest f.required args s.cells)) r t
@@ -216,12 +216,12 @@ module _ (w : PlainSetting) where
       ends-same (procedure_called w (eval_of w) number parent args s) (λ n. entered w (eval_of w) body parent s.names n (bindings f.rest f.required args s.cells)) r t
       (λ n. sym (ap (by_code w (eval_of w) parent args s n) is ∙ ap (by_case w (eval_of w) parent args s n) takes)) h
 
-  pub case-iff : (number : CodeNo) (parent : Place) (args : List Value) (s : WorldState) (code : PlainCode) (f : Formals) (body : PlainCore) (r : End) (t : WorldState)
+  pub case-iff : (number : CodeNo) (parent : Place) (args : List Value) (s : WorldState) (code : PlainCode) (f : Formals) (body : PlainCore) (r : CallEnd) (t : WorldState)
       → code_at w.codes number ≡ Some code → first_case code.cases (length args) ≡ Some (f, body)
       → Iff (Ends (procedure_called w (eval_of w) number parent args s) r t) (Ends (λ n. entered w (eval_of w) body parent s.names n (bindings f.rest f.required args s.cells)) r t)
   case-iff number parent args s code f body r t is takes = (case-back number parent args s code f body r t is takes, case-ends w number parent args s code f body r t is takes)
 
-  text-back : (op : Op) (args : List Value) (s t u : WorldState) (code : PlainCode) (body : PlainCore) (number : CodeNo) (parent : Place) (r : End)
+  text-back : (op : Op) (args : List Value) (s t u : WorldState) (code : PlainCode) (body : PlainCore) (number : CodeNo) (parent : Place) (r : CallEnd)
       → nat_eq op.0 names.APPLY ≡ false → has_text op.0 ≡ true → code_at w.codes (text_number op.0) ≡ Some code → text_body (Some code) ≡ Some body
       → Evaluates w body (next_place s) (with_cell (cell.Scope [] None) s) (value.Closure number parent) t
       → CallEnds w (call_to (value.Prim op) args) s r u → Ends (procedure_called w (eval_of w) number parent args t) r u
@@ -237,7 +237,7 @@ module _ (w : PlainSetting) where
           ∙ ap (λ b. if b then by_text w (eval_of w) args s n (text_body (code_at w.codes (text_number op.0))) else primitive_called w op.0 args s n) some
           ∙ ap (λ o. by_text w (eval_of w) args s n (text_body o)) is ∙ ap (by_text w (eval_of w) args s n) text)
 
-  pub text-iff : (op : Op) (args : List Value) (s t u : WorldState) (code : PlainCode) (body : PlainCore) (number : CodeNo) (parent : Place) (r : End)
+  pub text-iff : (op : Op) (args : List Value) (s t u : WorldState) (code : PlainCode) (body : PlainCore) (number : CodeNo) (parent : Place) (r : CallEnd)
       → nat_eq op.0 names.APPLY ≡ false → has_text op.0 ≡ true → code_at w.codes (text_number op.0) ≡ Some code → text_body (Some code) ≡ Some body
       → Evaluates w body (next_place s) (with_cell (cell.Scope [] None) s) (value.Closure number parent) t
       → Iff (CallEnds w (call_to (value.Prim op) args) s r u) (Ends (procedure_called w (eval_of w) number parent args t) r u)

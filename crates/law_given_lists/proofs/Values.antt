@@ -6,16 +6,16 @@ use Rattle.eval_prims.specs.Answers.{truth}
 use Rattle.eval_code.specs.Procedures.{truth_of}
 use Rattle.eval_code.specs.Setting.{PlainSetting}
 use Rattle.eval_code.specs.State.{WorldState}
-use Rattle.law_given.specs.Calls.{End, call_to, call_of, CallEnds, Calls}
+use Rattle.law_given.specs.Calls.{CallEnd, call_to, call_of, CallEnds, Calls}
 use Rattle.law_given.proofs.Unique.{gives-one-value, gives-one-state, ends-one-end}
 use Rattle.law_given_lists.specs.Done.{MapDid, VisitDid}
 use Rattle.law_given_lists.specs.RowCalls.{RowsStop, stops_here, stops_behind, AllEnd, AllGive, ForAllByRows, all_none, all_last, all_but, all_so_far, all_stops, ForAllEnds, ForAllGives}
 use Rattle.law_given_lists.specs.RowCalls.{ExistsByRows, some_none, some_last, some_here, some_behind, some_stops, ExistsEnds, ExistsGives, FoldLeftByRows, left_end, left_step, left_stops, FoldLeftEnds, FoldLeftGives, FoldRightByRows, right_end, right_step, right_stops, FoldRightEnds, FoldRightGives}
 
-abbrev pub IsValue : End → Type 0
+abbrev pub IsValue : CallEnd → Type 0
 IsValue r = (v : Value) × (r ≡ Ok v)
 
-abbrev IsGiven : End → Type 0
+abbrev IsGiven : CallEnd → Type 0
 IsGiven (Ok v) = Unit {0}
 IsGiven (Err e) = ⊥
 
@@ -24,10 +24,10 @@ gave : (w : PlainSetting) (f : Value) (args : List Value) (s t u : WorldState) (
 gave w f args s t u v e h k = subst IsGiven (ends-one-end (call_of w (call_to f args) s) (Ok v) (Err e) t u h k) tt
 
 -- what comes is a value
-value-of : (C D : End → WorldState → Type 0) (e : End) (t : WorldState) → IsValue e → C e t → D e t → (v : Value) × (t : WorldState) × C (Ok v) t × D (Ok v) t
+value-of : (C D : CallEnd → WorldState → Type 0) (e : CallEnd) (t : WorldState) → IsValue e → C e t → D e t → (v : Value) × (t : WorldState) × C (Ok v) t × D (Ok v) t
 value-of C D e t i h d = (i.0, t, subst (λ a. C a t) i.1 h, subst (λ a. D a t) i.1 d)
 
-pub from-ends : (C D : End → WorldState → Type 0) → ((e : End) (t : WorldState) → D e t → IsValue e) → ((e : End) × (t : WorldState) × C e t × D e t) → (v : Value) × (t : WorldState) × C (Ok v) t × D (Ok v) t
+pub from-ends : (C D : CallEnd → WorldState → Type 0) → ((e : CallEnd) (t : WorldState) → D e t → IsValue e) → ((e : CallEnd) × (t : WorldState) × C e t × D e t) → (v : Value) × (t : WorldState) × C (Ok v) t × D (Ok v) t
 from-ends C D values m = value-of C D m.0 m.1 (values m.0 m.1 m.3) m.2 m.3
 
 module _ (w : PlainSetting) (f : Value) where
@@ -42,11 +42,11 @@ module _ (w : PlainSetting) (f : Value) where
       let m = g u h in
       no-stop rows v e t (subst (AllGive w f rows) (gives-one-state (call_of w (call_to f row) u) m.0 y m.1 v m.2 c) m.3) i
 
-  pub map-values : (rows : List (List Value)) (s : WorldState) (r : End) (t : WorldState) → AllGive w f rows s → MapDid w f rows s r t → IsValue r
+  pub map-values : (rows : List (List Value)) (s : WorldState) (r : CallEnd) (t : WorldState) → AllGive w f rows s → MapDid w f rows s r t → IsValue r
   map-values rows s (Ok v) t g d = (v, refl)
   map-values rows s (Err e) t g d = absurd (no-stop rows s e t g d)
 
-  pub visit-values : (rows : List (List Value)) (s : WorldState) (r : End) (t : WorldState) → AllGive w f rows s → VisitDid w f rows s r t → IsValue r
+  pub visit-values : (rows : List (List Value)) (s : WorldState) (r : CallEnd) (t : WorldState) → AllGive w f rows s → VisitDid w f rows s r t → IsValue r
   visit-values rows s (Ok v) t g d = (v, refl)
   visit-values rows s (Err e) t g d = absurd (no-stop rows s e t g d)
 
@@ -54,7 +54,7 @@ module _ (w : PlainSetting) (f : Value) where
   for-all-ends [] s g = tt
   for-all-ends (row ∷ rows) s g = λ t k. let c = g t k in (Ok c.0, c.1, c.2, λ e. for-all-ends rows c.1 (c.3 e))
 
-  pub for-all-values : (rows : List (List Value)) (s : WorldState) (r : End) (t : WorldState) → ForAllGives w f rows s → ForAllByRows w f rows s r t → IsValue r
+  pub for-all-values : (rows : List (List Value)) (s : WorldState) (r : CallEnd) (t : WorldState) → ForAllGives w f rows s → ForAllByRows w f rows s r t → IsValue r
   for-all-values [] s r t g (all_none h) = (truth true, refl)
   for-all-values (row ∷ []) s r t g (all_last {t = u} h c) = let m = g u h in (m.0, ends-one-end (call_of w (call_to f row) u) r (Ok m.0) t m.1 c m.2)
   for-all-values (row ∷ next ∷ rows) s r t g (all_but h c e) = (truth false, refl)
@@ -68,7 +68,7 @@ module _ (w : PlainSetting) (f : Value) where
   exists-ends [] s g = tt
   exists-ends (row ∷ rows) s g = λ t k. let c = g t k in (Ok c.0, c.1, c.2, λ e. exists-ends rows c.1 (c.3 e))
 
-  pub exists-values : (rows : List (List Value)) (s : WorldState) (r : End) (t : WorldState) → ExistsGives w f rows s → ExistsByRows w f rows s r t → IsValue r
+  pub exists-values : (rows : List (List Value)) (s : WorldState) (r : CallEnd) (t : WorldState) → ExistsGives w f rows s → ExistsByRows w f rows s r t → IsValue r
   exists-values [] s r t g (some_none h) = (truth false, refl)
   exists-values (row ∷ []) s r t g (some_last {t = u} h c) = let m = g u h in (m.0, ends-one-end (call_of w (call_to f row) u) r (Ok m.0) t m.1 c m.2)
   exists-values (row ∷ next ∷ rows) s r t g (some_here {y = y} h c e k) = (y, refl)
@@ -82,7 +82,7 @@ module _ (w : PlainSetting) (f : Value) where
   left-ends z [] s g = tt
   left-ends z (row ∷ rows) s g = λ t k. let c = g t k in (Ok c.0, c.1, c.2, left-ends c.0 rows c.1 c.3)
 
-  pub left-values : (z : Value) (rows : List (List Value)) (s : WorldState) (r : End) (t : WorldState) → FoldLeftGives w f z rows s → FoldLeftByRows w f z rows s r t → IsValue r
+  pub left-values : (z : Value) (rows : List (List Value)) (s : WorldState) (r : CallEnd) (t : WorldState) → FoldLeftGives w f z rows s → FoldLeftByRows w f z rows s r t → IsValue r
   left-values z [] s r t g (left_end h) = (z, refl)
   left-values z (row ∷ rows) s r t g (left_step {y = y} {t = u} {u = v} h c i) =
       let m = g u h in
@@ -95,7 +95,7 @@ module _ (w : PlainSetting) (f : Value) where
   right-ends z [] s g = tt
   right-ends z (row ∷ rows) s g = (right-ends z rows s g.0, λ x t u i h. let m = g.1 x t u i h in (Ok m.0, m.1, m.2))
 
-  pub right-values : (z : Value) (rows : List (List Value)) (s : WorldState) (r : End) (t : WorldState) → FoldRightGives w f z rows s → FoldRightByRows w f z rows s r t → IsValue r
+  pub right-values : (z : Value) (rows : List (List Value)) (s : WorldState) (r : CallEnd) (t : WorldState) → FoldRightGives w f z rows s → FoldRightByRows w f z rows s r t → IsValue r
   right-values z [] s r t g (right_end h) = (z, refl)
   right-values z (row ∷ rows) s r t g (right_step {x = x} {t = u} {u = v} i h c) =
       let m = g.1 x u v i h in (m.0, ends-one-end (call_of w (call_to f (row ++ x ∷ [])) v) r (Ok m.0) t m.1 c m.2)

@@ -17,7 +17,7 @@ use Rattle.eval_code.specs.State.{WorldState, Go, next_place, with_cell}
 use Rattle.eval_code.specs.Variables.{Entries}
 use Rattle.law_eval.specs.Kept.{LaterWorld}
 use Rattle.law_eval.proofs.Keeping.{later_then, later_with}
-use Rattle.law_given.specs.Calls.{End, call_to, CallEnds}
+use Rattle.law_given.specs.Calls.{CallEnd, call_to, CallEnds}
 use Rattle.law_given.specs.Codes.{label, code_no, var, prim, formals, one_case, app, datum_at, text_code, for_each_body, for_each_text}
 use Rattle.law_given.proofs.Giving.{Evaluates, ExpressionEnds, procedure-is, primitive-is, no-arm}
 use Rattle.law_given.proofs.Inside.{Inside, home-later, entered-inside, own}
@@ -81,7 +81,7 @@ module _ (w : PlainSetting) (knows : Knows w.codes) (f l m : Value) (ms : List V
   abbrev go_on : Go
   go_on = λ x. in_sequence w (eval_of w) (more no_value none) q
 
-  mapping-iff : (r : End) (t : WorldState) → Iff (ExpressionEnds w mapping q inner r t) (CallEnds w (call_to (value.Prim (record { 0 = names.MAP })) (f ∷ l ∷ m ∷ ms)) inner r t)
+  mapping-iff : (r : CallEnd) (t : WorldState) → Iff (ExpressionEnds w mapping q inner r t) (CallEnds w (call_to (value.Prim (record { 0 = names.MAP })) (f ∷ l ∷ m ∷ ms)) inner r t)
   mapping-iff r t =
       iff-then
       (four-iff w (prim names.APPLY) (prim names.MAP) (var 23) (var 24) (var 25) q inner inner inner inner inner inner t (value.Prim (record { 0 = names.APPLY })) (value.Prim (record { 0 = names.MAP })) f l rest r
@@ -92,7 +92,7 @@ module _ (w : PlainSetting) (knows : Knows w.codes) (f l m : Value) (ms : List V
   second : (t : WorldState) → Evaluates w no_value q t value.Unspecified t
   second t = no-arm w _ _ q t t (truth false) (bool-is w _ false q t) refl
 
-  entered-iff : has_text names.FOR_EACH ≡ true → (r : End) (t : WorldState) → Iff (CallEnds w (call_to (value.Prim (record { 0 = names.FOR_EACH })) (f ∷ l ∷ m ∷ ms)) s r t) (Split (eval_of w mapping q inner) go_on r t)
+  entered-iff : has_text names.FOR_EACH ≡ true → (r : CallEnd) (t : WorldState) → Iff (CallEnds w (call_to (value.Prim (record { 0 = names.FOR_EACH })) (f ∷ l ∷ m ∷ ms)) s r t) (Split (eval_of w mapping q inner) go_on r t)
   entered-iff is_text r t =
       iff-then
       (text-iff w (record { 0 = names.FOR_EACH }) (f ∷ l ∷ m ∷ ms) s outside t (text_code names.FOR_EACH for_each_text) for_each_text (code_no 21) p r refl is_text knows.for_each_text refl
@@ -104,8 +104,8 @@ module _ (w : PlainSetting) (knows : Knows w.codes) (f l m : Value) (ms : List V
 
   module _ (rows : List (List Value)) (r : InRows s.cells rows (l ∷ m ∷ ms)) where
     -- what `map` did, and nothing of it
-    visited : (e : End) (t : WorldState) → CallEnds w (call_to (value.Prim (record { 0 = names.MAP })) (f ∷ l ∷ m ∷ ms)) inner e t → MapDid w f rows inner e t → has_text names.FOR_EACH ≡ true
-        → (e : End) × (t : WorldState) × CallEnds w (call_to (value.Prim (record { 0 = names.FOR_EACH })) (f ∷ l ∷ m ∷ ms)) s e t × VisitDid w f rows s e t
+    visited : (e : CallEnd) (t : WorldState) → CallEnds w (call_to (value.Prim (record { 0 = names.MAP })) (f ∷ l ∷ m ∷ ms)) inner e t → MapDid w f rows inner e t → has_text names.FOR_EACH ≡ true
+        → (e : CallEnd) × (t : WorldState) × CallEnds w (call_to (value.Prim (record { 0 = names.FOR_EACH })) (f ∷ l ∷ m ∷ ms)) s e t × VisitDid w f rows s e t
     visited (Ok v) t h d is_text = (
       Ok value.Unspecified,
       t,
@@ -114,19 +114,19 @@ module _ (w : PlainSetting) (knows : Knows w.codes) (f l m : Value) (ms : List V
     )
     visited (Err b) t h d is_text = (Err b, t, (entered-iff is_text (Err b) t).1 (stopped ((mapping-iff (Err b) t).1 h)), stops-from w f rows b s inner t far d)
 
-    pub for-each-ended : AllEnd w f rows s → (e : End) × (t : WorldState) × CallEnds w (call_to (value.Prim (record { 0 = names.FOR_EACH })) (f ∷ l ∷ m ∷ ms)) s e t × VisitDid w f rows s e t
+    pub for-each-ended : AllEnd w f rows s → (e : CallEnd) × (t : WorldState) × CallEnds w (call_to (value.Prim (record { 0 = names.FOR_EACH })) (f ∷ l ∷ m ∷ ms)) s e t × VisitDid w f rows s e t
     unfolding has_text
     for-each-ended give =
         let d = map-ended w knows f l m ms inner rows (rows-later s inner far r) (all-end-later w f rows s inner far give) in
         visited d.0 d.1 d.2 d.3 refl
 
-    did-by : (e : End) (t : WorldState) → Split (eval_of w mapping q inner) go_on e t → VisitDid w f rows s e t
+    did-by : (e : CallEnd) (t : WorldState) → Split (eval_of w mapping q inner) go_on e t → VisitDid w f rows s e t
     did-by e t (stopped {e = b} h) = stops-from w f rows b s inner t far (map-only w knows f l m ms inner rows (rows-later s inner far r) (Err b) t ((mapping-iff (Err b) t).0 h))
     did-by e t (went v u h onward) =
         let d = map-only w knows f l m ms inner rows (rows-later s inner far r) (Ok v) u ((mapping-iff (Ok v) u).0 h) in
         subst (λ c. VisitDid w f rows s e c) (ends-one-state (go_on v u) (Ok value.Unspecified) e u t (second u) onward)
         (subst (λ c. VisitDid w f rows s c u) (ends-one-end (go_on v u) (Ok value.Unspecified) e u t (second u) onward) (d.0, in-turn-from w f rows d.0 s inner u far d.1, refl))
 
-    pub for-each-only : (e : End) (t : WorldState) → CallEnds w (call_to (value.Prim (record { 0 = names.FOR_EACH })) (f ∷ l ∷ m ∷ ms)) s e t → VisitDid w f rows s e t
+    pub for-each-only : (e : CallEnd) (t : WorldState) → CallEnds w (call_to (value.Prim (record { 0 = names.FOR_EACH })) (f ∷ l ∷ m ∷ ms)) s e t → VisitDid w f rows s e t
     unfolding has_text
     for-each-only e t called = did-by e t ((entered-iff refl e t).0 called)

@@ -8,7 +8,7 @@ ghost use Rattle.eval_code.specs.State.{WorldState};
 ghost use Rattle.law_lists.specs.Runs.{IsList, AreLists};
 ghost use Rattle.eval_value.specs.declared.cell.Cell.{Cell};
 ghost use Rattle.eval_value.specs.declared.value.Value.{Value};
-ghost use Rattle.law_given.specs.Calls.{End, call_to, CallEnds, Calls};
+ghost use Rattle.law_given.specs.Calls.{CallEnd, call_to, CallEnds, Calls};
 ghost use Rattle.law_given.specs.InTurn as given;
 ghost use Rattle.law_given.specs.Given.{built_in, ForAlls, Existences, FoldsLeft, FoldsRight};
 ghost use Rattle.law_given.specs.Texts.{HasTexts};
@@ -32,8 +32,8 @@ pub fn map_gives_the_answers()
         (v : Value) × (t : WorldState) × Calls w (call_to (built_in names.MAP) (f ∷ l ∷ m ∷ more)) s v t × MapDid w f rows s (Ok v) t }
     ensures ends { (w : PlainSetting) (f l m : Value) (more : List Value) (rows : List (List Value)) (s : WorldState) → HasTexts w
         → InRows s.cells rows (l ∷ m ∷ more) → AllEnd w f rows s →
-        (r : End) × (t : WorldState) × CallEnds w (call_to (built_in names.MAP) (f ∷ l ∷ m ∷ more)) s r t × MapDid w f rows s r t }
-    ensures only { (w : PlainSetting) (f l m : Value) (more : List Value) (rows : List (List Value)) (s t : WorldState) (r : End)
+        (r : CallEnd) × (t : WorldState) × CallEnds w (call_to (built_in names.MAP) (f ∷ l ∷ m ∷ more)) s r t × MapDid w f rows s r t }
+    ensures only { (w : PlainSetting) (f l m : Value) (more : List Value) (rows : List (List Value)) (s t : WorldState) (r : CallEnd)
         → HasTexts w → InRows s.cells rows (l ∷ m ∷ more) →
         CallEnds w (call_to (built_in names.MAP) (f ∷ l ∷ m ∷ more)) s r t → MapDid w f rows s r t }
 {}
@@ -46,8 +46,8 @@ pub fn for_each_calls_in_order()
         (v : Value) × (t : WorldState) × Calls w (call_to (built_in names.FOR_EACH) (f ∷ l ∷ m ∷ more)) s v t × VisitDid w f rows s (Ok v) t }
     ensures ends { (w : PlainSetting) (f l m : Value) (more : List Value) (rows : List (List Value)) (s : WorldState) → HasTexts w
         → InRows s.cells rows (l ∷ m ∷ more) → AllEnd w f rows s →
-        (r : End) × (t : WorldState) × CallEnds w (call_to (built_in names.FOR_EACH) (f ∷ l ∷ m ∷ more)) s r t × VisitDid w f rows s r t }
-    ensures only { (w : PlainSetting) (f l m : Value) (more : List Value) (rows : List (List Value)) (s t : WorldState) (r : End)
+        (r : CallEnd) × (t : WorldState) × CallEnds w (call_to (built_in names.FOR_EACH) (f ∷ l ∷ m ∷ more)) s r t × VisitDid w f rows s r t }
+    ensures only { (w : PlainSetting) (f l m : Value) (more : List Value) (rows : List (List Value)) (s t : WorldState) (r : CallEnd)
         → HasTexts w → InRows s.cells rows (l ∷ m ∷ more) →
         CallEnds w (call_to (built_in names.FOR_EACH) (f ∷ l ∷ m ∷ more)) s r t → VisitDid w f rows s r t }
 {}
@@ -60,8 +60,8 @@ pub fn for_all_asks_in_order()
         (v : Value) × (t : WorldState) × Calls w (call_to (built_in names.FOR_ALL) (f ∷ l ∷ more)) s v t × ForAllByRows w f rows s (Ok v) t }
     ensures ends { (w : PlainSetting) (f l : Value) (more : List Value) (rows : List (List Value)) (s : WorldState) → HasTexts w
         → InRows s.cells rows (l ∷ more) → ForAllEnds w f rows s →
-        (r : End) × (t : WorldState) × CallEnds w (call_to (built_in names.FOR_ALL) (f ∷ l ∷ more)) s r t × ForAllByRows w f rows s r t }
-    ensures only { (w : PlainSetting) (f l : Value) (more : List Value) (rows : List (List Value)) (s t : WorldState) (r : End)
+        (r : CallEnd) × (t : WorldState) × CallEnds w (call_to (built_in names.FOR_ALL) (f ∷ l ∷ more)) s r t × ForAllByRows w f rows s r t }
+    ensures only { (w : PlainSetting) (f l : Value) (more : List Value) (rows : List (List Value)) (s t : WorldState) (r : CallEnd)
         → HasTexts w → InRows s.cells rows (l ∷ more) →
         CallEnds w (call_to (built_in names.FOR_ALL) (f ∷ l ∷ more)) s r t → ForAllByRows w f rows s r t }
 {}
@@ -74,8 +74,8 @@ pub fn exists_asks_in_order()
         (v : Value) × (t : WorldState) × Calls w (call_to (built_in names.EXISTS) (f ∷ l ∷ more)) s v t × ExistsByRows w f rows s (Ok v) t }
     ensures ends { (w : PlainSetting) (f l : Value) (more : List Value) (rows : List (List Value)) (s : WorldState) → HasTexts w
         → InRows s.cells rows (l ∷ more) → ExistsEnds w f rows s →
-        (r : End) × (t : WorldState) × CallEnds w (call_to (built_in names.EXISTS) (f ∷ l ∷ more)) s r t × ExistsByRows w f rows s r t }
-    ensures only { (w : PlainSetting) (f l : Value) (more : List Value) (rows : List (List Value)) (s t : WorldState) (r : End)
+        (r : CallEnd) × (t : WorldState) × CallEnds w (call_to (built_in names.EXISTS) (f ∷ l ∷ more)) s r t × ExistsByRows w f rows s r t }
+    ensures only { (w : PlainSetting) (f l : Value) (more : List Value) (rows : List (List Value)) (s t : WorldState) (r : CallEnd)
         → HasTexts w → InRows s.cells rows (l ∷ more) →
         CallEnds w (call_to (built_in names.EXISTS) (f ∷ l ∷ more)) s r t → ExistsByRows w f rows s r t }
 {}
@@ -88,8 +88,8 @@ pub fn fold_left_goes_from_the_left()
         (v : Value) × (t : WorldState) × Calls w (call_to (built_in names.FOLD_LEFT) (f ∷ z ∷ l ∷ more)) s v t × FoldLeftByRows w f z rows s (Ok v) t }
     ensures ends { (w : PlainSetting) (f z l : Value) (more : List Value) (rows : List (List Value)) (s : WorldState) → HasTexts w
         → InRows s.cells rows (l ∷ more) → FoldLeftEnds w f z rows s →
-        (r : End) × (t : WorldState) × CallEnds w (call_to (built_in names.FOLD_LEFT) (f ∷ z ∷ l ∷ more)) s r t × FoldLeftByRows w f z rows s r t }
-    ensures only { (w : PlainSetting) (f z l : Value) (more : List Value) (rows : List (List Value)) (s t : WorldState) (r : End)
+        (r : CallEnd) × (t : WorldState) × CallEnds w (call_to (built_in names.FOLD_LEFT) (f ∷ z ∷ l ∷ more)) s r t × FoldLeftByRows w f z rows s r t }
+    ensures only { (w : PlainSetting) (f z l : Value) (more : List Value) (rows : List (List Value)) (s t : WorldState) (r : CallEnd)
         → HasTexts w → InRows s.cells rows (l ∷ more) →
         CallEnds w (call_to (built_in names.FOLD_LEFT) (f ∷ z ∷ l ∷ more)) s r t → FoldLeftByRows w f z rows s r t }
 {}
@@ -102,8 +102,9 @@ pub fn fold_right_goes_from_the_right()
         (v : Value) × (t : WorldState) × Calls w (call_to (built_in names.FOLD_RIGHT) (f ∷ z ∷ l ∷ more)) s v t × FoldRightByRows w f z rows s (Ok v) t }
     ensures ends { (w : PlainSetting) (f z l : Value) (more : List Value) (rows : List (List Value)) (s : WorldState) → HasTexts w
         → InRows s.cells rows (l ∷ more) → FoldRightEnds w f z rows s →
-        (r : End) × (t : WorldState) × CallEnds w (call_to (built_in names.FOLD_RIGHT) (f ∷ z ∷ l ∷ more)) s r t × FoldRightByRows w f z rows s r t }
-    ensures only { (w : PlainSetting) (f z l : Value) (more : List Value) (rows : List (List Value)) (s t : WorldState) (r : End)
+        (r : CallEnd) × (t : WorldState) × CallEnds w (call_to (built_in names.FOLD_RIGHT) (f ∷ z ∷ l ∷ more)) s r t
+        × FoldRightByRows w f z rows s r t }
+    ensures only { (w : PlainSetting) (f z l : Value) (more : List Value) (rows : List (List Value)) (s t : WorldState) (r : CallEnd)
         → HasTexts w → InRows s.cells rows (l ∷ more) →
         CallEnds w (call_to (built_in names.FOLD_RIGHT) (f ∷ z ∷ l ∷ more)) s r t → FoldRightByRows w f z rows s r t }
 {}

@@ -17,7 +17,7 @@ use Rattle.eval_pattern.specs.Matched.{limit, one_more as more_limit}
 use Rattle.eval_pattern.specs.Values.{atom_of}
 use Rattle.eval_pattern.specs.declared.columns.Column.{Column}
 use Rattle.eval_pattern.specs.declared.compile.PatternVariable.{PatternVariable}
-use Rattle.law_matches.specs.Matches.{Bindings, pair_of, stacked, IsLast, Begins, here, next, Matches, takes_variable, takes_atom, takes_list, Fills, no_more, one_more, all_but, Repeats, no_rows, one_row}
+use Rattle.law_matches.specs.Matches.{MatchBinds, pair_of, stacked, IsLast, Begins, here, next, Matches, takes_variable, takes_atom, takes_list, Fills, no_more, one_more, all_but, Repeats, no_rows, one_row}
 use Rattle.expand_quasi.specs.Inserted.{listed, pattern_under, insert_pattern, inserts_pattern}
 use Rattle.law_insert_code.specs.Inserted.{IsEmpty, stored, written, IsListOf, IsBoundTo, as_it_is, by_elements, AreBoundTo, no_insert, one_insert}
 
@@ -61,7 +61,7 @@ module _ (old new : List Cell) (stay : Stay old new) where
   bound_still (as_it_is e) = as_it_is e
   bound_still (by_elements e l) = by_elements e (record { end = l.end; begins = begins_still l.begins; empty = l.empty })
 
-  pub all_still : {xs : List PatternVariable} {vs : List Value} {bs : Bindings} → AreBoundTo old xs vs bs → AreBoundTo new xs vs bs
+  pub all_still : {xs : List PatternVariable} {vs : List Value} {bs : MatchBinds} → AreBoundTo old xs vs bs → AreBoundTo new xs vs bs
   all_still no_insert = no_insert
   all_still (one_insert h k) = one_insert (bound_still h) (all_still k)
 
@@ -69,7 +69,7 @@ module _ (old new : List Cell) (stay : Stay old new) where
 
 -- a row for each element, and what these take
 
-abbrev rows_of : Label → List Value → List Bindings
+abbrev rows_of : Label → List Value → List MatchBinds
 rows_of l [] = []
 rows_of l (x ∷ xs) = ((l, one x) ∷ []) ∷ rows_of l xs
 
@@ -99,11 +99,11 @@ limited (p ∷ ps) = ap more_limit (limited ps)
 
 module _ (fs : Scope) (cells : List Cell) where
   -- a pattern takes a value with these binds
-  pub record Takes (p : PlainPattern) (v : Value) (bs : Bindings) : Type 0 where
+  pub record Takes (p : PlainPattern) (v : Value) (bs : MatchBinds) : Type 0 where
     pub count : ℕ
     pub matches : Matches fs cells p v bs count
 
-  record Fill (xs : List PatternVariable) (vs : List Value) (bs : Bindings) : Type 0 where
+  record Fill (xs : List PatternVariable) (vs : List Value) (bs : MatchBinds) : Type 0 where
     count : ℕ
     fills : Fills fs cells (patterns (map insert_pattern xs)) vs bs count
 
@@ -116,7 +116,7 @@ module _ (fs : Scope) (cells : List Cell) where
       let e : closed (stacked (empty_columns (variable l) []) (rows_of l xs)) ++ [] ≡ (l, many (turns (map one xs))) ∷ [] = ap (λ cols. closed cols ++ []) (one_column l [] xs) in
       let f : Fills fs cells (dots (variable l) none) (xs ++ []) (closed (stacked (empty_columns (variable l) []) (rows_of l xs)) ++ []) (rows_take xs + 0) = all_but (each_repeats l xs) refl no_more in
       subst (λ (ys : List Value). Fills fs cells (dots (variable l) none) ys ((l, many (turns (map one xs))) ∷ []) (rows_take xs + 0)) (append-nil xs)
-      (subst (λ (bs : Bindings). Fills fs cells (dots (variable l) none) (xs ++ []) bs (rows_take xs + 0)) e f)
+      (subst (λ (bs : MatchBinds). Fills fs cells (dots (variable l) none) (xs ++ []) bs (rows_take xs + 0)) e f)
 
   listed_takes : (l : Label) (xs : List Value) (v : Value) → IsListOf cells xs v → Takes (listed (variable l)) v ((l, many (turns (map one xs))) ∷ [])
   listed_takes l xs v h = record {
@@ -129,17 +129,17 @@ module _ (fs : Scope) (cells : List Cell) where
   insert_takes x v b (by_elements {xs = xs} e h) =
       subst (λ (d : ℕ). Takes (pattern_under d (variable x.label)) v ((x.label, many (turns (map one xs))) ∷ [])) (sym e) (listed_takes x.label xs v h)
 
-  inserts_fill : (xs : List PatternVariable) (vs : List Value) (bs : Bindings) → AreBoundTo cells xs vs bs → Fill xs vs bs
+  inserts_fill : (xs : List PatternVariable) (vs : List Value) (bs : MatchBinds) → AreBoundTo cells xs vs bs → Fill xs vs bs
   inserts_fill xs vs bs no_insert = record { count = 0; fills = no_more }
   inserts_fill xs vs bs (one_insert {x = x} {xs = ys} {v = v} {vs = us} {b = b} {bs = cs} h k) =
       let first = insert_takes x v b h in
       let rest = inserts_fill ys us cs k in
       record { count = first.count + rest.count; fills = one_more first.matches rest.fills }
 
-  pub inserts_take : (xs : List PatternVariable) (vs : List Value) (bs : Bindings) (v : Value) → AreBoundTo cells xs vs bs → Begins cells vs (value.Atom a.Nil) v
+  pub inserts_take : (xs : List PatternVariable) (vs : List Value) (bs : MatchBinds) (v : Value) → AreBoundTo cells xs vs bs → Begins cells vs (value.Atom a.Nil) v
       → Takes (inserts_pattern xs) v bs
   inserts_take xs vs bs v h b =
       let f = inserts_fill xs vs bs h in
       let last : IsLast cells (limit (patterns (map insert_pattern xs))) (value.Atom a.Nil) = subst (λ (o : Option ℕ). IsLast cells o (value.Atom a.Nil)) (sym (limited (map insert_pattern xs))) tt in
       let m : Matches fs cells (inserts_pattern xs) v (bs ++ []) (f.count + 0) = takes_list b last f.fills (takes_atom refl) in
-      record { count = f.count + 0; matches = subst (λ (cs : Bindings). Matches fs cells (inserts_pattern xs) v cs (f.count + 0)) (append-nil bs) m }
+      record { count = f.count + 0; matches = subst (λ (cs : MatchBinds). Matches fs cells (inserts_pattern xs) v cs (f.count + 0)) (append-nil bs) m }

@@ -25,7 +25,7 @@ use Rattle.eval_prims.proofs.Performed.{pairs_good}
 use Rattle.eval_pattern.specs.Matched.{matched, nothing}
 use Rattle.eval_pattern.specs.declared.columns.PatternBinds.{PatternBinds}
 use Rattle.eval_pattern.specs.declared.compile.PatternVariable.{PatternVariable}
-use Rattle.law_matches.specs.Matches.{Bindings}
+use Rattle.law_matches.specs.Matches.{MatchBinds}
 use Rattle.law_matches.proofs.Complete.{with, matched_is}
 use Rattle.law_lists.proofs.RunLemmas.{stored_runs, stored_stay}
 use Rattle.eval_code.specs.Instances as instances
@@ -33,7 +33,7 @@ use Rattle.eval_code.specs.Meaning.{eval_of, applied, tried, on_match, output_gi
 use Rattle.eval_code.specs.Procedures.{has_text}
 use Rattle.eval_code.specs.Setting.{PlainSetting}
 use Rattle.eval_code.specs.State.{WorldState, charged, next_place}
-use Rattle.law_given.specs.Calls.{End, Ends, Gives, call_to, Calls}
+use Rattle.law_given.specs.Calls.{CallEnd, Ends, Gives, call_to, Calls}
 use Rattle.law_given.proofs.Calling.{plain-called}
 use Rattle.law_given.proofs.Giving.{ends-same, ends-then, ends-charged, ends-step, Evaluates, Operands, operand, primitive-is, call-is}
 use Rattle.expand_quasi.specs.Filled.{call_of}
@@ -65,7 +65,7 @@ module _ (w : PlainSetting) (scope : Place) where
       (operands_given cs s t (with_list vs t) vs (value.Prim list_op ∷ []) (pairs_stored vs (nil, t.cells)).0 g (list_called vs t))
 
   -- the one clause, where it matches
-  clause_ends : (p : PlainPattern) (c : PlainCore) (v : Value) (t u : WorldState) (f : PatternBinds) (r : End) → instances.match_of w.frames t.cells p v ≡ Some f
+  clause_ends : (p : PlainPattern) (c : PlainCore) (v : Value) (t u : WorldState) (f : PatternBinds) (r : CallEnd) → instances.match_of w.frames t.cells p v ≡ Some f
       → Ends (eval_of w c (next_place t) (with_binds f.binds scope t)) r u → Ends (tried w (eval_of w) (clause p c no_clause) v scope t) r u
   unfolding tried
   clause_ends p c v t u f r e h =
@@ -76,9 +76,9 @@ module _ (w : PlainSetting) (scope : Place) where
       (λ m. ap (on_match w (eval_of w) other take t m) e)
       (ends-charged f.taken t (take f t) r u h))
 
-  pub code-ends : (xs : List PatternVariable) (x : PlainTemplate) (span : Span) (cs : List PlainCore) (s t : WorldState) (vs : List Value) (bs : Bindings)
+  pub code-ends : (xs : List PatternVariable) (x : PlainTemplate) (span : Span) (cs : List PlainCore) (s t : WorldState) (vs : List Value) (bs : MatchBinds)
       → GiveInTurn w scope cs s vs t → WholeCells t.cells → Each (FitsIn t.cells) vs → AreBoundTo t.cells xs vs bs
-      → (r : End) (u : WorldState) → Ends (eval_of w (instance x span) (next_place (with_list vs t)) (with_binds bs scope (with_list vs t))) r u
+      → (r : CallEnd) (u : WorldState) → Ends (eval_of w (instance x span) (next_place (with_list vs t)) (with_binds bs scope (with_list vs t))) r u
       → Ends (eval_of w (match_of xs x span cs) scope s) r u
   code-ends xs x span cs s t vs bs g whole fit bound r u h =
       let p = pairs_stored vs (nil, t.cells) in

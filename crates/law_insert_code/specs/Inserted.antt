@@ -15,11 +15,11 @@ use Rattle.eval_value.specs.declared.value.Value.TheVariants as value
 use Rattle.eval_value.specs.declared.cell.Cell.{Cell}
 use Rattle.eval_value.specs.declared.cell.Cell.TheVariants as cell
 use Rattle.eval_pattern.specs.declared.compile.PatternVariable.{PatternVariable}
-use Rattle.law_matches.specs.Matches.{Bindings, Begins}
+use Rattle.law_matches.specs.Matches.{MatchBinds, Begins}
 use Rattle.eval_code.specs.Meaning.{eval_of}
 use Rattle.eval_code.specs.Setting.{PlainSetting}
 use Rattle.eval_code.specs.State.{WorldState, store, next_place, with_cell}
-use Rattle.law_given.specs.Calls.{End, Ends, Gives}
+use Rattle.law_given.specs.Calls.{CallEnd, Ends, Gives}
 use Rattle.expand_quasi.specs.Inserted.{match_of}
 
 module _ (w : PlainSetting) (scope : Place) where
@@ -46,9 +46,9 @@ pub data IsBoundTo (cells : List Cell) (x : PatternVariable) (v : Value) : Plain
   by_elements : {xs : List Value} → x.depth ≡ 1 → IsListOf cells xs v → IsBoundTo cells x v (many (turns (map one xs)))
 
 -- each variable with what it is bound to
-pub data AreBoundTo (cells : List Cell) : List PatternVariable → List Value → Bindings → Type 0 where
+pub data AreBoundTo (cells : List Cell) : List PatternVariable → List Value → MatchBinds → Type 0 where
   no_insert : AreBoundTo cells [] [] []
-  one_insert : {x : PatternVariable} {xs : List PatternVariable} {v : Value} {vs : List Value} {b : PlainBind} {bs : Bindings}
+  one_insert : {x : PatternVariable} {xs : List PatternVariable} {v : Value} {vs : List Value} {b : PlainBind} {bs : MatchBinds}
       → IsBoundTo cells x v b → AreBoundTo cells xs vs bs → AreBoundTo cells (x ∷ xs) (v ∷ vs) ((x.label, b) ∷ bs)
 
 -- the state in which there is a list of these values
@@ -56,14 +56,14 @@ abbrev pub with_list : List Value → WorldState → WorldState
 with_list vs s = store (pairs_stored vs (value.Atom a.Nil, s.cells)).1 s.names
 
 -- the state in which the variables are bound, for what stands in a cell of variables
-abbrev pub with_binds : Bindings → Place → WorldState → WorldState
+abbrev pub with_binds : MatchBinds → Place → WorldState → WorldState
 with_binds bs scope s = with_cell (cell.Binds bs (Some scope)) s
 
 -- Where the codes of the expressions give values in turn, the code of the form comes to what its template comes to with the variables bound to these.
 abbrev pub CodeGivesTheInstance : Type 0
 CodeGivesTheInstance =
     (w : PlainSetting) (xs : List PatternVariable) (x : PlainTemplate) (span : Span) (cs : List PlainCore)
-    (scope : Place) (s t : WorldState) (vs : List Value) (bs : Bindings)
+    (scope : Place) (s t : WorldState) (vs : List Value) (bs : MatchBinds)
     → GiveInTurn w scope cs s vs t → WholeCells t.cells → Each (FitsIn t.cells) vs → AreBoundTo t.cells xs vs bs
-    → (r : End) (u : WorldState) → Ends (eval_of w (instance x span) (next_place (with_list vs t)) (with_binds bs scope (with_list vs t))) r u
+    → (r : CallEnd) (u : WorldState) → Ends (eval_of w (instance x span) (next_place (with_list vs t)) (with_binds bs scope (with_list vs t))) r u
     → Ends (eval_of w (match_of xs x span cs) scope s) r u

@@ -16,7 +16,7 @@ use Rattle.law_shapes.proofs.Complete.{list-elements, list-ends}
 use Rattle.core_quasi.specs.Words.{inner, reach, counts}
 use Rattle.core_quasi.specs.Parts.{rest_at, splits, taken_by, behind_head, first_word, operand_of}
 use Rattle.core_quasi.specs.Quasi.{at_form}
-use Rattle.core_quasi.specs.QuasiSyntax.{Looked, Inserts, then_insert, insert_leaf, insert, leaves, spliced, no_trees, with_part, unchanged, rebuilt, list_joined, vector_joined, joined, Element, step_by, step, walked, operand_or_bad, begun_by, Tail, finished, flat, split_tail, escapes, list_made, vector_made, syntax_at, tail_made, element, answer}
+use Rattle.core_quasi.specs.QuasiSyntax.{Looked, Inserts, then_insert, insert_leaf, insert, leaves, spliced, no_trees, with_part, unchanged, rebuilt, list_joined, vector_joined, joined, ElementInserts, step_by, step, walked, operand_or_bad, begun_by, Tail, finished, flat, split_tail, escapes, list_made, vector_made, syntax_at, tail_made, element, answer}
 use Rattle.core_quasi.specs.declared.quasi_syntax.Insert.{Insert}
 use Rattle.core_quasi.specs.declared.quasi_syntax.QuasiPart.{QuasiPart}
 use Rattle.core_quasi.specs.declared.quasi_syntax.QuasiSyntax.{QuasiSyntax}
@@ -177,7 +177,7 @@ module _ (w : Looked) where
   take-are : (k : ℕ) (ts : List Tree) → take k (map (element w) ts) ≡ map (element w) (take k ts)
   take-are zero ts = refl
   take-are (suc k) [] = refl
-  take-are (suc k) (t ∷ ts) = ap (λ (xs : List Element). element w t ∷ xs) (take-are k ts)
+  take-are (suc k) (t ∷ ts) = ap (λ (xs : List ElementInserts). element w t ∷ xs) (take-are k ts)
 
   drop-are : (k : ℕ) (ts : List Tree) → drop k (map (element w) ts) ≡ map (element w) (drop k ts)
   drop-are zero ts = refl
@@ -424,8 +424,8 @@ module _ (w : Looked) where
             let h : has_tail w.words d ≡ true = sym (splits_is w.words a d) ∙ f in
             let k : length (map (element w) (a ∷ elements d)) - 2 ≡ suc (cut w.words d) = (let l = length-are (a ∷ elements d) in let m = cut_length w.words d h in omega (arith, l, m)) in
             subst (λ i. Tells (Comes n is the-list) (flat w the-list (take i (map (element w) (a ∷ elements d))) (record { ends = false; made = flat w (rest_at i the-list) (drop i (map (element w) (a ∷ elements d))) the-tail }) n is)) (sym k)
-            (subst (λ (xs : List Element). Tells (Comes n is the-list) (flat w the-list (element w a ∷ xs) (record { ends = false; made = flat w (rest_at (cut w.words d) d) (drop (cut w.words d) (map (element w) (elements d))) the-tail }) n is)) (sym (take-are (cut w.words d) (elements d)))
-            (subst (λ (xs : List Element). Tells (Comes n is the-list) (flat w the-list (map (element w) (a ∷ take (cut w.words d) (elements d))) (record { ends = false; made = flat w (rest_at (cut w.words d) d) xs the-tail }) n is)) (sym (drop-are (cut w.words d) (elements d)))
+            (subst (λ (xs : List ElementInserts). Tells (Comes n is the-list) (flat w the-list (element w a ∷ xs) (record { ends = false; made = flat w (rest_at (cut w.words d) d) (drop (cut w.words d) (map (element w) (elements d))) the-tail }) n is)) (sym (take-are (cut w.words d) (elements d)))
+            (subst (λ (xs : List ElementInserts). Tells (Comes n is the-list) (flat w the-list (map (element w) (a ∷ take (cut w.words d) (elements d))) (record { ends = false; made = flat w (rest_at (cut w.words d) d) xs the-tail }) n is)) (sym (drop-are (cut w.words d) (elements d)))
             (split-told s a d (not-escaped e) h all the-tail refl n (last n) is)))
 
   -- Vectors.
@@ -459,10 +459,10 @@ module _ (w : Looked) where
     told (atom s a) h n is = atom-told (atom s a) n is r.a_datum
     told (leaf s x c) h n is = atom-told (leaf s x c) n is r.an_identifier
     told (pair s a d) h n is =
-        subst (λ (xs : List Element). Tells (Comes n is (pair s a d)) (list_made w (pair s a d) ((a, syntax_at w a) ∷ xs) (record { ends = is_nil (tail_of d); made = tail_made w d }) n is)) (sym (elements_are w d))
+        subst (λ (xs : List ElementInserts). Tells (Comes n is (pair s a d)) (list_made w (pair s a d) ((a, syntax_at w a) ∷ xs) (record { ends = is_nil (tail_of d); made = tail_made w d }) n is)) (sym (elements_are w d))
         (subst (λ (go : ℕ → Inserts QuasiPart). Tells (Comes n is (pair s a d)) (list_made w (pair s a d) (map (element w) (a ∷ elements d)) (record { ends = is_nil (tail_of d); made = go }) n is)) (sym (tail_is w d))
         (pair-told s a d (told a h.0, all-told d h.1) (tail-told-of d h.1) n is))
-    told (vector s d) h n is = subst (λ (xs : List Element). Tells (Comes n is (vector s d)) (vector_made w (vector s d) xs n is)) (sym (elements_are w d)) (vector-told s d h.0 (all-told d h.1) n is)
+    told (vector s d) h n is = subst (λ (xs : List ElementInserts). Tells (Comes n is (vector s d)) (vector_made w (vector s d) xs n is)) (sym (elements_are w d)) (vector-told s d h.0 (all-told d h.1) n is)
 
     all-told : (t : Tree) → HoldsLists t → Each Told (elements t)
     all-told (atom s a) h = tt
@@ -474,7 +474,7 @@ module _ (w : Looked) where
     tail-told-of (atom s a) h n is = atom-told (atom s a) n is r.a_datum
     tail-told-of (leaf s x c) h n is = atom-told (leaf s x c) n is r.an_identifier
     tail-told-of (pair s a d) h n is = tail-told-of d h.1 n is
-    tail-told-of (vector s d) h n is = subst (λ (xs : List Element). Tells (Comes n is (vector s d)) (vector_made w (vector s d) xs n is)) (sym (elements_are w d)) (vector-told s d h.0 (all-told d h.1) n is)
+    tail-told-of (vector s d) h n is = subst (λ (xs : List ElementInserts). Tells (Comes n is (vector s d)) (vector_made w (vector s d) xs n is)) (sym (elements_are w d)) (vector-told s d h.0 (all-told d h.1) n is)
 
 pub inserts-are-told : InsertsAreTold
 inserts-are-told w t form place q h e = by (syntax_at w t 0 []) (told w t h 0 []) e

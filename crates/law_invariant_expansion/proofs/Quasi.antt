@@ -7,10 +7,10 @@ use Rattle.base_data.specs.declared.fault.Bare.{Bare}
 use Rattle.base_data.specs.declared.span.Span.{Span}
 use Rattle.stx_tree.specs.Tree.{Tree, atom, leaf, pair, vector, nil}
 use Rattle.core_shapes.specs.Lists.{is_nil, tail_of, proper_elements}
-use Rattle.core_quasi.specs.Words.{Words, head_word, inner, reach}
+use Rattle.core_quasi.specs.Words.{WordOf, head_word, inner, reach}
 use Rattle.core_quasi.specs.Parts.{behind_head, operands, taken_by, taken_at, rest_at, splits, first_word, operand_of}
 use Rattle.core_quasi.specs.Plan.{PlainQuasi, PlainQuasis, constant, expression, call, none, more, quasis}
-use Rattle.core_quasi.specs.Quasi.{no_pieces, closed, expressions, with_each, with_splices, is_constant, with_item, is_end, without_splices, made_of, list_joined, vector_joined, Element, forms, step_by, step, walked, operand_or_bad, begun_by, begins, Tail, finished, flat, split_tail, list_made, vector_made, quasi_at, elements_made, tail_made, at_form, quasi}
+use Rattle.core_quasi.specs.Quasi.{no_pieces, closed, expressions, with_each, with_splices, is_constant, with_item, is_end, without_splices, made_of, list_joined, vector_joined, ElementPlan, forms, step_by, step, walked, operand_or_bad, begun_by, begins, Tail, finished, flat, split_tail, list_made, vector_made, quasi_at, elements_made, tail_made, at_form, quasi}
 use Rattle.core_quasi.specs.declared.maker.Maker.TheVariants as maker
 use Rattle.core_quasi.specs.declared.parts.QuasiTaken.{QuasiTaken}
 use Rattle.core_quasi.specs.declared.parts.QuasiTaken.TheVariants as taken
@@ -55,7 +55,7 @@ module _ (I : Invariant) (parts : IsClosed I) where
   taken-by-holds word.Escape o h = tt
   taken-by-holds word.Plain o h = tt
 
-  pub taken-holds : (w : Words) (n : ℕ) (t : Tree) → I.trees t → TakenHolds (taken_at w n t)
+  pub taken-holds : (w : WordOf) (n : ℕ) (t : Tree) → I.trees t → TakenHolds (taken_at w n t)
   taken-holds w zero t h = taken-by-holds (head_word w t) (operands t) (operands-hold t h)
   taken-holds w (suc n) t h = tt
 
@@ -129,20 +129,20 @@ module _ (I : Invariant) (parts : IsClosed I) where
 
   -- Forms.
 
-  record IsElement (x : Element) : Type 0 where
+  record IsElement (x : ElementPlan) : Type 0 where
     form : I.trees x.0
     made : (n : ℕ) → OkHolds QuasiHolds (x.1 n)
 
-  forms-hold : (xs : List Element) → Each IsElement xs → Ts (forms xs)
+  forms-hold : (xs : List ElementPlan) → Each IsElement xs → Ts (forms xs)
   forms-hold [] h = tt
   forms-hold (x ∷ xs) h = (h.0.form, forms-hold xs h.1)
 
-  step-by-holds : (n : ℕ) (x : Element) (p : Pieces) (u : QuasiTaken) → IsElement x → PiecesHold p → TakenHolds u → OkHolds PiecesHold (step_by n x p u)
+  step-by-holds : (n : ℕ) (x : ElementPlan) (p : Pieces) (u : QuasiTaken) → IsElement x → PiecesHold p → TakenHolds u → OkHolds PiecesHold (step_by n x p u)
   step-by-holds n x p (taken.Each es) one h k = with-each-holds p es h k
   step-by-holds n x p (taken.Spliced es) one h k = with-splices-holds p es h k
   step-by-holds n x p taken.Kept one h k = then-holds QuasiHolds PiecesHold (x.1 n) (λ q. Ok (with_item p q)) (one.made n) (λ q j. with-item-holds p q h j)
 
-  walked-holds : (w : Words) (n : ℕ) (p : Pieces) (xs : List Element) → PiecesHold p → Each IsElement xs → OkHolds PiecesHold (walked w n p xs)
+  walked-holds : (w : WordOf) (n : ℕ) (p : Pieces) (xs : List ElementPlan) → PiecesHold p → Each IsElement xs → OkHolds PiecesHold (walked w n p xs)
   walked-holds w n p [] h all = h
   walked-holds w n p (x ∷ xs) h all =
       then-holds PiecesHold PiecesHold (step w n p x) (λ q. walked w n q xs) (step-by-holds n x p (taken_at w n x.0) all.0 h (taken-holds w n x.0 all.0.form)) (λ q k. walked-holds w n q xs k all.1)
@@ -160,7 +160,7 @@ module _ (I : Invariant) (parts : IsClosed I) where
   begun-holds o r reached.Refused h k = tt
   begun-holds o r reached.Elements h k = then-holds PiecesHold BegunHolds r (λ p. Ok (begun.Parts p)) k (λ p j. j)
 
-  begins-hold : (w : Words) (xs : List Element) (ends : Bool) (n : ℕ) → Each IsElement xs → OkHolds BegunHolds (begins w xs ends n)
+  begins-hold : (w : WordOf) (xs : List ElementPlan) (ends : Bool) (n : ℕ) → Each IsElement xs → OkHolds BegunHolds (begins w xs ends n)
   begins-hold w xs ends n all =
       begun-holds (operand_of ends (forms xs)) (walked w (inner (first_word w (forms xs)) n) no_pieces xs) (reach (first_word w (forms xs)) n) (operand-holds ends (forms xs) (forms-hold xs all))
       (walked-holds w (inner (first_word w (forms xs)) n) no_pieces xs (tt, tt) all)
@@ -179,19 +179,19 @@ module _ (I : Invariant) (parts : IsClosed I) where
   rest-holds (suc n) (pair s a d) h = rest-holds n d (parts.rest s a d h)
   rest-holds (suc n) (vector s d) h = h
 
-  flat-holds : (w : Words) (t : Tree) (xs : List Element) (x : Tail) (n : ℕ) → I.trees t → Each IsElement xs → IsTail x → OkHolds QuasiHolds (flat w t xs x n)
+  flat-holds : (w : WordOf) (t : Tree) (xs : List ElementPlan) (x : Tail) (n : ℕ) → I.trees t → Each IsElement xs → IsTail x → OkHolds QuasiHolds (flat w t xs x n)
   flat-holds w t xs x n g all tail = then-holds BegunHolds QuasiHolds (begins w xs x.ends n) (finished t x n) (begins-hold w xs x.ends n all) (λ b h. finished-holds t x n b g tail h)
 
-  list-made-holds : (w : Words) (t : Tree) (xs : List Element) (x : Tail) (n : ℕ) → I.trees t → Each IsElement xs → IsTail x → OkHolds QuasiHolds (list_made w t xs x n)
+  list-made-holds : (w : WordOf) (t : Tree) (xs : List ElementPlan) (x : Tail) (n : ℕ) → I.trees t → Each IsElement xs → IsTail x → OkHolds QuasiHolds (list_made w t xs x n)
   list-made-holds w t xs x n g all tail =
       ok-if QuasiHolds (splits w x.ends (forms xs)) (flat w t (take (length xs - 2) xs) (split_tail w t xs x) n) (flat w t xs x n)
       (flat-holds w t (take (length xs - 2) xs) (split_tail w t xs x) n g (each-taken IsElement (length xs - 2) xs all) (λ m. flat-holds w (rest_at (length xs - 2) t) (drop (length xs - 2) xs) x m (rest-holds (length xs - 2) t g) (each-dropped IsElement (length xs - 2) xs all) tail))
       (flat-holds w t xs x n g all tail)
 
-  vector-made-holds : (w : Words) (t : Tree) (xs : List Element) (n : ℕ) → I.trees t → Each IsElement xs → OkHolds QuasiHolds (vector_made w t xs n)
+  vector-made-holds : (w : WordOf) (t : Tree) (xs : List ElementPlan) (n : ℕ) → I.trees t → Each IsElement xs → OkHolds QuasiHolds (vector_made w t xs n)
   vector-made-holds w t xs n g all = then-holds PiecesHold QuasiHolds (walked w n no_pieces xs) (λ p. Ok (vector_joined t p)) (walked-holds w n no_pieces xs (tt, tt) all) (λ p h. vector-joined-holds t p g h)
 
-  module _ (w : Words) where
+  module _ (w : WordOf) where
     mutual
       quasi-at-holds : (t : Tree) → I.trees t → (n : ℕ) → OkHolds QuasiHolds (quasi_at w t n)
       quasi-at-holds (atom s a) g n = g

@@ -12,7 +12,7 @@ use Rattle.core_shapes.specs.Lists.{is_nil, tail_of}
 use Rattle.core_quasi.specs.Words.{inner, reach}
 use Rattle.core_quasi.specs.Parts.{taken_at, rest_at, splits, first_word, operand_of}
 use Rattle.core_quasi.specs.Quasi.{at_form}
-use Rattle.core_quasi.specs.QuasiSyntax.{Looked, Inserts, then_insert, insert_leaf, insert, no_trees, leaves, spliced, with_part, unchanged, rebuilt, list_joined, vector_joined, joined, Element, forms, step_by, step, walked, operand_or_bad, begun_by, begins, Tail, finished, flat, split_tail, escapes, list_made, vector_made, syntax_at, elements_made, tail_made, answer, quasi_syntax}
+use Rattle.core_quasi.specs.QuasiSyntax.{Looked, Inserts, then_insert, insert_leaf, insert, no_trees, leaves, spliced, with_part, unchanged, rebuilt, list_joined, vector_joined, joined, ElementInserts, forms, step_by, step, walked, operand_or_bad, begun_by, begins, Tail, finished, flat, split_tail, escapes, list_made, vector_made, syntax_at, elements_made, tail_made, answer, quasi_syntax}
 use Rattle.core_quasi.specs.declared.parts.QuasiTaken.{QuasiTaken}
 use Rattle.core_quasi.specs.declared.parts.QuasiTaken.TheVariants as taken
 use Rattle.core_quasi.specs.declared.quasi_syntax.Begun.{Begun}
@@ -92,11 +92,11 @@ module _ (I : Invariant) (built : IsBuilt I) (of_insert : (k : ℕ) → I.trees 
 
   -- Forms.
 
-  record IsElement (x : Element) : Type 0 where
+  record IsElement (x : ElementInserts) : Type 0 where
     form : I.trees x.0
     made : (n : ℕ) (is : List Insert) → Is is → Both PartHolds (x.1 n is)
 
-  forms-hold : (xs : List Element) → Each IsElement xs → Each I.trees (forms xs)
+  forms-hold : (xs : List ElementInserts) → Each IsElement xs → Each I.trees (forms xs)
   forms-hold [] h = tt
   forms-hold (x ∷ xs) h = (h.0.form, forms-hold xs h.1)
 
@@ -108,13 +108,13 @@ module _ (I : Invariant) (built : IsBuilt I) (of_insert : (k : ℕ) → I.trees 
   rest-holds (suc n) (vector s d) h = h
 
   module _ (w : Looked) (dots_hold : I.trees w.dots) where
-    step-by-holds : (n : ℕ) (x : Element) (r : QuasiRow) (u : QuasiTaken) (is : List Insert) → IsElement x → RowHolds r → TakenHolds I built.closed u → Is is → Both RowHolds (step_by w n x r u is)
+    step-by-holds : (n : ℕ) (x : ElementInserts) (r : QuasiRow) (u : QuasiTaken) (is : List Insert) → IsElement x → RowHolds r → TakenHolds I built.closed u → Is is → Both RowHolds (step_by w n x r u is)
     step-by-holds n x r (taken.Each es) is one h k j = leaves-hold r.trees es is h k j
     step-by-holds n x r (taken.Spliced es) is one h k j = spliced-hold w.dots dots_hold r.trees es is h k j
     step-by-holds n x r taken.Kept is one h k j =
         both-then PartHolds RowHolds (x.1 n is) (λ p inserts. Ok (with_part r p, inserts)) (one.made n is j) (λ p more g i. (each-and I.trees r.trees p.tree h g, i))
 
-    walked-holds : (n : ℕ) (r : QuasiRow) (xs : List Element) (is : List Insert) → RowHolds r → Each IsElement xs → Is is → Both RowHolds (walked w n r xs is)
+    walked-holds : (n : ℕ) (r : QuasiRow) (xs : List ElementInserts) (is : List Insert) → RowHolds r → Each IsElement xs → Is is → Both RowHolds (walked w n r xs is)
     walked-holds n r [] is h all j = (h, j)
     walked-holds n r (x ∷ xs) is h all j =
         both-then RowHolds RowHolds (step w n r x is) (λ q inserts. walked w n q xs inserts) (step-by-holds n x r (taken_at w.words n x.0) is all.0 h (taken-holds I built.closed w.words n x.0 all.0.form) j) (λ q more g i. walked-holds n q xs more g all.1 i)
@@ -132,7 +132,7 @@ module _ (I : Invariant) (built : IsBuilt I) (of_insert : (k : ℕ) → I.trees 
     begun-holds o row reached.Refused is h k j = tt
     begun-holds o row reached.Elements is h k j = both-then RowHolds BegunHolds (row is) (λ r inserts. Ok (begun.Trees r, inserts)) k (λ r more g i. (g, i))
 
-    begins-hold : (xs : List Element) (ends : Bool) (n : ℕ) (is : List Insert) → Each IsElement xs → Is is → Both BegunHolds (begins w xs ends n is)
+    begins-hold : (xs : List ElementInserts) (ends : Bool) (n : ℕ) (is : List Insert) → Each IsElement xs → Is is → Both BegunHolds (begins w xs ends n is)
     begins-hold xs ends n is all j =
         begun-holds (operand_of ends (forms xs)) (walked w (inner (first_word w.words (forms xs)) n) no_trees xs) (reach (first_word w.words (forms xs)) n) is (operand-holds I built.closed ends (forms xs) (forms-hold xs all))
         (walked-holds (inner (first_word w.words (forms xs)) n) no_trees xs is tt all j) j
@@ -145,10 +145,10 @@ module _ (I : Invariant) (built : IsBuilt I) (of_insert : (k : ℕ) → I.trees 
     finished-holds t x n (begun.Trees r) is g tail h j =
         both-then PartHolds PartHolds (x.made n is) (λ q. joined (list_joined t r q)) (tail n is j) (λ q more k i. both-joined PartHolds (list_joined t r q) more (list-joined-holds t r q g h k) i)
 
-    flat-holds : (t : Tree) (xs : List Element) (x : Tail) (n : ℕ) (is : List Insert) → I.trees t → Each IsElement xs → IsTail x → Is is → Both PartHolds (flat w t xs x n is)
+    flat-holds : (t : Tree) (xs : List ElementInserts) (x : Tail) (n : ℕ) (is : List Insert) → I.trees t → Each IsElement xs → IsTail x → Is is → Both PartHolds (flat w t xs x n is)
     flat-holds t xs x n is g all tail j = both-then BegunHolds PartHolds (begins w xs x.ends n is) (finished t x n) (begins-hold xs x.ends n is all j) (λ b more h i. finished-holds t x n b more g tail h i)
 
-    list-made-holds : (t : Tree) (xs : List Element) (x : Tail) (n : ℕ) (is : List Insert) → I.trees t → Each IsElement xs → IsTail x → Is is → Both PartHolds (list_made w t xs x n is)
+    list-made-holds : (t : Tree) (xs : List ElementInserts) (x : Tail) (n : ℕ) (is : List Insert) → I.trees t → Each IsElement xs → IsTail x → Is is → Both PartHolds (list_made w t xs x n is)
     list-made-holds t xs x n is g all tail j =
         both-if PartHolds (escapes (first_word w.words (forms xs)) x.ends (forms xs)) (Ok (unchanged t, is)) _ (g, j)
         (both-if PartHolds (splits w.words x.ends (forms xs)) (flat w t (take (length xs - 2) xs) (split_tail w t xs x) n is) (flat w t xs x n is)
@@ -156,7 +156,7 @@ module _ (I : Invariant) (built : IsBuilt I) (of_insert : (k : ℕ) → I.trees 
         (λ m more i. flat-holds (rest_at (length xs - 2) t) (drop (length xs - 2) xs) x m more (rest-holds (length xs - 2) t g) (each-dropped IsElement (length xs - 2) xs all) tail i) j)
         (flat-holds t xs x n is g all tail j))
 
-    vector-made-holds : (t : Tree) (xs : List Element) (n : ℕ) (is : List Insert) → I.trees t → Each IsElement xs → Is is → Both PartHolds (vector_made w t xs n is)
+    vector-made-holds : (t : Tree) (xs : List ElementInserts) (n : ℕ) (is : List Insert) → I.trees t → Each IsElement xs → Is is → Both PartHolds (vector_made w t xs n is)
     vector-made-holds t xs n is g all j =
         both-then RowHolds PartHolds (walked w n no_trees xs is) (λ r. joined (vector_joined t r)) (walked-holds n no_trees xs is tt all j) (λ r more h i. both-joined PartHolds (vector_joined t r) more (vector-joined-holds t r g h) i)
 

@@ -14,7 +14,7 @@ use Rattle.core_language.specs.declared.core_form.CoreForm.{CoreForm}
 use Rattle.core_language.specs.declared.core_form.CoreForm.TheVariants as form
 use Rattle.core_shapes.specs.Lists.{is_leaf, proper_elements, if_some, all_of}
 use Rattle.core_records.specs.Clauses.{keyword_of, fixed_field, immutable_field, mutable_field, field_by, field_in, field_of, fields_clause, parent_clause, parent_rtd_clause, protocol_clause, only_truth, sealed_clause, opaque_clause, nongenerative_clause, clause_by, clause_in, clause_of, no_clauses, if_free, with_clause, or_bad, next_clause, all_clauses}
-use Rattle.core_records.specs.Definitions.{Row, rtd, rcd, type_word, constructor_word, definition, definition_by, mutability, field_entry, field_entries, or_no_fields, fields_part, type_in, parent_type, uid_in, uid_part, or_false, type_operator, type_made, type_value, constructor_in, parent_constructor, protocol_part, constructor_operator, constructor_made, constructor_value, keyword_clause, keyword_body, keyword_value, keyword_definition, constructor_definition, predicate_definition, place_in, accessor_operator, accessor_value, accessor_definition, mutator_operator, mutator_value, mutator_definition, with_mutator, with_field, with_fields, first_definitions, definitions}
+use Rattle.core_records.specs.Definitions.{FormRow, rtd, rcd, type_word, constructor_word, definition, definition_by, mutability, field_entry, field_entries, or_no_fields, fields_part, type_in, parent_type, uid_in, uid_part, or_false, type_operator, type_made, type_value, constructor_in, parent_constructor, protocol_part, constructor_operator, constructor_made, constructor_value, keyword_clause, keyword_body, keyword_value, keyword_definition, constructor_definition, predicate_definition, place_in, accessor_operator, accessor_value, accessor_definition, mutator_operator, mutator_value, mutator_definition, with_mutator, with_field, with_fields, first_definitions, definitions}
 use Rattle.core_records.specs.Forms.{at_form, only_id, descriptor_form, definitions_for, named_form, defining_form, record_forms}
 use Rattle.core_records.specs.Introduced.{introduced, plain, boolean, Made, list_made, list_of_two, list_of_three, vector_made, quoted}
 use Rattle.core_records.specs.Names.{constructor_symbol, predicate_symbol, made_names, given_names, names_of}
@@ -272,7 +272,7 @@ module _ (I : Invariant) (built : IsBuilt I) (introduces : Introduces I) where
 
   -- Definitions.
 
-  abbrev RowGood : Row → Type 0
+  abbrev RowGood : FormRow → Type 0
   RowGood r = OkHolds Ts r
 
   definition-good : (id value : Tree) → T id → T value → Good (definition id value)
@@ -470,14 +470,14 @@ module _ (I : Invariant) (built : IsBuilt I) (introduces : Introduces I) where
         enough : 0 + length fs ≤ 2 ^ 127
         enough = let k = counted in let i = list-size us in omega arith
 
-        by : (r : Row) → r ≡ Ok us → RowGood r → Ts us
+        by : (r : FormRow) → r ≡ Ok us → RowGood r → Ts us
         by (Ok vs) e k = let same : vs ≡ us = cc in subst Ts same k
         by (Err f) e k = absurd (cc)
 
     fields-made : Good (with_fields 0 ts fs >>= list_made)
     fields-made = by (with_fields 0 ts fs) refl
       where
-        by : (r : Row) → with_fields 0 ts fs ≡ r → Good (r >>= list_made)
+        by : (r : FormRow) → with_fields 0 ts fs ≡ r → Good (r >>= list_made)
         by (Ok us) e = within_all T (list_of us None) (λ u q. lists us u (fields-fit us e (within-small (list_of us None) u q)) q)
         by (Err f) e = tt
 
@@ -485,7 +485,7 @@ module _ (I : Invariant) (built : IsBuilt I) (introduces : Introduces I) where
   unfolding definitions
   definitions-good own on names cs h k = by (first_definitions own names cs) (first-good own on names cs h k)
     where
-      by : (r : Row) → RowGood r → Good ((r >>= (λ ts. with_fields 0 ts (or_no_fields cs.fields))) >>= list_made)
+      by : (r : FormRow) → RowGood r → Good ((r >>= (λ ts. with_fields 0 ts (or_no_fields cs.fields))) >>= list_made)
       by (Ok ts) j = fields-made ts (or_no_fields cs.fields) j (no-fields cs.fields k.fields)
       by (Err f) j = tt
 

@@ -18,7 +18,7 @@ use Rattle.core_language.specs.Template.{PlainTemplate, list, vector}
 use Rattle.core_language.specs.declared.binding.Binding.{Binding}
 use Rattle.core_language.specs.declared.binding.Binding.TheVariants as binding
 use Rattle.core_shapes.specs.Lists.{is_nil, tail_of}
-use Rattle.eval_template.specs.Compile.{TemplateScope, variable_made, bound_made, label_made, is_special, leaf_made, TemplateElement, dots_behind, reach, with_ellipses, fitted, item_made, Walked, step, walked, constant_of, template_of, items_of, is_fixed, is_changed, any_changed, tree_before, trees, rebuilt, placed, fixed_list, list_joined, fixed_vector, vector_joined, escape_of, unescaped, list_parts, list_made, vector_made, template, elements_made, tail_made, compiled}
+use Rattle.eval_template.specs.Compile.{TemplateScope, variable_made, bound_made, label_made, is_special, leaf_made, TemplateElement, dots_behind, reach, with_ellipses, fitted, item_made, WalkedItems, step, walked, constant_of, template_of, items_of, is_fixed, is_changed, any_changed, tree_before, trees, rebuilt, placed, fixed_list, list_joined, fixed_vector, vector_joined, escape_of, unescaped, list_parts, list_made, vector_made, template, elements_made, tail_made, compiled}
 use Rattle.eval_pattern.specs.Keywords.{is_ellipsis}
 use Rattle.law_invariants.specs.Holds.{TemplateHolds, ItemsHold}
 use Rattle.law_invariants.proofs.Trees.{OkHolds, within_all}
@@ -182,14 +182,14 @@ module _ (I : Invariant) (built : IsBuilt I) where
     abbrev AllHold : List MadeItem → Type 0
     AllHold is = Each ItemHolds is
 
-    step-holds : (escaped : Bool) (under skips : ℕ) (x : TemplateElement) (es : List Tree) (is : List MadeItem) → IsElement x → AllHold is → OkHolds (λ (w : Walked). AllHold w.1) (step c escaped under skips x es is)
+    step-holds : (escaped : Bool) (under skips : ℕ) (x : TemplateElement) (es : List Tree) (is : List MadeItem) → IsElement x → AllHold is → OkHolds (λ (w : WalkedItems). AllHold w.1) (step c escaped under skips x es is)
     step-holds escaped under (suc skips) x es is one h = h
-    step-holds escaped under zero x es is one h = good-then ItemHolds (λ (w : Walked). AllHold w.1) (item_made c escaped under x es) (λ i. Ok (length es, is ++ i ∷ [])) (item-holds escaped under x es one) (λ i k. each-and ItemHolds is i h k)
+    step-holds escaped under zero x es is one h = good-then ItemHolds (λ (w : WalkedItems). AllHold w.1) (item_made c escaped under x es) (λ i. Ok (length es, is ++ i ∷ [])) (item-holds escaped under x es one) (λ i k. each-and ItemHolds is i h k)
 
     walked-holds : (escaped : Bool) (under skips : ℕ) (is : List MadeItem) (xs : List TemplateElement) → Each IsElement xs → AllHold is → OkHolds AllHold (walked c escaped under skips is xs)
     walked-holds escaped under skips is [] all h = h
     walked-holds escaped under skips is (x ∷ xs) all h =
-        good-then (λ (w : Walked). AllHold w.1) AllHold (step c escaped under skips x (dots_behind c.frames escaped xs) is) (λ w. walked c escaped under w.0 w.1 xs)
+        good-then (λ (w : WalkedItems). AllHold w.1) AllHold (step c escaped under skips x (dots_behind c.frames escaped xs) is) (λ w. walked c escaped under w.0 w.1 xs)
         (step-holds escaped under skips x (dots_behind c.frames escaped xs) is all.0 h) (λ w k. walked-holds escaped under w.0 w.1 xs all.1 k)
 
     parts-hold : (escaped : Bool) (t : Tree) (xs : List TemplateElement) (tail : Bool → ℕ → Result Made Fault) (under : ℕ) → I.trees t → Each IsElement xs → ((e : Bool) (n : ℕ) → OkHolds MadeHolds (tail e n)) → OkHolds MadeHolds (list_parts c escaped (record { form = t; elements = xs; tail = tail }) under)

@@ -19,7 +19,7 @@ use Rattle.eval_value.specs.declared.cell.Cell.{Cell}
 use Rattle.eval_prims.specs.declared.made.PrimResult.{PrimResult}
 use Rattle.eval_prims.specs.declared.made.PrimResult.TheVariants as made
 use Rattle.eval_prims.specs.declared.primitive.Primitive.{Primitive}
-use Rattle.eval_prims.specs.Answers.{Answer, refused, or_refused, given, said}
+use Rattle.eval_prims.specs.Answers.{PrimAnswer, refused, or_refused, given, said}
 use Rattle.eval_prims.specs.Basics as basics
 use Rattle.eval_prims.specs.Basics.{part, kind_made, basic_made}
 use Rattle.eval_prims.specs.Chains.{pair_of, chain, list_elements, tail_after}
@@ -67,7 +67,7 @@ module _ (I : Invariant) where
   MadeOr None = Unit {0}
   MadeOr (Some m) = MadeHolds m
 
-  abbrev pub AnswerOr : Answer → Type 0
+  abbrev pub AnswerOr : PrimAnswer → Type 0
   AnswerOr (Ok m) = MadeHolds m
   AnswerOr (Err f) = Unit {0}
 
@@ -366,7 +366,7 @@ module _ (I : Invariant) where
 
       -- Data and trees.
 
-      answer_if : (t : Bool) (a b : Answer) → AnswerOr a → AnswerOr b → AnswerOr (if t then a else b)
+      answer_if : (t : Bool) (a b : PrimAnswer) → AnswerOr a → AnswerOr b → AnswerOr (if t then a else b)
       answer_if true a b h k = h
       answer_if false a b h k = k
 

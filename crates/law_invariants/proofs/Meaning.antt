@@ -23,7 +23,7 @@ use Rattle.eval_value.specs.declared.cell.Cell.{Cell}
 use Rattle.eval_value.specs.declared.cell.Cell.TheVariants as cell
 use Rattle.eval_pattern.specs.Matched.{nothing}
 use Rattle.eval_pattern.specs.declared.columns.PatternBinds.{PatternBinds}
-use Rattle.eval_prims.specs.Answers.{Answer}
+use Rattle.eval_prims.specs.Answers.{PrimAnswer}
 use Rattle.eval_prims.specs.Chains.{list_elements}
 use Rattle.eval_prims.specs.Cost.{cost}
 use Rattle.eval_prims.specs.Delta.{delta}
@@ -34,7 +34,7 @@ use Rattle.eval_code.specs.Meaning.{Evaluator, answer_made, primitive_called, va
 use Rattle.eval_code.specs.Procedures.{first_case, bound, bindings, has_text, text_number, first_body, text_body, truth_of}
 use Rattle.eval_code.specs.Quoted.{datum_cost}
 use Rattle.eval_code.specs.Setting.{PlainSetting}
-use Rattle.eval_code.specs.Spread.{Call, apply_args, before_last, parted, with_elements, with_front, on_parts, spread_once, spread_on, spread_to, spread}
+use Rattle.eval_code.specs.Spread.{CallBy, apply_args, before_last, parted, with_elements, with_front, on_parts, spread_once, spread_on, spread_to, spread}
 use Rattle.eval_code.specs.State.{WorldState, Outcome, done, faulted, unfit, Go, then_do, charged, made, store, next_place, with_cell}
 use Rattle.eval_code.specs.Trying.{clause_before}
 use Rattle.eval_code.specs.Variables.{found, unset, assigned, all_assigned}
@@ -106,7 +106,7 @@ module _ (own : LibName) (m : ℕ) (I : ℕ → Invariant) (rises : Rises own m 
 
   -- What needs no setting.
 
-  holds-answer : (s : WorldState) (n : ℕ) (x : Answer) → S m s → AnswerOr (I s.names.number) x → O s.names.number (answer_made s n x)
+  holds-answer : (s : WorldState) (n : ℕ) (x : PrimAnswer) → S m s → AnswerOr (I s.names.number) x → O s.names.number (answer_made s n x)
   holds-answer s n (Ok x) h k =
       let p = performed_holds own m I rises x s.names s.cells h.library h.up h.cells k in
       (record { up = omega arith; library = h.library; cells = p.1 }, p.0)
@@ -168,7 +168,7 @@ module _ (own : LibName) (m : ℕ) (I : ℕ → Invariant) (rises : Rises own m 
   apply-holds n (value.Syn t ∷ args) h = tt
   apply-holds n (value.Transformer p ∷ args) h = tt
 
-  module _ (s : WorldState) (h : S s.names.number s) (g : Call) (holds : (vs : List Value) (n : ℕ) → Vs s vs → O s.names.number (g vs n)) where
+  module _ (s : WorldState) (h : S s.names.number s) (g : CallBy) (holds : (vs : List Value) (n : ℕ) → Vs s vs → O s.names.number (g vs n)) where
     holds-elements : (front : List Value) (n : ℕ) (o : Option (List Value)) → Vs s front → ValuesOr (I s.names.number) o → O s.names.number (with_elements front s g n o)
     holds-elements front n None k j = h
     holds-elements front n (Some xs) k j = holds-charged s.names.number s (length xs) n (g (front ++ xs)) h (λ left. holds (front ++ xs) left (each-append (ValueHolds (I s.names.number)) front xs k j))
@@ -185,7 +185,7 @@ module _ (own : LibName) (m : ℕ) (I : ℕ → Invariant) (rises : Rises own m 
     unfolding spread_once
     holds-once args n k = holds-parts n (parted args) (parted-holds s.names.number args k)
 
-  module _ (s : WorldState) (h : S s.names.number s) (g : Call) (holds : (vs : List Value) (n : ℕ) → Vs s vs → O s.names.number (g vs n)) where
+  module _ (s : WorldState) (h : S s.names.number s) (g : CallBy) (holds : (vs : List Value) (n : ℕ) → Vs s vs → O s.names.number (g vs n)) where
     holds-to : (turns : ℕ) (vs : List Value) (n : ℕ) → Vs s vs → O s.names.number (spread_to turns s g vs n)
     holds-to zero vs n k = tt
     holds-to (suc turns) vs n k = by_args (holds-to turns) (apply_args vs) (apply-holds s.names.number vs k)

@@ -7,7 +7,7 @@ use Rattle.base_data.specs.declared.fault.Fault.{Fault}
 use Rattle.base_data.specs.declared.span.Span.{Span}
 use Rattle.load_import.specs.Table.{same_text, value_of}
 use Rattle.load_import.specs.declared.set.NameAt.{NameAt}
-use Rattle.load_forms.specs.Export.{Exports, export_spec, add_by, add_export, exported}
+use Rattle.load_forms.specs.Export.{ExportList, export_spec, add_by, add_export, exported}
 use Rattle.load_forms.specs.Form.{form_of, not_library, bad_form, or_fault, import_specs, export_specs, library_with, library_of, library_parts, library_in, program_of}
 use Rattle.load_forms.specs.Name.{named}
 use Rattle.load_forms.specs.Set.{datum_place, import_spec}
@@ -33,7 +33,7 @@ exports : (file : List ℕ) (done : List Export) (ds : List PlainDatum) → Tell
 exports file done [] = tt
 exports file done (d ∷ ds) = or-at-fault (bad_form file d) (export_spec file d) (λ es. export_specs file (done ++ es) ds) tt (λ es. exports file (done ++ es) ds)
 
-add : (names : Exports) (e : Export) → Tells IsOfForms (add_export names e)
+add : (names : ExportList) (e : Export) → Tells IsOfForms (add_export names e)
 add names e = by (value_of e.external.name names)
   where
     by : (o : Option NameAt) → Tells IsOfForms (add_by names e o)

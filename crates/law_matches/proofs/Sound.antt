@@ -18,7 +18,7 @@ use Rattle.eval_pattern.specs.Matched.{matched, all_matched, repeated, no_rows, 
 use Rattle.eval_pattern.specs.declared.columns.Column.{Column}
 use Rattle.eval_pattern.specs.declared.columns.Rows.{Rows}
 use Rattle.eval_pattern.specs.declared.columns.PatternBinds.{PatternBinds}
-use Rattle.law_matches.specs.Matches.{Bindings, pair_of, Begins, IsLast, stacked, Matches, takes_any, takes_variable, takes_literal, takes_atom, takes_list, takes_vector, Fills, no_more, one_more, all_but, Repeats, no_rows as no_row, one_row, IsRight}
+use Rattle.law_matches.specs.Matches.{MatchBinds, pair_of, Begins, IsLast, stacked, Matches, takes_any, takes_variable, takes_literal, takes_atom, takes_list, takes_vector, Fills, no_more, one_more, all_but, Repeats, no_rows as no_row, one_row, IsRight}
 use Rattle.law_matches.proofs.Fronts.{Took, Fit, front_took, begun_fit, elements_fit, fit_then}
 use Rattle.law_matches.proofs.Complete.{with, with_none, with_with, matched_is}
 use Rattle.law_matches.proofs.Atoms.{same_atom_cases}
@@ -48,15 +48,15 @@ last_taken cells None v t = t.ends refl
 last_taken cells (Some n) v t = tt
 
 abbrev Sounds : Scope → List Cell → PlainPattern → Value → PatternBinds → PatternBinds → Type 0
-Sounds fs cells p v s t = (bs : Bindings) × ((n : ℕ) × (Matches fs cells p v bs n × (t ≡ with s bs n)))
+Sounds fs cells p v s t = (bs : MatchBinds) × ((n : ℕ) × (Matches fs cells p v bs n × (t ≡ with s bs n)))
 
 abbrev AllSound : Scope → List Cell → PlainPatterns → List Value → PatternBinds → PatternBinds → Type 0
-AllSound fs cells ps xs s t = (bs : Bindings) × ((n : ℕ) × (Fills fs cells ps xs bs n × (t ≡ with s bs n)))
+AllSound fs cells ps xs s t = (bs : MatchBinds) × ((n : ℕ) × (Fills fs cells ps xs bs n × (t ≡ with s bs n)))
 
 module _ (fs : Scope) (cells : List Cell) where
   repeated_sound : (p : PlainPattern) → ((v : Value) (s t : PatternBinds) → FitsIn cells v → matched fs cells p v s ≡ Some t → Sounds fs cells p v s t)
       → (cols : List Column) (k : ℕ) (xs : List Value) (r : Rows) → Fit cells xs → repeated (matched fs cells p) (record { columns = cols; taken = k }) xs ≡ Some r
-      → (rows : List Bindings) × ((n : ℕ) × (Repeats fs cells p xs rows n × (r ≡ record { columns = stacked cols rows; taken = k + n })))
+      → (rows : List MatchBinds) × ((n : ℕ) × (Repeats fs cells p xs rows n × (r ≡ record { columns = stacked cols rows; taken = k + n })))
   repeated_sound p ih cols k [] r h e =
       ([], (0, (no_row, sym (some_inj _ _ e) ∙ ap (λ j. record { columns = cols; taken = j }) (let f : k ≡ k + 0 = omega arith in f))))
   repeated_sound p ih cols k (x ∷ xs) r h e =
@@ -125,7 +125,7 @@ module _ (fs : Scope) (cells : List Cell) where
             ),
           )
 
-    start_with : (bs : Bindings) (n : ℕ) → with (nothing 0) bs n ≡ record { binds = bs; taken = n }
+    start_with : (bs : MatchBinds) (n : ℕ) → with (nothing 0) bs n ≡ record { binds = bs; taken = n }
     start_with bs n = ap (λ k. record { binds = bs; taken = k }) (let f : 0 + n ≡ n = omega arith in f)
 
     pub rightly : (p : PlainPattern) (v : Value) → FitsIn cells v → IsRight fs cells p v (matched fs cells p v (nothing 0))

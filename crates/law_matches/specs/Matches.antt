@@ -16,8 +16,8 @@ use Rattle.eval_pattern.specs.Matched.{count, limit}
 use Rattle.eval_pattern.specs.declared.columns.Column.{Column}
 use Rattle.eval_pattern.specs.declared.columns.PatternBinds.{PatternBinds}
 
-abbrev pub Bindings : Type 0
-Bindings = List (Label × PlainBind)
+abbrev pub MatchBinds : Type 0
+MatchBinds = List (Label × PlainBind)
 
 abbrev pub tree_pair : Tree → Option (Value × Value)
 tree_pair (atom s a) = None
@@ -41,40 +41,40 @@ IsLast cells None r = pair_of cells r ≡ None
 IsLast cells (Some n) r = Unit {0}
 
 -- the binds of rows, by variable
-abbrev pub stacked : List Column → List Bindings → List Column
+abbrev pub stacked : List Column → List MatchBinds → List Column
 stacked cols [] = cols
 stacked cols (row ∷ rows) = stacked (grown [] cols row) rows
 
 module _ (fs : Scope) (cells : List Cell) where
   mutual
-    pub data Matches : PlainPattern → Value → Bindings → ℕ → Type 0 where
+    pub data Matches : PlainPattern → Value → MatchBinds → ℕ → Type 0 where
       takes_any : {v : Value} → Matches any v [] 0
       takes_variable : {l : Label} {v : Value} → Matches (variable l) v ((l, one v) ∷ []) 0
       takes_literal : {t : Tree} {v : Value} → is_alike fs t v ≡ true → Matches (literal t) v [] 0
       takes_atom : {a : Atom} {v : Value} → atom_of cells v ≡ Some a → Matches (pattern.atom a) v [] 0
-      takes_list : {ps : PlainPatterns} {t : PlainPattern} {v r : Value} {xs : List Value} {bs cs : Bindings} {m n : ℕ}
+      takes_list : {ps : PlainPatterns} {t : PlainPattern} {v r : Value} {xs : List Value} {bs cs : MatchBinds} {m n : ℕ}
           → Begins cells xs r v → IsLast cells (limit ps) r → Fills ps xs bs m → Matches t r cs n
           → Matches (list ps t) v (bs ++ cs) (m + n)
-      takes_vector : {ps : PlainPatterns} {v : Value} {xs : List Value} {bs : Bindings} {n : ℕ} → vector_of cells v ≡ Some xs
+      takes_vector : {ps : PlainPatterns} {v : Value} {xs : List Value} {bs : MatchBinds} {n : ℕ} → vector_of cells v ≡ Some xs
           → Fills ps xs bs n → Matches (pattern.vector ps) v bs n
 
     -- elements by patterns: the first ones by those before an ellipsis, the last ones by those after it, the others by the
     -- repeated one
-    pub data Fills : PlainPatterns → List Value → Bindings → ℕ → Type 0 where
+    pub data Fills : PlainPatterns → List Value → MatchBinds → ℕ → Type 0 where
       no_more : Fills none [] [] 0
-      one_more : {p : PlainPattern} {ps : PlainPatterns} {x : Value} {xs : List Value} {bs cs : Bindings} {m n : ℕ}
+      one_more : {p : PlainPattern} {ps : PlainPatterns} {x : Value} {xs : List Value} {bs cs : MatchBinds} {m n : ℕ}
           → Matches p x bs m → Fills ps xs cs n → Fills (more p ps) (x ∷ xs) (bs ++ cs) (m + n)
-      all_but : {p : PlainPattern} {ps : PlainPatterns} {xs ys : List Value} {rows : List Bindings} {cs : Bindings} {m n : ℕ}
+      all_but : {p : PlainPattern} {ps : PlainPatterns} {xs ys : List Value} {rows : List MatchBinds} {cs : MatchBinds} {m n : ℕ}
           → Repeats p xs rows m → length ys ≡ count ps → Fills ps ys cs n
           → Fills (dots p ps) (xs ++ ys) (closed (stacked (empty_columns p []) rows) ++ cs) (m + n)
 
     -- each element by one pattern, and 1 for each
-    pub data Repeats : PlainPattern → List Value → List Bindings → ℕ → Type 0 where
+    pub data Repeats : PlainPattern → List Value → List MatchBinds → ℕ → Type 0 where
       no_rows : {p : PlainPattern} → Repeats p [] [] 0
-      one_row : {p : PlainPattern} {x : Value} {xs : List Value} {row : Bindings} {rows : List Bindings} {m n : ℕ}
+      one_row : {p : PlainPattern} {x : Value} {xs : List Value} {row : MatchBinds} {rows : List MatchBinds} {m n : ℕ}
           → Matches p x row m → Repeats p xs rows n → Repeats p (x ∷ xs) (row ∷ rows) (suc (m + n))
 
 -- the binds are those of the relation, and without any there are none
 abbrev pub IsRight : Scope → List Cell → PlainPattern → Value → Option PatternBinds → Type 0
 IsRight fs cells p v (Some f) = Matches fs cells p v f.binds f.taken
-IsRight fs cells p v None = (bs : Bindings) (n : ℕ) → Matches fs cells p v bs n → ⊥
+IsRight fs cells p v None = (bs : MatchBinds) (n : ℕ) → Matches fs cells p v bs n → ⊥

@@ -11,7 +11,7 @@ ghost use Rattle.base_data.specs.declared.name.Mark.{Mark};
 ghost use Rattle.stx_tree.specs.Renaming.{IsOneToOne};
 ghost use Rattle.stx_frames.specs.Renaming.{renamed_scope};
 ghost use Rattle.eval_pattern.specs.declared.columns.PatternBinds.{PatternBinds};
-ghost use Rattle.law_matches.specs.Matches.{Bindings, Matches, IsRight};
+ghost use Rattle.law_matches.specs.Matches.{MatchBinds, Matches, IsRight};
 ghost use Rattle.law_matches.specs.Renaming.{renamed_value, renamed_cell, renamed_pattern, renamed_found};
 
 /// A match is found exactly if the cases of libraries report 12.4 have one, and it is that one.
@@ -23,7 +23,7 @@ pub fn a_match_is_that_of_the_report()
 /// By the cases of libraries report 12.4 a pattern matches a value in one way at most.
 pub fn a_pattern_matches_in_one_way()
     ensures { (fs : Scope) (cells : List Cell) → WholeCells cells → (p : PlainPattern) (v : Value) → FitsIn cells v →
-        (bs cs : Bindings) (m n : ℕ) → Matches fs cells p v bs m → Matches fs cells p v cs n → (bs ≡ cs) × (m ≡ n) }
+        (bs cs : MatchBinds) (m n : ℕ) → Matches fs cells p v bs m → Matches fs cells p v cs n → (bs ≡ cs) × (m ≡ n) }
 {}
 
 /// To give the marks of frames, cells, pattern and value other names, one to one, gives the binds of

@@ -19,7 +19,7 @@ use Rattle.core_language.specs.Pattern as pattern_of
 use Rattle.core_language.specs.declared.core_form.CoreForm.TheVariants as form
 use Rattle.core_shapes.specs.Lists.{is_leaf, elements, tail_of}
 use Rattle.eval_pattern.specs.Keywords.{is_form, is_ellipsis, first_ellipsis}
-use Rattle.eval_pattern.specs.Compile.{PatternScope, Taken, Element, bad, may_be_literal, literals_checked, is_literal, is_known, new_variable, leaf_pattern, no_parts, with_part, parts_of, pattern, tail_pattern, with_pattern, walked, forms_walked, list_pattern, list_with, vector_with, with_variables}
+use Rattle.eval_pattern.specs.Compile.{PatternScope, TakenVariables, ElementPattern, bad, may_be_literal, literals_checked, is_literal, is_known, new_variable, leaf_pattern, no_parts, with_part, parts_of, pattern, tail_pattern, with_pattern, walked, forms_walked, list_pattern, list_with, vector_with, with_variables}
 use Rattle.eval_pattern.specs.declared.compile.PatternVariable.{PatternVariable}
 use Rattle.eval_pattern.proofs.Walks.{pattern_stop, part_stop, forms_on}
 use Rattle.eval_pattern.proofs.Levels.{elements_are, tail_is}
@@ -162,17 +162,17 @@ module _ (fs : Scope) (literals : List Tree) where
 -- Lists, by their elements.
 
 module _ (c : PatternScope) where
-  list-is : (p : Option Span) (a d : Tree) (depth : ℕ) (s : Taken) → pattern c (pair p a d) depth s ≡ list_pattern c (pair p a d) depth s
+  list-is : (p : Option Span) (a d : Tree) (depth : ℕ) (s : TakenVariables) → pattern c (pair p a d) depth s ≡ list_pattern c (pair p a d) depth s
   list-is p a d depth s =
-      ap (λ (xs : List Element). list_with (walked c depth false no_parts ((a, pattern c a) ∷ xs)) (tail_pattern c d depth) s) ((elements_are c) d)
-      ∙ ap (λ (go : ℕ → Taken → Result (PlainPattern × Taken) Fault). list_with (forms_walked c depth (a ∷ elements d)) (go depth) s) ((tail_is c) d)
+      ap (λ (xs : List ElementPattern). list_with (walked c depth false no_parts ((a, pattern c a) ∷ xs)) (tail_pattern c d depth) s) ((elements_are c) d)
+      ∙ ap (λ (go : ℕ → TakenVariables → Result (PlainPattern × TakenVariables) Fault). list_with (forms_walked c depth (a ∷ elements d)) (go depth) s) ((tail_is c) d)
 
-  vector-is : (p : Option Span) (d : Tree) (depth : ℕ) (s : Taken) → pattern c (vector p d) depth s ≡ vector_with (forms_walked c depth (elements d)) s
-  vector-is p d depth s = ap (λ (xs : List Element). vector_with (walked c depth false no_parts xs) s) ((elements_are c) d)
+  vector-is : (p : Option Span) (d : Tree) (depth : ℕ) (s : TakenVariables) → pattern c (vector p d) depth s ≡ vector_with (forms_walked c depth (elements d)) s
+  vector-is p d depth s = ap (λ (xs : List ElementPattern). vector_with (walked c depth false no_parts xs) s) ((elements_are c) d)
 
   -- What comes of a form.
 
-  record Gave (depth : ℕ) (t : Tree) (s : Taken) (r : PlainPattern × Taken) : Type 0 where
+  record Gave (depth : ℕ) (t : Tree) (s : TakenVariables) (r : PlainPattern × TakenVariables) : Type 0 where
     pub us : List PatternVariable
     pub is : IsPattern c.frames c.literals depth t us r.0
     pub known : r.1.0 ≡ s.0 ++ us
@@ -184,12 +184,12 @@ module _ (c : PatternScope) where
     pub part : IsPartOfForm at t
     pub is : f ≡ bad c.place at
 
-  abbrev Tells : ℕ → Tree → Taken → Result (PlainPattern × Taken) Fault → Type 0
+  abbrev Tells : ℕ → Tree → TakenVariables → Result (PlainPattern × TakenVariables) Fault → Type 0
   Tells depth t s (Ok r) = Gave depth t s r
   Tells depth t s (Err f) = IsBadAt t f
 
   abbrev Told : Tree → Type 0
-  Told t = (depth : ℕ) (s : Taken) → Tells depth t s (pattern c t depth s)
+  Told t = (depth : ℕ) (s : TakenVariables) → Tells depth t s (pattern c t depth s)
 
   plain : (t : Tree) → IsId t → is_form form.Ellipsis (stands c.frames t) ≡ false → is_form form.Underscore (stands c.frames t) ≡ false → IsPlain c.frames t
   plain t i e u = record {
@@ -198,7 +198,7 @@ module _ (c : PatternScope) where
     no_underscore = λ w. let k = sym u ∙ underscore-is c.frames t w in let f : ⊥ = cc in f;
   }
 
-  module _ (t : Tree) (i : IsId t) (depth : ℕ) (s : Taken) where
+  module _ (t : Tree) (i : IsId t) (depth : ℕ) (s : TakenVariables) where
     variable-told : IsPlain c.frames t → is_literal c.literals t ≡ false → (b : Bool) → is_known s.0 t ≡ b
         → Tells depth t s (if b then Err (bad c.place t) else Ok (variable (record { 0 = s.1 }), (s.0 ++ record { id = t; label = record { 0 = s.1 }; depth = depth } ∷ [], next_name s.1)))
     variable-told p l true e = record { at = t; part = r.itself; is = refl }
@@ -238,7 +238,7 @@ module _ (c : PatternScope) where
   bad-first : (x : Tree) (ts : List Tree) (f : Fault) → IsBadAt x f → IsBadIn (x ∷ ts) f
   bad-first x ts f h = record { form = x; among = r.is_first; bad = h }
 
-  record GaveOthers (depth : ℕ) (ts : List Tree) (parts : Parts) (s : Taken) (r : Parts × Taken) : Type 0 where
+  record GaveOthers (depth : ℕ) (ts : List Tree) (parts : Parts) (s : TakenVariables) (r : Parts × TakenVariables) : Type 0 where
     pub us : List PatternVariable
     pub ps : PlainPatterns
     pub are : AreOthers c.frames c.literals depth ts us ps
@@ -247,7 +247,7 @@ module _ (c : PatternScope) where
     pub new : AreNew s.0 us
     pub numbered : AreNumbered s.1 us r.1.1
 
-  record GaveElements (depth : ℕ) (ts : List Tree) (parts : Parts) (s : Taken) (r : Parts × Taken) : Type 0 where
+  record GaveElements (depth : ℕ) (ts : List Tree) (parts : Parts) (s : TakenVariables) (r : Parts × TakenVariables) : Type 0 where
     pub us : List PatternVariable
     pub ps : PlainPatterns
     pub are : AreElements c.frames c.literals depth ts us ps
@@ -256,11 +256,11 @@ module _ (c : PatternScope) where
     pub new : AreNew s.0 us
     pub numbered : AreNumbered s.1 us r.1.1
 
-  abbrev TellsOthers : ℕ → List Tree → Parts → Taken → Result (Parts × Taken) Fault → Type 0
+  abbrev TellsOthers : ℕ → List Tree → Parts → TakenVariables → Result (Parts × TakenVariables) Fault → Type 0
   TellsOthers depth ts parts s (Ok r) = GaveOthers depth ts parts s r
   TellsOthers depth ts parts s (Err f) = IsBadIn ts f
 
-  abbrev TellsElements : ℕ → List Tree → Parts → Taken → Result (Parts × Taken) Fault → Type 0
+  abbrev TellsElements : ℕ → List Tree → Parts → TakenVariables → Result (Parts × TakenVariables) Fault → Type 0
   TellsElements depth ts parts s (Ok r) = GaveElements depth ts parts s r
   TellsElements depth ts parts s (Err f) = IsBadIn ts f
 
@@ -280,12 +280,12 @@ module _ (c : PatternScope) where
       by true k j = form-is c.frames form.Ellipsis t k
       by false k j = absurd (cc)
 
-  module _ (depth : ℕ) (t : Tree) (ts : List Tree) (s : Taken) where
-    abbrev walk : Parts → Result (Parts × Taken) Fault
+  module _ (depth : ℕ) (t : Tree) (ts : List Tree) (s : TakenVariables) where
+    abbrev walk : Parts → Result (Parts × TakenVariables) Fault
     walk parts = walked c depth false parts (map (with_pattern c) (t ∷ ts)) s
 
     -- one more element
-    others-on : (before after : List PlainPattern) (q p : PlainPattern) (new : Taken) (total : Result (Parts × Taken) Fault) → Gave depth t s (p, new)
+    others-on : (before after : List PlainPattern) (q p : PlainPattern) (new : TakenVariables) (total : Result (Parts × TakenVariables) Fault) → Gave depth t s (p, new)
         → TellsOthers depth ts (parts-with before (Some q) (after ++ p ∷ [])) new total → TellsOthers depth (t ∷ ts) (parts-with before (Some q) after) s total
     others-on before after q p new (Ok x) a b = record {
       us = a.us ++ b.us;
@@ -298,7 +298,7 @@ module _ (c : PatternScope) where
     }
     others-on before after q p new (Err f) a b = bad-behind t ts f b
 
-    elements-on : (before : List PlainPattern) (p : PlainPattern) (new : Taken) (total : Result (Parts × Taken) Fault) → Gave depth t s (p, new)
+    elements-on : (before : List PlainPattern) (p : PlainPattern) (new : TakenVariables) (total : Result (Parts × TakenVariables) Fault) → Gave depth t s (p, new)
         → TellsElements depth ts (parts-with (before ++ p ∷ []) None []) new total → TellsElements depth (t ∷ ts) (parts-with before None []) s total
     elements-on before p new (Ok x) a b = record {
       us = a.us ++ b.us;
@@ -311,7 +311,7 @@ module _ (c : PatternScope) where
     }
     elements-on before p new (Err f) a b = bad-behind t ts f b
 
-  dots-on : (depth : ℕ) (t e : Tree) (ts : List Tree) (s : Taken) (before : List PlainPattern) (p : PlainPattern) (new : Taken) (total : Result (Parts × Taken) Fault) → IsKeywordIdentifier c.frames form.Ellipsis e → Gave (depth + 1) t s (p, new)
+  dots-on : (depth : ℕ) (t e : Tree) (ts : List Tree) (s : TakenVariables) (before : List PlainPattern) (p : PlainPattern) (new : TakenVariables) (total : Result (Parts × TakenVariables) Fault) → IsKeywordIdentifier c.frames form.Ellipsis e → Gave (depth + 1) t s (p, new)
       → TellsOthers depth ts (parts-with before (Some p) []) new total → TellsElements depth (t ∷ e ∷ ts) (parts-with before None []) s total
   dots-on depth t e ts s before p new (Ok x) w a b = record {
     us = a.us ++ b.us;
@@ -324,18 +324,18 @@ module _ (c : PatternScope) where
   }
   dots-on depth t e ts s before p new (Err f) w a b = bad-behind t (e ∷ ts) f (bad-behind e ts f b)
 
-  module _ (depth : ℕ) (t : Tree) (ts : List Tree) (s : Taken) (told : Told t) where
+  module _ (depth : ℕ) (t : Tree) (ts : List Tree) (s : TakenVariables) (told : Told t) where
     -- behind an ellipsis
-    module _ (before after : List PlainPattern) (q : PlainPattern) (rest : (ps : List PlainPattern) (u : Taken) → TellsOthers depth ts (parts-with before (Some q) ps) u (walked c depth false (parts-with before (Some q) ps) (map (with_pattern c) ts) u)) where
+    module _ (before after : List PlainPattern) (q : PlainPattern) (rest : (ps : List PlainPattern) (u : TakenVariables) → TellsOthers depth ts (parts-with before (Some q) ps) u (walked c depth false (parts-with before (Some q) ps) (map (with_pattern c) ts) u)) where
       abbrev others : Parts
       others = parts-with before (Some q) after
 
-      other-plain : None ≡ first_ellipsis c.frames ts → (x : Result (PlainPattern × Taken) Fault) → pattern c t depth s ≡ x → Tells depth t s x → TellsOthers depth (t ∷ ts) others s (walk depth t ts s others)
+      other-plain : None ≡ first_ellipsis c.frames ts → (x : Result (PlainPattern × TakenVariables) Fault) → pattern c t depth s ≡ x → Tells depth t s x → TellsOthers depth (t ∷ ts) others s (walk depth t ts s others)
       other-plain next (Err f) e h = subst (TellsOthers depth (t ∷ ts) others s) (sym (pattern_stop c depth others t (t ∷ ts) ts None depth s (walk depth t ts s others) refl next refl refl (stops.Fault f) e)) (bad-first t ts f h)
       other-plain next (Ok x) e h = subst (TellsOthers depth (t ∷ ts) others s) (forms_on c depth others t (t ∷ ts) ts None depth s (walk depth t ts s others) refl next refl refl x.0 x.1 e (parts-with before (Some q) (after ++ x.0 ∷ [])) refl)
           (others-on depth t ts s before after q x.0 x.1 (walked c depth false (parts-with before (Some q) (after ++ x.0 ∷ [])) (map (with_pattern c) ts) x.1) h (rest (after ++ x.0 ∷ []) x.1))
 
-      other-dotted : (y : Tree) → Some y ≡ first_ellipsis c.frames ts → (x : Result (PlainPattern × Taken) Fault) → pattern c t (depth + 1) s ≡ x → Tells (depth + 1) t s x → TellsOthers depth (t ∷ ts) others s (walk depth t ts s others)
+      other-dotted : (y : Tree) → Some y ≡ first_ellipsis c.frames ts → (x : Result (PlainPattern × TakenVariables) Fault) → pattern c t (depth + 1) s ≡ x → Tells (depth + 1) t s x → TellsOthers depth (t ∷ ts) others s (walk depth t ts s others)
       other-dotted y next (Err f) e h = subst (TellsOthers depth (t ∷ ts) others s) (sym (pattern_stop c depth others t (t ∷ ts) ts (Some y) (depth + 1) s (walk depth t ts s others) refl next refl refl (stops.Fault f) e)) (bad-first t ts f h)
       other-dotted y next (Ok x) e h = subst (TellsOthers depth (t ∷ ts) others s)
           (sym (part_stop c depth others t (t ∷ ts) ts (Some y) (depth + 1) s (walk depth t ts s others) refl next refl refl x.0 x.1 e (stops.Fault (bad c.place y)) refl))
@@ -345,37 +345,37 @@ module _ (c : PatternScope) where
       other-told None next = other-plain next (pattern c t depth s) refl (told depth s)
       other-told (Some y) next = other-dotted y next (pattern c t (depth + 1) s) refl (told (depth + 1) s)
 
-  others-told : (depth : ℕ) (ts : List Tree) → Each Told ts → (before after : List PlainPattern) (q : PlainPattern) (s : Taken)
+  others-told : (depth : ℕ) (ts : List Tree) → Each Told ts → (before after : List PlainPattern) (q : PlainPattern) (s : TakenVariables)
       → TellsOthers depth ts (parts-with before (Some q) after) s (walked c depth false (parts-with before (Some q) after) (map (with_pattern c) ts) s)
   others-told depth [] h before after q s = record { us = []; ps = none; are = r.no_other; is = refl; known = sym (append-nil s.0); new = tt; numbered = refl }
   others-told depth (t ∷ ts) h before after q s = other-told depth t ts s h.0 before after q (λ ps u. others-told depth ts h.1 before ps q u) (first_ellipsis c.frames ts) refl
 
-  module _ (depth : ℕ) (t : Tree) (ts : List Tree) (s : Taken) (told : Told t) (before : List PlainPattern) where
+  module _ (depth : ℕ) (t : Tree) (ts : List Tree) (s : TakenVariables) (told : Told t) (before : List PlainPattern) where
     abbrev firsts : Parts
     firsts = parts-with before None []
 
-    element-plain : ((ps : List PlainPattern) (u : Taken) → TellsElements depth ts (parts-with ps None []) u (walked c depth false (parts-with ps None []) (map (with_pattern c) ts) u))
-        → None ≡ first_ellipsis c.frames ts → (x : Result (PlainPattern × Taken) Fault) → pattern c t depth s ≡ x → Tells depth t s x → TellsElements depth (t ∷ ts) firsts s (walk depth t ts s firsts)
+    element-plain : ((ps : List PlainPattern) (u : TakenVariables) → TellsElements depth ts (parts-with ps None []) u (walked c depth false (parts-with ps None []) (map (with_pattern c) ts) u))
+        → None ≡ first_ellipsis c.frames ts → (x : Result (PlainPattern × TakenVariables) Fault) → pattern c t depth s ≡ x → Tells depth t s x → TellsElements depth (t ∷ ts) firsts s (walk depth t ts s firsts)
     element-plain rest next (Err f) e h = subst (TellsElements depth (t ∷ ts) firsts s) (sym (pattern_stop c depth firsts t (t ∷ ts) ts None depth s (walk depth t ts s firsts) refl next refl refl (stops.Fault f) e)) (bad-first t ts f h)
     element-plain rest next (Ok x) e h = subst (TellsElements depth (t ∷ ts) firsts s) (forms_on c depth firsts t (t ∷ ts) ts None depth s (walk depth t ts s firsts) refl next refl refl x.0 x.1 e (parts-with (before ++ x.0 ∷ []) None []) refl)
         (elements-on depth t ts s before x.0 x.1 (walked c depth false (parts-with (before ++ x.0 ∷ []) None []) (map (with_pattern c) ts) x.1) h (rest (before ++ x.0 ∷ []) x.1))
 
-  module _ (depth : ℕ) (t y : Tree) (ts : List Tree) (s : Taken) (before : List PlainPattern) (e : Tree) (next : Some e ≡ first_ellipsis c.frames (y ∷ ts)) where
-    element-dotted : Each Told ts → (x : Result (PlainPattern × Taken) Fault) → pattern c t (depth + 1) s ≡ x → Tells (depth + 1) t s x → TellsElements depth (t ∷ y ∷ ts) (parts-with before None []) s (walk depth t (y ∷ ts) s (parts-with before None []))
+  module _ (depth : ℕ) (t y : Tree) (ts : List Tree) (s : TakenVariables) (before : List PlainPattern) (e : Tree) (next : Some e ≡ first_ellipsis c.frames (y ∷ ts)) where
+    element-dotted : Each Told ts → (x : Result (PlainPattern × TakenVariables) Fault) → pattern c t (depth + 1) s ≡ x → Tells (depth + 1) t s x → TellsElements depth (t ∷ y ∷ ts) (parts-with before None []) s (walk depth t (y ∷ ts) s (parts-with before None []))
     element-dotted all (Err f) k h = subst (TellsElements depth (t ∷ y ∷ ts) (parts-with before None []) s)
         (sym (pattern_stop c depth (parts-with before None []) t (t ∷ y ∷ ts) (y ∷ ts) (Some e) (depth + 1) s (walk depth t (y ∷ ts) s (parts-with before None [])) refl next refl refl (stops.Fault f) k)) (bad-first t (y ∷ ts) f h)
     element-dotted all (Ok x) k h = subst (TellsElements depth (t ∷ y ∷ ts) (parts-with before None []) s)
         (forms_on c depth (parts-with before None []) t (t ∷ y ∷ ts) (y ∷ ts) (Some e) (depth + 1) s (walk depth t (y ∷ ts) s (parts-with before None [])) refl next refl refl x.0 x.1 k (parts-with before (Some x.0) []) refl)
         (dots-on depth t y ts s before x.0 x.1 (walked c depth false (parts-with before (Some x.0) []) (map (with_pattern c) ts) x.1) (first-is e y ts next) h (others-told depth ts all before [] x.0 x.1))
 
-  element-told : (depth : ℕ) (t : Tree) (ts : List Tree) (s : Taken) (told : Told t) (before : List PlainPattern) → Each Told ts
-      → ((ps : List PlainPattern) (u : Taken) → TellsElements depth ts (parts-with ps None []) u (walked c depth false (parts-with ps None []) (map (with_pattern c) ts) u))
+  element-told : (depth : ℕ) (t : Tree) (ts : List Tree) (s : TakenVariables) (told : Told t) (before : List PlainPattern) → Each Told ts
+      → ((ps : List PlainPattern) (u : TakenVariables) → TellsElements depth ts (parts-with ps None []) u (walked c depth false (parts-with ps None []) (map (with_pattern c) ts) u))
       → (o : Option Tree) → o ≡ first_ellipsis c.frames ts → TellsElements depth (t ∷ ts) (parts-with before None []) s (walk depth t ts s (parts-with before None []))
   element-told depth t ts s told before all rest None next = element-plain depth t ts s told before rest next (pattern c t depth s) refl (told depth s)
   element-told depth t [] s told before all rest (Some e) next = absurd (cc)
   element-told depth t (y ∷ ts) s told before all rest (Some e) next = element-dotted depth t y ts s before e next all.1 (pattern c t (depth + 1) s) refl (told (depth + 1) s)
 
-  elements-told : (depth : ℕ) (ts : List Tree) → Each Told ts → (before : List PlainPattern) (s : Taken)
+  elements-told : (depth : ℕ) (ts : List Tree) → Each Told ts → (before : List PlainPattern) (s : TakenVariables)
       → TellsElements depth ts (parts-with before None []) s (walked c depth false (parts-with before None []) (map (with_pattern c) ts) s)
   elements-told depth [] h before s = record { us = []; ps = none; are = r.no_element; is = refl; known = sym (append-nil s.0); new = tt; numbered = refl }
   elements-told depth (t ∷ ts) h before s = element-told depth t ts s h.0 before h.1 (λ ps u. elements-told depth ts h.1 ps u) (first_ellipsis c.frames ts) refl
@@ -385,11 +385,11 @@ module _ (c : PatternScope) where
   bad-element : (t : Tree) (f : Fault) → IsBadIn (elements t) f → IsBadAt t f
   bad-element t f h = record { at = h.bad.at; part = element-part h.bad.at h.form t h.among h.bad.part; is = h.bad.is }
 
-  module _ (p : Option Span) (a d : Tree) (depth : ℕ) (s : Taken) where
+  module _ (p : Option Span) (a d : Tree) (depth : ℕ) (s : TakenVariables) where
     abbrev whole-list : Tree
     whole-list = pair p a d
 
-    list-tail : (x : Parts × Taken) → GaveElements depth (elements whole-list) no_parts s x → (y : Result (PlainPattern × Taken) Fault) → Tells depth (tail_of d) x.1 y → Tells depth whole-list s (after y (λ q s. Ok (list (parts_of x.0) q, s)))
+    list-tail : (x : Parts × TakenVariables) → GaveElements depth (elements whole-list) no_parts s x → (y : Result (PlainPattern × TakenVariables) Fault) → Tells depth (tail_of d) x.1 y → Tells depth whole-list s (after y (λ q s. Ok (list (parts_of x.0) q, s)))
     list-tail x g (Err f) h = record { at = h.at; part = r.in_rest (tail-part h.at d h.part); is = h.is }
     list-tail x g (Ok y) h = record {
       us = g.us ++ h.us;
@@ -399,11 +399,11 @@ module _ (c : PatternScope) where
       numbered = numbered-then s.1 x.1.1 y.1.1 g.us h.us g.numbered h.numbered;
     }
 
-    list-told : (x : Result (Parts × Taken) Fault) → TellsElements depth (elements whole-list) no_parts s x → Told (tail_of d) → Tells depth whole-list s (after x (λ parts s. after (pattern c (tail_of d) depth s) (λ q s. Ok (list (parts_of parts) q, s))))
+    list-told : (x : Result (Parts × TakenVariables) Fault) → TellsElements depth (elements whole-list) no_parts s x → Told (tail_of d) → Tells depth whole-list s (after x (λ parts s. after (pattern c (tail_of d) depth s) (λ q s. Ok (list (parts_of parts) q, s))))
     list-told (Err f) g h = bad-element whole-list f g
     list-told (Ok x) g h = list-tail x g (pattern c (tail_of d) depth x.1) (h depth x.1)
 
-  vector-told : (p : Option Span) (d : Tree) (depth : ℕ) (s : Taken) (x : Result (Parts × Taken) Fault) → TellsElements depth (elements d) no_parts s x → Tells depth (vector p d) s (after x (λ parts s. Ok (pattern_of.vector (parts_of parts), s)))
+  vector-told : (p : Option Span) (d : Tree) (depth : ℕ) (s : TakenVariables) (x : Result (Parts × TakenVariables) Fault) → TellsElements depth (elements d) no_parts s x → Tells depth (vector p d) s (after x (λ parts s. Ok (pattern_of.vector (parts_of parts), s)))
   vector-told p d depth s (Err f) g = let b = bad-element d f g in record { at = b.at; part = r.in_vector b.part; is = b.is }
   vector-told p d depth s (Ok x) g = record {
     us = g.us;
@@ -461,17 +461,17 @@ module _ (c : PatternScope) where
   none-first-other r.no_other = refl
   none-first-other (r.an_other {x = x} i h) = ap (λ b. if b then Some x else None) (sym (no-ellipsis-is i))
 
-  leaf-branch : (t : Tree) (depth : ℕ) (s : Taken) (a b l : Bool) → is_form form.Ellipsis (stands c.frames t) ≡ a → is_form form.Underscore (stands c.frames t) ≡ b → is_literal c.literals t ≡ l
+  leaf-branch : (t : Tree) (depth : ℕ) (s : TakenVariables) (a b l : Bool) → is_form form.Ellipsis (stands c.frames t) ≡ a → is_form form.Underscore (stands c.frames t) ≡ b → is_literal c.literals t ≡ l
       → leaf_pattern c t depth s ≡ (if a then Err (bad c.place t) else (if b then Ok (any, s) else (if l then Ok (literal t, s) else new_variable c.place t depth s)))
   leaf-branch t depth s a b l e u k = λ i. if e i then Err (bad c.place t) else (if u i then Ok (any, s) else (if k i then Ok (literal t, s) else new_variable c.place t depth s))
 
-  id-pattern : (t : Tree) (depth : ℕ) (s : Taken) → IsId t → pattern c t depth s ≡ leaf_pattern c t depth s
+  id-pattern : (t : Tree) (depth : ℕ) (s : TakenVariables) → IsId t → pattern c t depth s ≡ leaf_pattern c t depth s
   id-pattern _ depth s g.id = refl
 
   abbrev Comes : ℕ → Tree → List PatternVariable → PlainPattern → Type 0
   Comes depth t us p = (vs : List PatternVariable) (n m : Named) → AreNew vs us → AreNumbered n us m → pattern c t depth (vs, n) ≡ Ok (p, (vs ++ us, m))
 
-  abbrev gives : PlainPattern → List PatternVariable → Named → Result (PlainPattern × Taken) Fault
+  abbrev gives : PlainPattern → List PatternVariable → Named → Result (PlainPattern × TakenVariables) Fault
   gives p vs n = Ok (p, (vs, n))
 
   no-variables : (p : PlainPattern) (vs : List PatternVariable) (n m : Named) → n ≡ m → gives p vs n ≡ gives p (vs ++ []) m
@@ -567,7 +567,7 @@ module _ (c : PatternScope) where
 
   -- The whole.
 
-  pattern-told : (t : Tree) (n : Named) → AreLiterals c.frames c.literals → (x : Result (PlainPattern × Taken) Fault) → Tells 0 t ([], n) x → IsTold c t n (with_variables x)
+  pattern-told : (t : Tree) (n : Named) → AreLiterals c.frames c.literals → (x : Result (PlainPattern × TakenVariables) Fault) → Tells 0 t ([], n) x → IsTold c t n (with_variables x)
   pattern-told t n ls (Ok x) h = record {
     are_literals = ls;
     is_pattern = subst (λ us. IsPattern c.frames c.literals 0 t us x.0) (sym h.known) h.is;

@@ -17,7 +17,7 @@ use Rattle.eval_value.specs.declared.cell.Cell.TheVariants as cell
 use Rattle.eval_prims.specs.declared.made.PrimResult.{PrimResult}
 use Rattle.eval_prims.specs.declared.made.PrimResult.TheVariants as made
 use Rattle.eval_prims.specs.declared.primitive.Primitive.{Primitive}
-use Rattle.eval_prims.specs.Answers.{Answer, refused, or_refused, given, said}
+use Rattle.eval_prims.specs.Answers.{PrimAnswer, refused, or_refused, given, said}
 use Rattle.eval_prims.specs.Basics as basics
 use Rattle.eval_prims.specs.Basics.{part, kind_made, basic_made}
 use Rattle.eval_prims.specs.Chains.{pair_of, list_elements, tail_after}
@@ -57,7 +57,7 @@ module _ (P : Value → Type 0) (cells : List Cell) (holds : HoldsIn P cells) wh
   MadeOr None = Unit {0}
   MadeOr (Some m) = MadeHolds P m
 
-  abbrev AnswerOr : Answer → Type 0
+  abbrev AnswerOr : PrimAnswer → Type 0
   AnswerOr (Ok m) = MadeHolds P m
   AnswerOr (Err f) = Unit {0}
 
@@ -234,7 +234,7 @@ module _ (P : Value → Type 0) (cells : List Cell) (holds : HoldsIn P cells) wh
 
   -- Data and trees.
 
-  answer_if : (t : Bool) (a b : Answer) → AnswerOr a → AnswerOr b → AnswerOr (if t then a else b)
+  answer_if : (t : Bool) (a b : PrimAnswer) → AnswerOr a → AnswerOr b → AnswerOr (if t then a else b)
   answer_if true a b h k = h
   answer_if false a b h k = k
 
@@ -493,7 +493,7 @@ module _ (P : Value → Type 0) (cells : List Cell) (holds : HoldsIn P cells) wh
   delta_ok op args frames r = answer_ok (primitive_of op) op args frames r
 
 pub call_holds : (P : Value → Type 0) (op : ℕ) (args : List Value) (cells : List Cell) (fs : Scope) (m : PrimResult) → HoldsIn P cells → Each P args → delta op args cells fs ≡ Ok m → MadeHolds P m
-call_holds P op args cells fs m holds r e = subst (λ (x : Answer). AnswerOr P cells holds x) e (delta_ok P cells holds op args fs r)
+call_holds P op args cells fs m holds r e = subst (λ (x : PrimAnswer). AnswerOr P cells holds x) e (delta_ok P cells holds op args fs r)
 
 -- To fit in whole cells is such a property.
 

@@ -2,13 +2,13 @@
 use Rattle.std.proofs.Common.{◌≡◌, ℕ, zero, suc, Bool, true, false, refl, ap, ◌∙◌, None}
 use Rattle.std.specs.Prelude.{◌&&◌, if◌then◌else◌}
 use Rattle.stx_tree.specs.Tree.{Tree, pair, nil}
-use Rattle.core_quasi.specs.Words.{Words}
+use Rattle.core_quasi.specs.Words.{WordOf}
 use Rattle.core_quasi.specs.declared.word.QuasiWord.{QuasiWord}
 use Rattle.core_quasi.specs.declared.word.QuasiWord.TheVariants as word
-use Rattle.law_quasi.specs.Makes.{Given}
+use Rattle.law_quasi.specs.Makes.{FilledBy}
 use Rattle.law_quasi.specs.Filled.{is_tail_word, filled, rest_filled, put, list_by, list_filled, form_of}
 
-module _ (w : Words) (f : Given) (head t : Tree) where
+module _ (w : WordOf) (f : FilledBy) (head t : Tree) where
   -- an operand is no tail
   operand : (n m : ℕ) → rest_filled w f (pair None t nil) n m ≡ put w f m t (filled w f t m) nil
   operand n m = go (is_tail_word (w t))

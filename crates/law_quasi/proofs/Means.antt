@@ -7,7 +7,7 @@ use Rattle.base_data.specs.declared.span.Span.{Span}
 use Rattle.stx_tree.specs.Tree.{Tree, atom, leaf, pair, vector, nil, chain}
 use Rattle.stx_tree.specs.Measures.{size}
 use Rattle.core_shapes.specs.Lists.{is_nil, elements, tail_of}
-use Rattle.core_quasi.specs.Words.{Words, inner, reach}
+use Rattle.core_quasi.specs.Words.{WordOf, inner, reach}
 use Rattle.core_quasi.specs.Parts.{rest_at, taken_at, first_word, operand_of}
 use Rattle.core_quasi.specs.Plan.{PlainQuasi, constant, call, quasis}
 use Rattle.core_quasi.specs.declared.maker.Maker.TheVariants as maker
@@ -19,7 +19,7 @@ use Rattle.core_quasi.specs.declared.word.Reach.{Reach}
 use Rattle.core_quasi.specs.declared.word.Reach.TheVariants as reached
 use Rattle.core_quasi.proofs.Levels.{elements_are, list_split, list_flat}
 use Rattle.core_quasi.proofs.Sizes.{forms_size, parts_within, split_size, tree_size}
-use Rattle.law_quasi.specs.Makes.{Given, plain, plain_items, makes}
+use Rattle.law_quasi.specs.Makes.{FilledBy, plain, plain_items, makes}
 use Rattle.law_quasi.specs.Filled.{value_of, spliced}
 use Rattle.law_quasi.specs.Filled as report
 use Rattle.law_quasi.proofs.Walked.{put_by, put, is_tail, list_by, filled, rest_filled, items_filled}
@@ -46,7 +46,7 @@ plain_elements (vector s d) = refl
 vector_size : (d : Tree) → forms_size (elements d) < size d
 vector_size d = omega (arith, parts_within d, tree_size (tail_of d))
 
-module _ (w : Words) (f : Given) where
+module _ (w : WordOf) (f : FilledBy) where
   -- the plan of a form makes this, and a constant is the form itself
   abbrev pub Means : Tree → Tree → Result PlainQuasi Bare → Type 0
   Means v t (Ok q) = (makes f q ≡ v) × (is_constant q ≡ true → q ≡ constant t)

@@ -7,7 +7,7 @@ use Rattle.stx_tree.specs.Tree.{Tree, atom, leaf, pair, vector}
 use Rattle.core_shapes.specs.Lists.{is_nil, tail_of}
 use Rattle.core_quasi.specs.Words.{inner, reach}
 use Rattle.core_quasi.specs.Parts.{rest_at, splits, taken_at, first_word, operand_of}
-use Rattle.core_quasi.specs.QuasiSyntax.{Looked, Inserts, then_insert, insert_leaf, insert, no_trees, leaves, spliced, with_part, unchanged, list_joined, vector_joined, joined, Element, forms, step, step_by, walked, operand_or_bad, begun_by, begins, Tail, finished, flat, split_tail, escapes, list_made, vector_made, syntax_at, elements_made, tail_made, answer, quasi_syntax}
+use Rattle.core_quasi.specs.QuasiSyntax.{Looked, Inserts, then_insert, insert_leaf, insert, no_trees, leaves, spliced, with_part, unchanged, list_joined, vector_joined, joined, ElementInserts, forms, step, step_by, walked, operand_or_bad, begun_by, begins, Tail, finished, flat, split_tail, escapes, list_made, vector_made, syntax_at, elements_made, tail_made, answer, quasi_syntax}
 use Rattle.base_data.specs.Gives.{◌>>=◌}
 use Rattle.core_quasi.specs.Quasi.{at_form}
 use Rattle.core_quasi.specs.declared.quasi_syntax.QuasiSyntax.{QuasiSyntax}
@@ -54,27 +54,27 @@ then_keeps : {A B : Type 0} (r : Result (A × List Insert) Bare) (k : A → Inse
 then_keeps (Ok p) k h g = g p.0 p.1 h
 then_keeps (Err e) k h g = tt
 
-abbrev AllKeep : List Element → Type 0
+abbrev AllKeep : List ElementInserts → Type 0
 AllKeep [] = Unit {0}
 AllKeep (x ∷ xs) = ((n : ℕ) → Keeps (x.1 n)) × AllKeep xs
 
-keep_take : (k : ℕ) (xs : List Element) → AllKeep xs → AllKeep (take k xs)
+keep_take : (k : ℕ) (xs : List ElementInserts) → AllKeep xs → AllKeep (take k xs)
 keep_take zero xs h = tt
 keep_take (suc k) [] h = tt
 keep_take (suc k) (x ∷ xs) h = (h.0, keep_take k xs h.1)
 
-keep_drop : (k : ℕ) (xs : List Element) → AllKeep xs → AllKeep (drop k xs)
+keep_drop : (k : ℕ) (xs : List ElementInserts) → AllKeep xs → AllKeep (drop k xs)
 keep_drop zero xs h = h
 keep_drop (suc k) [] h = tt
 keep_drop (suc k) (x ∷ xs) h = keep_drop k xs h.1
 
 module _ (w : Looked) where
-  step_keeps : (n : ℕ) (r : QuasiRow) (x : Element) → ((m : ℕ) → Keeps (x.1 m)) → (k : QuasiTaken) → Keeps (step_by w n x r k)
+  step_keeps : (n : ℕ) (r : QuasiRow) (x : ElementInserts) → ((m : ℕ) → Keeps (x.1 m)) → (k : QuasiTaken) → Keeps (step_by w n x r k)
   step_keeps n r x g (taken.Each es) is h = leaves_numbered r.trees es is h
   step_keeps n r x g (taken.Spliced es) is h = spliced_numbered w.dots r.trees es is h
   step_keeps n r x g taken.Kept is h = then_keeps (x.1 n is) (λ p js. Ok (with_part r p, js)) (g n is h) (λ p js k. k)
 
-  walk_keeps : (n : ℕ) (xs : List Element) (r : QuasiRow) → AllKeep xs → Keeps (walked w n r xs)
+  walk_keeps : (n : ℕ) (xs : List ElementInserts) (r : QuasiRow) → AllKeep xs → Keeps (walked w n r xs)
   walk_keeps n [] r g is h = h
   walk_keeps n (x ∷ xs) r g is h =
       then_keeps (step w n r x is) (λ q js. walked w n q xs js) (step_keeps n r x g.0 (taken_at w.words n x.0) is h) (λ q. walk_keeps n xs q g.1)
@@ -92,14 +92,14 @@ module _ (w : Looked) where
   finished_keeps t tail n g (begun.Whole p) is h = h
   finished_keeps t tail n g (begun.Trees r) is h = then_keeps (tail.made n is) (λ q. joined (list_joined t r q)) (g is h) (λ q. joined_keeps (list_joined t r q))
 
-  flat_keeps : (t : Tree) (xs : List Element) (tail : Tail) (n : ℕ) → AllKeep xs → Keeps (tail.made n) → Keeps (flat w t xs tail n)
+  flat_keeps : (t : Tree) (xs : List ElementInserts) (tail : Tail) (n : ℕ) → AllKeep xs → Keeps (tail.made n) → Keeps (flat w t xs tail n)
   flat_keeps t xs tail n g k is h =
       then_keeps (begins w xs tail.ends n is) (finished t tail n)
       (begun_keeps (operand_of tail.ends (forms xs)) (walked w (inner (first_word w.words (forms xs)) n) no_trees xs) (reach (first_word w.words (forms xs)) n)
       (walk_keeps (inner (first_word w.words (forms xs)) n) xs no_trees g) is h)
       (finished_keeps t tail n k)
 
-  list_keeps : (t : Tree) (xs : List Element) (tail : Tail) (n : ℕ) → AllKeep xs → ((m : ℕ) → Keeps (tail.made m)) → Keeps (list_made w t xs tail n)
+  list_keeps : (t : Tree) (xs : List ElementInserts) (tail : Tail) (n : ℕ) → AllKeep xs → ((m : ℕ) → Keeps (tail.made m)) → Keeps (list_made w t xs tail n)
   list_keeps t xs tail n g k is h = go (escapes (first_word w.words (forms xs)) tail.ends (forms xs)) (splits w.words tail.ends (forms xs))
     where
       go : (e s : Bool) → Kept (if e then Ok (unchanged t, is)
@@ -110,7 +110,7 @@ module _ (w : Looked) where
           (flat_keeps (rest_at (length xs - 2) t) (drop (length xs - 2) xs) tail n (keep_drop (length xs - 2) xs g) (k n)) is h
       go false false = flat_keeps t xs tail n g (k n) is h
 
-  vector_keeps : (t : Tree) (xs : List Element) (n : ℕ) → AllKeep xs → Keeps (vector_made w t xs n)
+  vector_keeps : (t : Tree) (xs : List ElementInserts) (n : ℕ) → AllKeep xs → Keeps (vector_made w t xs n)
   vector_keeps t xs n g is h = then_keeps (walked w n no_trees xs is) (λ r. joined (vector_joined t r)) (walk_keeps n xs no_trees g is h) (λ r. joined_keeps (vector_joined t r))
 
   mutual

@@ -10,7 +10,7 @@ use Rattle.core_quasi.specs.Quasi.{closed, expressions, with_each, with_splices,
 use Rattle.core_quasi.specs.declared.maker.Maker.TheVariants as maker
 use Rattle.core_quasi.specs.declared.quasi.Pieces.{Pieces}
 use Rattle.core_quasi.proofs.Levels.{elements_chain}
-use Rattle.law_quasi.specs.Makes.{Given, plain, cons_on, cons_star, append_on, append, makes, values}
+use Rattle.law_quasi.specs.Makes.{FilledBy, plain, cons_on, cons_star, append_on, append, makes, values}
 use Rattle.law_quasi.specs.Filled.{spliced}
 
 -- Lists.
@@ -62,7 +62,7 @@ pub not_fixed : (p : Pieces) (es : List Tree) → (with_splices p es).fixed ≡ 
 not_fixed p [] = refl
 not_fixed p (e ∷ es) = refl
 
-module _ (f : Given) where
+module _ (f : FilledBy) where
   pub values_are : (qs : List PlainQuasi) → values f (quasis qs) ≡ map (makes f) qs
   values_are [] = refl
   values_are (q ∷ qs) = ap (λ vs. makes f q ∷ vs) (values_are qs)

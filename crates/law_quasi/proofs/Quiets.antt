@@ -7,7 +7,7 @@ use Rattle.base_data.specs.declared.span.Span.{Span}
 use Rattle.stx_tree.specs.Tree.{Tree, atom, leaf, pair, vector, nil}
 use Rattle.stx_tree.specs.Measures.{size}
 use Rattle.core_shapes.specs.Lists.{is_nil, elements, tail_of}
-use Rattle.core_quasi.specs.Words.{Words, inner, reach, head_word}
+use Rattle.core_quasi.specs.Words.{WordOf, inner, reach, head_word}
 use Rattle.core_quasi.specs.Parts.{rest_at, splits, taken_at, taken_by, first_word, operand_of, operands}
 use Rattle.core_quasi.specs.Plan.{constant, call, quasis}
 use Rattle.core_quasi.specs.Quasi.{Tail, no_pieces, with_item, step, step_by, walked, begun_by, finished, made_of, list_joined, vector_joined, vector_made, quasi_at, element, tail_element, forms_walked, forms_begun, flat_list}
@@ -43,7 +43,7 @@ quiet_reach word.Splice n h = absurd (cc)
 quiet_reach word.Escape n h = refl
 quiet_reach word.Plain n h = refl
 
-module _ (w : Words) where
+module _ (w : WordOf) where
   -- these elements hold nothing that is unquoted
   abbrev pub are_quiet : List Tree → Bool
   are_quiet [] = true

@@ -3,13 +3,13 @@ use Rattle.std.proofs.Common.{◌≡◌, ℕ, zero, suc, Bool, true, false, List
 use Rattle.std.specs.Prelude.{◌-◌, ◌&&◌, is_some, if◌then◌else◌}
 use Rattle.stx_tree.specs.Tree.{Tree, atom, leaf, pair, vector, nil}
 use Rattle.core_shapes.specs.Lists.{is_nil, elements, tail_of, if_some}
-use Rattle.core_quasi.specs.Words.{Words, inner, reach, counts}
+use Rattle.core_quasi.specs.Words.{WordOf, inner, reach, counts}
 use Rattle.core_quasi.specs.Parts.{behind_head, taken_by}
 use Rattle.core_quasi.specs.declared.word.Reach.{Reach}
 use Rattle.core_quasi.specs.declared.word.Reach.TheVariants as reached
 use Rattle.core_quasi.specs.declared.word.QuasiWord.{QuasiWord}
 use Rattle.core_quasi.specs.declared.word.QuasiWord.TheVariants as word
-use Rattle.law_quasi.specs.Makes.{Given}
+use Rattle.law_quasi.specs.Makes.{FilledBy}
 use Rattle.law_quasi.specs.Filled.{is_tail_word, only, value_of, put_form, put, is_tail, list_by, list_filled, filled, rest_filled, items_filled}
 use Rattle.law_quasi.proofs.Walked as walked
 
@@ -20,7 +20,7 @@ tail_words word.Splice = refl
 tail_words word.Escape = refl
 tail_words word.Plain = refl
 
-module _ (w : Words) (f : Given) where
+module _ (w : WordOf) (f : FilledBy) where
   form_same : (x : QuasiWord) (b : Bool) (h : Tree) (es : List Tree) (made r : Tree)
       → put_form f x b es made r ≡ walked.put_by f made r (taken_by x (if_some (if b then Some (h ∷ es) else None) behind_head))
   form_same word.Lower true h es made r = refl

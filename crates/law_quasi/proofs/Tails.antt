@@ -5,7 +5,7 @@ use Rattle.std.specs.Prelude.{◌-◌, ◌&&◌, slice_get, is_some, if◌then�
 use Rattle.base_data.specs.declared.span.Span.{Span}
 use Rattle.stx_tree.specs.Tree.{Tree, atom, leaf, pair, vector, nil, chain}
 use Rattle.core_shapes.specs.Lists.{is_nil, is_nil_atom, elements, tail_of}
-use Rattle.core_quasi.specs.Words.{Words, counts}
+use Rattle.core_quasi.specs.Words.{WordOf, counts}
 use Rattle.core_quasi.specs.Parts.{rest_at, counts_at, splits, operand_of}
 use Rattle.law_quasi.specs.Makes.{plain}
 use Rattle.law_quasi.specs.Filled.{only}
@@ -39,7 +39,7 @@ only_is a (pair s e (pair r x d)) = operand_more (is_nil (tail_of d)) a e x (ele
 only_is a (pair s e (vector r d)) = refl
 only_is a (vector s d) = refl
 
-module _ (w : Words) where
+module _ (w : WordOf) where
   -- whether a rest holds a form that stands for the tail
   abbrev pub has_tail : Tree → Bool
   has_tail (atom s a) = false

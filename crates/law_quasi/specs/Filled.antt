@@ -2,10 +2,10 @@
 use Rattle.std.specs.Prelude.{ℕ, zero, suc, Bool, true, false, ◌&&◌, List, [], ◌∷◌, map, Option, None, Some, is_some, if◌then◌else◌}
 use Rattle.stx_tree.specs.Tree.{Tree, atom, leaf, pair, vector, nil, chain}
 use Rattle.core_shapes.specs.Lists.{is_nil, elements, tail_of}
-use Rattle.core_quasi.specs.Words.{Words}
+use Rattle.core_quasi.specs.Words.{WordOf}
 use Rattle.core_quasi.specs.declared.word.QuasiWord.{QuasiWord}
 use Rattle.core_quasi.specs.declared.word.QuasiWord.TheVariants as word
-use Rattle.law_quasi.specs.Makes.{Given}
+use Rattle.law_quasi.specs.Makes.{FilledBy}
 
 -- What is made of a list at each level: of its first element, and of its rest, whose elements are at a level of their own.
 pub record AtLevels (A : Type 0) : Type 0 where
@@ -35,10 +35,10 @@ only (pair s e d) = if is_nil d then Some e else None
 only (vector s d) = None
 
 -- whether a rest is a form that stands for the tail
-abbrev pub is_tail : Words → Tree → Tree → Bool
+abbrev pub is_tail : WordOf → Tree → Tree → Bool
 is_tail w a d = is_tail_word (w a) && is_some (only d)
 
-module _ (f : Given) where
+module _ (f : FilledBy) where
   abbrev pub value_of : Option Tree → Tree
   value_of None = nil
   value_of (Some e) = f e
@@ -54,7 +54,7 @@ module _ (f : Given) where
   put_form word.Splice true es made r = spliced es r
   put_form x ends es made r = pair None made r
 
-module _ (w : Words) (f : Given) where
+module _ (w : WordOf) (f : FilledBy) where
   -- an element, which itself comes to this, before a rest
   abbrev pub put : ℕ → Tree → Tree → Tree → Tree
   put zero (pair s h d) made r = put_form f (w h) (is_nil (tail_of d)) (elements d) made r

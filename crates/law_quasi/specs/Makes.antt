@@ -21,8 +21,8 @@ abbrev mutual
   plain_items (vector s d) = nil
 
 -- the value of each expression
-abbrev pub Given : Type 0
-Given = Tree → Tree
+abbrev pub FilledBy : Type 0
+FilledBy = Tree → Tree
 
 -- the first of these before the others
 abbrev pub cons_on : Tree → List Tree → Tree
@@ -54,11 +54,11 @@ applied maker.Append vs = append vs
 applied maker.ListToVector vs = list_to_vector vs
 
 abbrev mutual
-  pub makes : Given → PlainQuasi → Tree
+  pub makes : FilledBy → PlainQuasi → Tree
   makes f (constant t) = plain t
   makes f (expression e) = f e
   makes f (call m qs) = applied m (values f qs)
 
-  pub values : Given → PlainQuasis → List Tree
+  pub values : FilledBy → PlainQuasis → List Tree
   values f none = []
   values f (more q qs) = makes f q ∷ values f qs

@@ -16,7 +16,7 @@ use Rattle.core_language.specs.Core.{PlainCore, quoted, primitive, call, cores}
 use Rattle.core_quasi.specs.Plan.{PlainQuasi, PlainQuasis, constant, expression, none, more}
 use Rattle.core_quasi.specs.Plan as plan
 use Rattle.core_quasi.specs.Quasi.{quasi_at, at_form, quasi}
-use Rattle.core_quasi.specs.Words.{Words}
+use Rattle.core_quasi.specs.Words.{WordOf}
 use Rattle.core_quasi.specs.declared.maker.Maker.{Maker}
 use Rattle.core_quasi.specs.declared.maker.Maker.TheVariants as maker
 use Rattle.core_quasi.proofs.Levels.{elements_chain}
@@ -49,7 +49,7 @@ use Rattle.law_given.proofs.Later.{later-refl, calls-later}
 use Rattle.law_given.proofs.Looking.{later-stay}
 use Rattle.law_quasi.proofs.Means.{plan_means}
 use Rattle.law_quasi.specs.Filled as template
-use Rattle.law_quasi.specs.Makes.{Given, plain, cons_star, append, list_to_vector, makes, values}
+use Rattle.law_quasi.specs.Makes.{FilledBy, plain, cons_star, append, list_to_vector, makes, values}
 use Rattle.expand_quasi.specs.Filled.{op_of, call_of, filled}
 use Rattle.law_quasi_code.specs.Shows.{Shows, of_atom, of_vector, ShowsEach, no_more, one_more}
 use Rattle.law_quasi_code.specs.Values.{AllGive, GivesShown}
@@ -154,7 +154,7 @@ module _ (given : List (Tree × Value)) (cells : List Cell) where
         ended = r.ended;
       }
 
-module _ (w : PlainSetting) (scope : Place) (given : List (Tree × Value)) (f : Given) where
+module _ (w : PlainSetting) (scope : Place) (given : List (Tree × Value)) (f : FilledBy) where
   abbrev Ready : List Want → List PlainCore → WorldState → Type 0
   Ready xs cs s = AllGive w scope given f xs cs s
 
@@ -523,7 +523,7 @@ module _ (w : PlainSetting) (scope : Place) (given : List (Tree × Value)) (f : 
   ok_of form place (Ok y) x h = let same : y ≡ x = cc in ap Ok same
   ok_of form place (Err e) x h = absurd (cc)
 
-  pub code-gives : (words : Words) (t form : Tree) (place : Span) (q : PlainQuasi) (cs : List PlainCore) (s : WorldState)
+  pub code-gives : (words : WordOf) (t form : Tree) (place : Span) (q : PlainQuasi) (cs : List PlainCore) (s : WorldState)
       → quasi words t form place ≡ Ok q → Ready (wants q) cs s → GivesShown w scope given (filled q cs).0 s (template.filled words f t 0)
   code-gives words t form place q cs s e g =
       let k = ok_of form place (quasi_at words t 0) q e in

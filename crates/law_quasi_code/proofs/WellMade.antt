@@ -5,10 +5,10 @@ use Rattle.base_data.specs.Gives.{◌>>=◌}
 use Rattle.base_data.specs.declared.fault.Bare.{Bare}
 use Rattle.stx_tree.specs.Tree.{Tree, atom, leaf, pair, vector, nil}
 use Rattle.core_shapes.specs.Lists.{is_nil, tail_of}
-use Rattle.core_quasi.specs.Words.{Words, inner, reach}
+use Rattle.core_quasi.specs.Words.{WordOf, inner, reach}
 use Rattle.core_quasi.specs.Parts.{taken_at, rest_at, splits, first_word, operand_of}
 use Rattle.core_quasi.specs.Plan.{PlainQuasi, PlainQuasis, constant, expression, call, none, more, quasis}
-use Rattle.core_quasi.specs.Quasi.{no_pieces, closed, expressions, with_each, with_splices, is_constant, with_item, is_end, without_splices, made_of, list_joined, vector_joined, Element, forms, step_by, step, walked, operand_or_bad, begun_by, begins, Tail, finished, flat, split_tail, list_made, vector_made, quasi_at, elements_made, tail_made}
+use Rattle.core_quasi.specs.Quasi.{no_pieces, closed, expressions, with_each, with_splices, is_constant, with_item, is_end, without_splices, made_of, list_joined, vector_joined, ElementPlan, forms, step_by, step, walked, operand_or_bad, begun_by, begins, Tail, finished, flat, split_tail, list_made, vector_made, quasi_at, elements_made, tail_made}
 use Rattle.core_quasi.specs.declared.maker.Maker.TheVariants as maker
 use Rattle.core_quasi.specs.declared.parts.QuasiTaken.{QuasiTaken}
 use Rattle.core_quasi.specs.declared.parts.QuasiTaken.TheVariants as taken
@@ -203,7 +203,7 @@ then_is : {A B : Type 0} (P : A → Type 0) (Q : B → Type 0) (r : Result A Bar
 then_is P Q (Ok x) k h next = next x h
 then_is P Q (Err e) k h next = tt
 
-abbrev AllMade : List Element → Type 0
+abbrev AllMade : List ElementPlan → Type 0
 AllMade [] = Unit {0}
 AllMade (x ∷ xs) = ((n : ℕ) → OkIs IsPlan (x.1 n)) × AllMade xs
 
@@ -211,13 +211,13 @@ abbrev BegunWell : Begun → Type 0
 BegunWell (begun.Whole e) = Unit {0}
 BegunWell (begun.Parts p) = Well p
 
-module _ (w : Words) where
-  step_well : (n : ℕ) (x : Element) (p : Pieces) (u : QuasiTaken) → ((n : ℕ) → OkIs IsPlan (x.1 n)) → Well p → OkIs Well (step_by n x p u)
+module _ (w : WordOf) where
+  step_well : (n : ℕ) (x : ElementPlan) (p : Pieces) (u : QuasiTaken) → ((n : ℕ) → OkIs IsPlan (x.1 n)) → Well p → OkIs Well (step_by n x p u)
   step_well n x p (taken.Each es) h k = each_well p es k
   step_well n x p (taken.Spliced es) h k = splices_well p es k
   step_well n x p taken.Kept h k = then_is IsPlan Well (x.1 n) (λ q. Ok (with_item p q)) (h n) (λ q j. item_well p q k j)
 
-  walk_well : (n : ℕ) (p : Pieces) (xs : List Element) → Well p → AllMade xs → OkIs Well (walked w n p xs)
+  walk_well : (n : ℕ) (p : Pieces) (xs : List ElementPlan) → Well p → AllMade xs → OkIs Well (walked w n p xs)
   walk_well n p [] h all = h
   walk_well n p (x ∷ xs) h all = then_is Well Well (step w n p x) (λ q. walked w n q xs) (step_well n x p (taken_at w n x.0) all.0 h) (λ q k. walk_well n q xs k all.1)
 
@@ -230,7 +230,7 @@ module _ (w : Words) where
   begun_well o r reached.Refused h = tt
   begun_well o r reached.Elements h = then_is Well BegunWell r (λ p. Ok (begun.Parts p)) h (λ p k. k)
 
-  begins_well : (xs : List Element) (ends : Bool) (n : ℕ) → AllMade xs → OkIs BegunWell (begins w xs ends n)
+  begins_well : (xs : List ElementPlan) (ends : Bool) (n : ℕ) → AllMade xs → OkIs BegunWell (begins w xs ends n)
   begins_well xs ends n all =
       begun_well (operand_of ends (forms xs)) (walked w (inner (first_word w (forms xs)) n) no_pieces xs) (reach (first_word w (forms xs)) n)
       (walk_well (inner (first_word w (forms xs)) n) no_pieces xs (tt, tt) all)
@@ -239,27 +239,27 @@ module _ (w : Words) where
   finished_well t tail n (begun.Whole e) h k = tt
   finished_well t tail n (begun.Parts p) h k = then_is IsPlan IsPlan (tail.made n) (λ q. Ok (list_joined t p q)) (h n) (λ q j. list_plan t p q k j)
 
-  flat_well : (t : Tree) (xs : List Element) (tail : Tail) (n : ℕ) → AllMade xs → ((n : ℕ) → OkIs IsPlan (tail.made n)) → OkIs IsPlan (flat w t xs tail n)
+  flat_well : (t : Tree) (xs : List ElementPlan) (tail : Tail) (n : ℕ) → AllMade xs → ((n : ℕ) → OkIs IsPlan (tail.made n)) → OkIs IsPlan (flat w t xs tail n)
   flat_well t xs tail n all h = then_is BegunWell IsPlan (begins w xs tail.ends n) (finished t tail n) (begins_well xs tail.ends n all) (λ b k. finished_well t tail n b h k)
 
-  taken_made : (k : ℕ) (xs : List Element) → AllMade xs → AllMade (take k xs)
+  taken_made : (k : ℕ) (xs : List ElementPlan) → AllMade xs → AllMade (take k xs)
   taken_made zero xs h = tt
   taken_made (suc k) [] h = tt
   taken_made (suc k) (x ∷ xs) h = (h.0, taken_made k xs h.1)
 
-  dropped_made : (k : ℕ) (xs : List Element) → AllMade xs → AllMade (drop k xs)
+  dropped_made : (k : ℕ) (xs : List ElementPlan) → AllMade xs → AllMade (drop k xs)
   dropped_made zero xs h = h
   dropped_made (suc k) [] h = tt
   dropped_made (suc k) (x ∷ xs) h = dropped_made k xs h.1
 
-  list_well : (t : Tree) (xs : List Element) (tail : Tail) (n : ℕ) → AllMade xs → ((n : ℕ) → OkIs IsPlan (tail.made n)) → OkIs IsPlan (list_made w t xs tail n)
+  list_well : (t : Tree) (xs : List ElementPlan) (tail : Tail) (n : ℕ) → AllMade xs → ((n : ℕ) → OkIs IsPlan (tail.made n)) → OkIs IsPlan (list_made w t xs tail n)
   list_well t xs tail n all h =
       either (OkIs IsPlan) (splits w tail.ends (forms xs)) (flat w t (take (length xs - 2) xs) (split_tail w t xs tail) n) (flat w t xs tail n)
       (flat_well t (take (length xs - 2) xs) (split_tail w t xs tail) n (taken_made (length xs - 2) xs all)
       (λ m. flat_well (rest_at (length xs - 2) t) (drop (length xs - 2) xs) tail m (dropped_made (length xs - 2) xs all) h))
       (flat_well t xs tail n all h)
 
-  vector_well : (t : Tree) (xs : List Element) (n : ℕ) → AllMade xs → OkIs IsPlan (vector_made w t xs n)
+  vector_well : (t : Tree) (xs : List ElementPlan) (n : ℕ) → AllMade xs → OkIs IsPlan (vector_made w t xs n)
   vector_well t xs n all = then_is Well IsPlan (walked w n no_pieces xs) (λ p. Ok (vector_joined t p)) (walk_well n no_pieces xs (tt, tt) all) (λ p k. vector_plan t p k)
 
   mutual

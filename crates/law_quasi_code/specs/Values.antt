@@ -15,10 +15,10 @@ use Rattle.law_eval.specs.Kept.{LaterWorld}
 use Rattle.law_given.specs.Calls.{Gives}
 use Rattle.core_quasi.specs.Plan.{PlainQuasi}
 use Rattle.core_quasi.specs.Quasi.{quasi}
-use Rattle.core_quasi.specs.Words.{Words}
+use Rattle.core_quasi.specs.Words.{WordOf}
 use Rattle.expand_quasi.specs.Filled as code
 use Rattle.law_quasi.specs.Filled as template
-use Rattle.law_quasi.specs.Makes.{Given}
+use Rattle.law_quasi.specs.Makes.{FilledBy}
 use Rattle.law_quasi_code.specs.Shows.{Shows, ShowsEach}
 use Rattle.law_quasi_code.specs.Wants.{Want, wants}
 
@@ -35,7 +35,7 @@ SuitsAs false given cells t v = Shows given cells t v
 
 module _ (w : PlainSetting) (scope : Place) (given : List (Tree × Value)) where
   -- The code of each expression gives a value that suits, whatever cells were added before it.
-  abbrev pub AllGive : Given → List Want → List PlainCore → WorldState → Type 0
+  abbrev pub AllGive : FilledBy → List Want → List PlainCore → WorldState → Type 0
   AllGive f [] cs s = Unit {0}
   AllGive f (x ∷ xs) [] s = ⊥
   AllGive f (x ∷ xs) (c ∷ cs) s =
@@ -52,6 +52,6 @@ module _ (w : PlainSetting) (scope : Place) (given : List (Tree × Value)) where
 -- Where the code of each expression of a `quasiquote` form gives a value that suits, so does the code of the form: its value shows the template with these in
 -- their places.
 abbrev pub CodeGivesTheTemplate : Type 0
-CodeGivesTheTemplate = (w : PlainSetting) (words : Words) (t form : Tree) (place : Span) (q : PlainQuasi) (scope : Place)
-    (given : List (Tree × Value)) (f : Given) (cs : List PlainCore) (s : WorldState)
+CodeGivesTheTemplate = (w : PlainSetting) (words : WordOf) (t form : Tree) (place : Span) (q : PlainQuasi) (scope : Place)
+    (given : List (Tree × Value)) (f : FilledBy) (cs : List PlainCore) (s : WorldState)
     → quasi words t form place ≡ Ok q → AllGive w scope given f (wants q) cs s → GivesShown w scope given (code.filled q cs).0 s (template.filled words f t 0)

@@ -3,7 +3,7 @@ use Rattle.std.proofs.Common.{◌≡◌, ℕ, zero, suc, Bool, true, false, List
 use Rattle.std.specs.Prelude.{◌&&◌, is_some, if◌then◌else◌}
 use Rattle.stx_tree.specs.Tree.{Tree, atom, leaf, pair, vector}
 use Rattle.core_shapes.specs.Lists.{is_nil, elements, tail_of}
-use Rattle.core_quasi.specs.Words.{Words, counts, inner}
+use Rattle.core_quasi.specs.Words.{WordOf, counts, inner}
 use Rattle.core_quasi.specs.Parts.{rest_at}
 use Rattle.core_quasi.specs.declared.word.QuasiWord.{QuasiWord}
 use Rattle.core_quasi.specs.declared.word.QuasiWord.TheVariants as word
@@ -32,7 +32,7 @@ inner-is word.Escape n = refl
 inner-is word.Plain n = refl
 
 -- a list that has a tail of two has further elements before it
-pub tail-many : (w : Words) (d : Tree) → has_tail w d ≡ true → only d ≡ None
+pub tail-many : (w : WordOf) (d : Tree) → has_tail w d ≡ true → only d ≡ None
 tail-many w (atom s a) h = refl
 tail-many w (leaf s x c) h = refl
 tail-many w (pair s e (atom r b)) h = by (counts (w e)) h
@@ -45,7 +45,7 @@ tail-many w (pair s e (pair r x d)) h = refl
 tail-many w (pair s e (vector r d)) h = refl
 tail-many w (vector s d) h = refl
 
-module _ (stays : QuasiWord → Bool) (w : Words) where
+module _ (stays : QuasiWord → Bool) (w : WordOf) where
   -- all elements at a level
   abbrev pub all_formed : ℕ → List Tree → Bool
   all_formed m [] = true

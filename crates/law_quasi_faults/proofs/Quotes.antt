@@ -8,10 +8,10 @@ use Rattle.base_data.specs.declared.span.Span.{Span}
 use Rattle.stx_tree.specs.Tree.{Tree, atom, leaf, pair, vector}
 use Rattle.core_shapes.specs.At.{fault_at}
 use Rattle.core_shapes.specs.Lists.{is_nil, elements, tail_of, if_some}
-use Rattle.core_quasi.specs.Words.{Words, inner, reach}
+use Rattle.core_quasi.specs.Words.{WordOf, inner, reach}
 use Rattle.core_quasi.specs.Parts.{bad, rest_at, splits, taken_by, behind_head, first_word, operand_of}
 use Rattle.core_quasi.specs.Plan.{PlainQuasi}
-use Rattle.core_quasi.specs.Quasi.{Element, Tail, no_pieces, with_item, step_by, step, walked, operand_or_bad, begun_by, finished, flat, split_tail, list_joined, vector_joined, list_made, vector_made, quasi_at, tail_made, element, fault_of, at_form}
+use Rattle.core_quasi.specs.Quasi.{ElementPlan, Tail, no_pieces, with_item, step_by, step, walked, operand_or_bad, begun_by, finished, flat, split_tail, list_joined, vector_joined, list_made, vector_made, quasi_at, tail_made, element, fault_of, at_form}
 use Rattle.core_quasi.specs.declared.quasi.Begun.TheVariants as begun
 use Rattle.core_quasi.specs.declared.quasi.Pieces.{Pieces}
 use Rattle.core_quasi.specs.declared.word.QuasiWord.{QuasiWord}
@@ -36,7 +36,7 @@ then-ok : {A B : Type 0} (b : Bool) (x : Result A Bare) (f : A → B) → Tells 
 then-ok b (Ok a) f h = h
 then-ok b (Err e) f h = h
 
-module _ (w : Words) where
+module _ (w : WordOf) where
   abbrev formed : Tree → ℕ → Bool
   formed t n = is_formed none_stays w t n
 
@@ -63,7 +63,7 @@ module _ (w : Words) where
   take-are : (k : ℕ) (ts : List Tree) → take k (map (element w) ts) ≡ map (element w) (take k ts)
   take-are zero ts = refl
   take-are (suc k) [] = refl
-  take-are (suc k) (t ∷ ts) = ap (λ (xs : List Element). element w t ∷ xs) (take-are k ts)
+  take-are (suc k) (t ∷ ts) = ap (λ (xs : List ElementPlan). element w t ∷ xs) (take-are k ts)
 
   drop-are : (k : ℕ) (ts : List Tree) → drop k (map (element w) ts) ≡ map (element w) (drop k ts)
   drop-are zero ts = refl
@@ -191,8 +191,8 @@ module _ (w : Words) where
             let h : has_tail w d ≡ true = sym (splits_is w a d) ∙ f in
             let k : length (map (element w) (a ∷ elements d)) - 2 ≡ suc (cut w d) = (let l = length-are (a ∷ elements d) in let m = cut_length w d h in omega (arith, l, m)) in
             subst (λ i. Tells (pair_formed none_stays w n a d) (flat w (pair s a d) (take i (map (element w) (a ∷ elements d))) (record { ends = false; made = flat w (rest_at i (pair s a d)) (drop i (map (element w) (a ∷ elements d))) the-tail }) n)) (sym k)
-            (subst (λ (xs : List Element). Tells (pair_formed none_stays w n a d) (flat w (pair s a d) (element w a ∷ xs) (record { ends = false; made = flat w (rest_at (cut w d) d) (drop (cut w d) (map (element w) (elements d))) the-tail }) n)) (sym (take-are (cut w d) (elements d)))
-            (subst (λ (xs : List Element). Tells (pair_formed none_stays w n a d) (flat w (pair s a d) (map (element w) (a ∷ take (cut w d) (elements d))) (record { ends = false; made = flat w (rest_at (cut w d) d) xs the-tail }) n)) (sym (drop-are (cut w d) (elements d)))
+            (subst (λ (xs : List ElementPlan). Tells (pair_formed none_stays w n a d) (flat w (pair s a d) (element w a ∷ xs) (record { ends = false; made = flat w (rest_at (cut w d) d) (drop (cut w d) (map (element w) (elements d))) the-tail }) n)) (sym (take-are (cut w d) (elements d)))
+            (subst (λ (xs : List ElementPlan). Tells (pair_formed none_stays w n a d) (flat w (pair s a d) (map (element w) (a ∷ take (cut w d) (elements d))) (record { ends = false; made = flat w (rest_at (cut w d) d) xs the-tail }) n)) (sym (drop-are (cut w d) (elements d)))
             (split-told s a d h all the-tail refl n (last n))))
 
   -- Vectors.
@@ -209,10 +209,10 @@ module _ (w : Words) where
     told (atom s a) n = refl
     told (leaf s x c) n = refl
     told (pair s a d) n =
-        subst (λ (xs : List Element). Tells (pair_formed none_stays w n a d) (list_made w (pair s a d) ((a, quasi_at w a) ∷ xs) (record { ends = is_nil (tail_of d); made = tail_made w d }) n)) (sym (elements_are w d))
+        subst (λ (xs : List ElementPlan). Tells (pair_formed none_stays w n a d) (list_made w (pair s a d) ((a, quasi_at w a) ∷ xs) (record { ends = is_nil (tail_of d); made = tail_made w d }) n)) (sym (elements_are w d))
         (subst (λ (go : ℕ → Result PlainQuasi Bare). Tells (pair_formed none_stays w n a d) (list_made w (pair s a d) (map (element w) (a ∷ elements d)) (record { ends = is_nil (tail_of d); made = go }) n)) (sym (tail_is w d))
         (pair-told s a d (told a, all-told d) (tail-told-of d) n))
-    told (vector s d) n = subst (λ (xs : List Element). Tells (items_are_formed none_stays w d n) (vector_made w (vector s d) xs n)) (sym (elements_are w d)) (vector-told s d (all-told d) n)
+    told (vector s d) n = subst (λ (xs : List ElementPlan). Tells (items_are_formed none_stays w d n) (vector_made w (vector s d) xs n)) (sym (elements_are w d)) (vector-told s d (all-told d) n)
 
     all-told : (t : Tree) → AllTold (elements t)
     all-told (atom s a) = tt
@@ -224,7 +224,7 @@ module _ (w : Words) where
     tail-told-of (atom s a) n = refl
     tail-told-of (leaf s x c) n = refl
     tail-told-of (pair s a d) n = tail-told-of d n
-    tail-told-of (vector s d) n = subst (λ (xs : List Element). Tells (items_are_formed none_stays w d n) (vector_made w (vector s d) xs n)) (sym (elements_are w d)) (vector-told s d (all-told d) n)
+    tail-told-of (vector s d) n = subst (λ (xs : List ElementPlan). Tells (items_are_formed none_stays w d n) (vector_made w (vector s d) xs n)) (sym (elements_are w d)) (vector-told s d (all-told d) n)
 
 pub quotes-are-decided : QuotesAreDecided
 quotes-are-decided w t form place = by (quasi_at w t 0) (told w t 0)

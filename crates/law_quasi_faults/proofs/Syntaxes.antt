@@ -12,7 +12,7 @@ use Rattle.core_shapes.specs.Lists.{is_nil, elements, tail_of, if_some}
 use Rattle.core_quasi.specs.Words.{inner, reach}
 use Rattle.core_quasi.specs.Parts.{bad, rest_at, splits, taken_by, behind_head, first_word, operand_of}
 use Rattle.core_quasi.specs.Quasi.{fault_of, at_form}
-use Rattle.core_quasi.specs.QuasiSyntax.{Looked, Inserts, then_insert, no_trees, with_part, unchanged, rebuilt, list_joined, vector_joined, joined, Element, step_by, step, walked, operand_or_bad, begun_by, Tail, finished, flat, split_tail, escapes, list_made, vector_made, syntax_at, tail_made, element, answer}
+use Rattle.core_quasi.specs.QuasiSyntax.{Looked, Inserts, then_insert, no_trees, with_part, unchanged, rebuilt, list_joined, vector_joined, joined, ElementInserts, step_by, step, walked, operand_or_bad, begun_by, Tail, finished, flat, split_tail, escapes, list_made, vector_made, syntax_at, tail_made, element, answer}
 use Rattle.core_quasi.specs.declared.quasi_syntax.Begun.TheVariants as begun
 use Rattle.core_quasi.specs.declared.quasi_syntax.Insert.{Insert}
 use Rattle.core_quasi.specs.declared.quasi_syntax.QuasiPart.{QuasiPart}
@@ -83,7 +83,7 @@ module _ (w : Looked) where
   take-are : (k : ℕ) (ts : List Tree) → take k (map (element w) ts) ≡ map (element w) (take k ts)
   take-are zero ts = refl
   take-are (suc k) [] = refl
-  take-are (suc k) (t ∷ ts) = ap (λ (xs : List Element). element w t ∷ xs) (take-are k ts)
+  take-are (suc k) (t ∷ ts) = ap (λ (xs : List ElementInserts). element w t ∷ xs) (take-are k ts)
 
   drop-are : (k : ℕ) (ts : List Tree) → drop k (map (element w) ts) ≡ map (element w) (drop k ts)
   drop-are zero ts = refl
@@ -220,7 +220,7 @@ module _ (w : Looked) where
     abbrev the-tail : Tail
     the-tail = record { ends = is_nil (tail_of d); made = syntax_at w (tail_of d) }
 
-    abbrev all-elements : List Element
+    abbrev all-elements : List ElementInserts
     all-elements = map (element w) (a ∷ elements d)
 
     formed-is : (n : ℕ) → (escapes (w.words a) (is_nil (tail_of d)) (a ∷ elements d) || pair_formed ellipsis_stays w.words n a d) ≡ formed the-list n
@@ -248,8 +248,8 @@ module _ (w : Looked) where
             let h : has_tail w.words d ≡ true = sym (splits_is w.words a d) ∙ f in
             let k : length all-elements - 2 ≡ suc (cut w.words d) = (let l = length-are (a ∷ elements d) in let m = cut_length w.words d h in omega (arith, l, m)) in
             subst (λ i. Tells (pair_formed ellipsis_stays w.words n a d) (flat w the-list (take i all-elements) (record { ends = false; made = flat w (rest_at i the-list) (drop i all-elements) the-tail }) n is)) (sym k)
-            (subst (λ (xs : List Element). Tells (pair_formed ellipsis_stays w.words n a d) (flat w the-list (element w a ∷ xs) (record { ends = false; made = flat w (rest_at (cut w.words d) d) (drop (cut w.words d) (map (element w) (elements d))) the-tail }) n is)) (sym (take-are (cut w.words d) (elements d)))
-            (subst (λ (xs : List Element). Tells (pair_formed ellipsis_stays w.words n a d) (flat w the-list (map (element w) (a ∷ take (cut w.words d) (elements d))) (record { ends = false; made = flat w (rest_at (cut w.words d) d) xs the-tail }) n is)) (sym (drop-are (cut w.words d) (elements d)))
+            (subst (λ (xs : List ElementInserts). Tells (pair_formed ellipsis_stays w.words n a d) (flat w the-list (element w a ∷ xs) (record { ends = false; made = flat w (rest_at (cut w.words d) d) (drop (cut w.words d) (map (element w) (elements d))) the-tail }) n is)) (sym (take-are (cut w.words d) (elements d)))
+            (subst (λ (xs : List ElementInserts). Tells (pair_formed ellipsis_stays w.words n a d) (flat w the-list (map (element w) (a ∷ take (cut w.words d) (elements d))) (record { ends = false; made = flat w (rest_at (cut w.words d) d) xs the-tail }) n is)) (sym (drop-are (cut w.words d) (elements d)))
             (split-told s a d h all the-tail refl n (last n) is)))
 
   -- Vectors.
@@ -267,10 +267,10 @@ module _ (w : Looked) where
     told (atom s a) n is = refl
     told (leaf s x c) n is = refl
     told (pair s a d) n is =
-        subst (λ (xs : List Element). Tells (formed (pair s a d) n) (list_made w (pair s a d) ((a, syntax_at w a) ∷ xs) (record { ends = is_nil (tail_of d); made = tail_made w d }) n is)) (sym (elements_are w d))
+        subst (λ (xs : List ElementInserts). Tells (formed (pair s a d) n) (list_made w (pair s a d) ((a, syntax_at w a) ∷ xs) (record { ends = is_nil (tail_of d); made = tail_made w d }) n is)) (sym (elements_are w d))
         (subst (λ (go : ℕ → Inserts QuasiPart). Tells (formed (pair s a d) n) (list_made w (pair s a d) (map (element w) (a ∷ elements d)) (record { ends = is_nil (tail_of d); made = go }) n is)) (sym (tail_is w d))
         (pair-told s a d (told a, all-told d) (tail-told-of d) n is))
-    told (vector s d) n is = subst (λ (xs : List Element). Tells (items_are_formed ellipsis_stays w.words d n) (vector_made w (vector s d) xs n is)) (sym (elements_are w d)) (vector-told s d (all-told d) n is)
+    told (vector s d) n is = subst (λ (xs : List ElementInserts). Tells (items_are_formed ellipsis_stays w.words d n) (vector_made w (vector s d) xs n is)) (sym (elements_are w d)) (vector-told s d (all-told d) n is)
 
     all-told : (t : Tree) → AllTold (elements t)
     all-told (atom s a) = tt
@@ -282,7 +282,7 @@ module _ (w : Looked) where
     tail-told-of (atom s a) n is = refl
     tail-told-of (leaf s x c) n is = refl
     tail-told-of (pair s a d) n is = tail-told-of d n is
-    tail-told-of (vector s d) n is = subst (λ (xs : List Element). Tells (items_are_formed ellipsis_stays w.words d n) (vector_made w (vector s d) xs n is)) (sym (elements_are w d)) (vector-told s d (all-told d) n is)
+    tail-told-of (vector s d) n is = subst (λ (xs : List ElementInserts). Tells (items_are_formed ellipsis_stays w.words d n) (vector_made w (vector s d) xs n is)) (sym (elements_are w d)) (vector-told s d (all-told d) n is)
 
 pub syntaxes-are-decided : SyntaxesAreDecided
 syntaxes-are-decided w t form place = by (syntax_at w t 0 []) (told w t 0 [])

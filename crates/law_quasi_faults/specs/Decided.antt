@@ -5,7 +5,7 @@ use Rattle.base_data.specs.declared.fault.FaultKind.TheVariants as kind
 use Rattle.base_data.specs.declared.span.Span.{Span}
 use Rattle.stx_tree.specs.Tree.{Tree}
 use Rattle.core_shapes.specs.At.{fault_at}
-use Rattle.core_quasi.specs.Words.{Words}
+use Rattle.core_quasi.specs.Words.{WordOf}
 use Rattle.core_quasi.specs.Quasi.{quasi}
 use Rattle.core_quasi.specs.QuasiSyntax.{Looked, quasi_syntax}
 use Rattle.law_quasi_faults.specs.Formed.{none_stays, ellipsis_stays, is_formed}
@@ -16,7 +16,7 @@ QuoteIs formed bad (Ok q) = formed ≡ true
 QuoteIs formed bad (Err f) = (formed ≡ false) × (f ≡ bad)
 
 abbrev pub QuotesAreDecided : Type 0
-QuotesAreDecided = (w : Words) (t form : Tree) (place : Span)
+QuotesAreDecided = (w : WordOf) (t form : Tree) (place : Span)
     → QuoteIs (is_formed none_stays w t 0) (fault_at kind.BadForm form place []) (quasi w t form place)
 
 -- A `quasisyntax` form may besides pass a limit of trees, where expressions are taken out of it.

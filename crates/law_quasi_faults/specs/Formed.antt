@@ -2,7 +2,7 @@
 use Rattle.std.specs.Prelude.{ℕ, zero, Bool, true, false, ◌&&◌, ◌||◌, is_some, if◌then◌else◌}
 use Rattle.stx_tree.specs.Tree.{Tree, atom, leaf, pair, vector}
 use Rattle.core_shapes.specs.Lists.{is_nil, tail_of}
-use Rattle.core_quasi.specs.Words.{Words}
+use Rattle.core_quasi.specs.Words.{WordOf}
 use Rattle.core_quasi.specs.declared.word.QuasiWord.{QuasiWord}
 use Rattle.core_quasi.specs.declared.word.QuasiWord.TheVariants as word
 use Rattle.law_quasi.specs.Filled.{AtLevels, level_behind, only, is_tail}
@@ -23,7 +23,7 @@ stands_for_operands word.Raise ends = false
 stands_for_operands word.Escape ends = false
 stands_for_operands word.Plain ends = false
 
-module _ (w : Words) where
+module _ (w : WordOf) where
   -- An element of a list or vector, which is itself well formed or not: at level 0 `(unquote e ...)` and `(unquote-splicing e ...)` stand for
   -- their operands, however many.
   abbrev pub element_formed : ℕ → Tree → Bool → Bool
@@ -39,7 +39,7 @@ module _ (w : Words) where
 
 abbrev mutual
   -- a template at a level
-  pub is_formed : (QuasiWord → Bool) → Words → Tree → ℕ → Bool
+  pub is_formed : (QuasiWord → Bool) → WordOf → Tree → ℕ → Bool
   is_formed stays w (atom s a) n = true
   is_formed stays w (leaf s x c) n = true
   is_formed stays w (pair s a d) n =
@@ -47,7 +47,7 @@ abbrev mutual
   is_formed stays w (vector s d) n = items_are_formed stays w d n
 
   -- the rest of a list at the first of these levels, whose elements are at the second: `(1 . (unquote x))` is read as `(1 unquote x)`
-  pub rest_is_formed : (QuasiWord → Bool) → Words → Tree → ℕ → ℕ → Bool
+  pub rest_is_formed : (QuasiWord → Bool) → WordOf → Tree → ℕ → ℕ → Bool
   rest_is_formed stays w (atom s a) n m = true
   rest_is_formed stays w (leaf s x c) n m = true
   rest_is_formed stays w (pair s a d) n m =
@@ -56,7 +56,7 @@ abbrev mutual
   rest_is_formed stays w (vector s d) n m = items_are_formed stays w d n
 
   -- the elements of a vector
-  pub items_are_formed : (QuasiWord → Bool) → Words → Tree → ℕ → Bool
+  pub items_are_formed : (QuasiWord → Bool) → WordOf → Tree → ℕ → Bool
   items_are_formed stays w (atom s a) n = true
   items_are_formed stays w (leaf s x c) n = true
   items_are_formed stays w (pair s a d) n = element_formed w n a (is_formed stays w a n) && items_are_formed stays w d n

@@ -8,7 +8,7 @@ use Rattle.stx_tree.specs.Measures.{height, size, max_height, max_size, Fits, wi
 use Rattle.stx_tree.specs.Tree.{Tree, nil, chain, vector_of}
 use Rattle.stx_tree.proofs.MeasureLaws.{pair_fits, within-fits, within-past}
 use Rattle.core_shapes.specs.Written.{list}
-use Rattle.core_records.specs.Definitions.{Row, field_entry, field_entries, or_no_fields, fields_part, parent_type, uid_part, or_false, type_operator, type_value, parent_constructor, protocol_part, constructor_operator, constructor_value, keyword_clause, keyword_body, keyword_value, keyword_definition, definition_by, constructor_definition, predicate_definition, accessor_operator, accessor_value, accessor_definition, mutator_operator, mutator_value, mutator_definition, mutability, with_mutator, with_field, with_fields, first_definitions, definitions}
+use Rattle.core_records.specs.Definitions.{FormRow, field_entry, field_entries, or_no_fields, fields_part, parent_type, uid_part, or_false, type_operator, type_value, parent_constructor, protocol_part, constructor_operator, constructor_value, keyword_clause, keyword_body, keyword_value, keyword_definition, definition_by, constructor_definition, predicate_definition, accessor_operator, accessor_value, accessor_definition, mutator_operator, mutator_value, mutator_definition, mutability, with_mutator, with_field, with_fields, first_definitions, definitions}
 use Rattle.core_records.specs.Introduced.{Made, list_of_two, list_made, vector_made, plain}
 use Rattle.core_records.specs.Introduced as introduced
 use Rattle.core_records.specs.declared.clause.Clauses.{Clauses}
@@ -62,7 +62,7 @@ then-within m t f (inl e) g = ap (λ (x : Made). x >>= (λ u. within (f u))) e �
     by (inr h) = ap (λ (x : Made). x >>= (λ u. within (f u))) (within-past t h) ∙ sym (within-past (f t) (λ k. h (g k)))
 
 -- a tree of which a row is made, and what the row is made into
-then-on : (m : Made) (t : Tree) (f : Tree → Row) (go : List Tree → Made) (whole : Tree → Tree) → Yields m t → ((u : Tree) → (f u >>= go) ≡ within (whole u)) → (Fits (whole t) → Fits t) → ((m >>= f) >>= go) ≡ within (whole t)
+then-on : (m : Made) (t : Tree) (f : Tree → FormRow) (go : List Tree → Made) (whole : Tree → Tree) → Yields m t → ((u : Tree) → (f u >>= go) ≡ within (whole u)) → (Fits (whole t) → Fits t) → ((m >>= f) >>= go) ≡ within (whole t)
 then-on m t f go whole y h g = then-then m f go ∙ then-same m (λ u. f u >>= go) (λ u. within (whole u)) h ∙ then-within m t whole y g
 
 -- The record type.

@@ -24,7 +24,7 @@ use Rattle.core_shapes.specs.Lists.{is_nil, is_nil_atom, tail_of}
 use Rattle.expand_standing.specs.Patterns.{has_variables, first_outside, outside_fault, template_in}
 use Rattle.expand_standing.specs.Patterns as patterns
 use Rattle.expand_standing.specs.State.{State}
-use Rattle.eval_template.specs.Compile.{TemplateScope, variable_made, bound_made, label_made, is_special, leaf_made, TemplateElement, dots, dots_behind, reach, with_ellipses, fitted, item_made, Walked, step, walked, constant_of, template_of, items_of, is_fixed, is_changed, any_changed, tree_before, trees, rebuilt, placed, all_fixed, fixed_list, list_joined, fixed_vector, vector_joined, escape_of, unescaped, list_parts, list_made, vector_made, template, elements_made, tail_made, compiled}
+use Rattle.eval_template.specs.Compile.{TemplateScope, variable_made, bound_made, label_made, is_special, leaf_made, TemplateElement, dots, dots_behind, reach, with_ellipses, fitted, item_made, WalkedItems, step, walked, constant_of, template_of, items_of, is_fixed, is_changed, any_changed, tree_before, trees, rebuilt, placed, all_fixed, fixed_list, list_joined, fixed_vector, vector_joined, escape_of, unescaped, list_parts, list_made, vector_made, template, elements_made, tail_made, compiled}
 use Rattle.law_expand.proofs.Acts.{Gave, gave-if}
 use Rattle.law_expand.proofs.Templated.{list-template, vector-template}
 use Rattle.law_fresh.proofs.Trees.{OkHolds}
@@ -502,10 +502,10 @@ module _ (s : State) (place : Span) (level : ℕ) (root : Tree) where
 
   -- an element is taken with the ellipses behind it
   step-names : (refs : List Reference) (escaped : Bool) (under : ℕ) (x : TemplateElement) (xs : List TemplateElement) (is : List MadeItem) → IsElement x → AllNames refs is
-      → OkHolds (λ (w : Walked). AllNames (refs ++ refs_in escaped x.0) w.1 × Skips escaped w.0 xs) (step c escaped under zero x (dots_behind s.frames escaped xs) is)
+      → OkHolds (λ (w : WalkedItems). AllNames (refs ++ refs_in escaped x.0) w.1 × Skips escaped w.0 xs) (step c escaped under zero x (dots_behind s.frames escaped xs) is)
   step-names refs escaped under x xs is one h =
       let es = dots_behind s.frames escaped xs in
-      good-then (ItemNames (refs_in escaped x.0)) (λ (w : Walked). AllNames (refs ++ refs_in escaped x.0) w.1 × Skips escaped w.0 xs) (item_made c escaped under x es) (λ i. Ok (length es, is ++ i ∷ [])) (item-names escaped under x es one)
+      good-then (ItemNames (refs_in escaped x.0)) (λ (w : WalkedItems). AllNames (refs ++ refs_in escaped x.0) w.1 × Skips escaped w.0 xs) (item_made c escaped under x es) (λ i. Ok (length es, is ++ i ∷ [])) (item-names escaped under x es one)
       (λ i k. (more-names refs (refs_in escaped x.0) is i h k, behind-skip escaped xs))
 
   walked-names : (refs : List Reference) (escaped : Bool) (under skips : ℕ) (is : List MadeItem) (xs : List TemplateElement) → Each IsElement xs → Skips escaped skips xs → AllNames refs is → OkHolds (AllNames (refs ++ all_refs escaped xs)) (walked c escaped under skips is xs)
@@ -513,7 +513,7 @@ module _ (s : State) (place : Span) (level : ℕ) (root : Tree) where
   walked-names refs escaped under (suc skips) is (x ∷ xs) all k h =
       subst (λ (rs : List Reference). OkHolds (AllNames (refs ++ (rs ++ all_refs escaped xs))) (walked c escaped under skips is xs)) (sym k.0) (walked-names refs escaped under skips is xs all.1 k.1 h)
   walked-names refs escaped under zero is (x ∷ xs) all k h =
-      good-then (λ (w : Walked). AllNames (refs ++ refs_in escaped x.0) w.1 × Skips escaped w.0 xs) (AllNames (refs ++ (refs_in escaped x.0 ++ all_refs escaped xs))) (step c escaped under zero x (dots_behind s.frames escaped xs) is) (λ w. walked c escaped under w.0 w.1 xs)
+      good-then (λ (w : WalkedItems). AllNames (refs ++ refs_in escaped x.0) w.1 × Skips escaped w.0 xs) (AllNames (refs ++ (refs_in escaped x.0 ++ all_refs escaped xs))) (step c escaped under zero x (dots_behind s.frames escaped xs) is) (λ w. walked c escaped under w.0 w.1 xs)
       (step-names refs escaped under x xs is all.0 h)
       (λ w j. subst (λ (rs : List Reference). OkHolds (AllNames rs) (walked c escaped under w.0 w.1 xs)) (append_assoc refs (refs_in escaped x.0) (all_refs escaped xs)) (walked-names (refs ++ refs_in escaped x.0) escaped under w.0 w.1 xs all.1 j.1 j.0))
 

@@ -17,7 +17,7 @@ use Rattle.eval_pattern.specs.Matched.{matched, nothing, limit, one_more}
 use Rattle.eval_pattern.specs.Matched as matching
 use Rattle.eval_pattern.specs.declared.columns.Column.{Column}
 use Rattle.eval_pattern.specs.declared.columns.PatternBinds.{PatternBinds}
-use Rattle.law_matches.specs.Matches.{Bindings, pair_of, stacked}
+use Rattle.law_matches.specs.Matches.{MatchBinds, pair_of, stacked}
 use Rattle.law_matches.specs.Matches as m
 use Rattle.law_matches.proofs.Sound.{rightly}
 use Rattle.law_templates.specs.Repeating.{variables}
@@ -113,16 +113,16 @@ count-is (dots p ps) = count-is ps
 
 -- Columns.
 
-abbrev with-rows : List Column → List Bindings → Bindings
+abbrev with-rows : List Column → List MatchBinds → MatchBinds
 with-rows [] rows = []
 with-rows (c ∷ cols) rows = (c.label, many (turns (c.binds ++ flat_map first_bind rows))) ∷ with-rows cols (map (drop 1) rows)
 
-zipped-labels : (cols : List Column) (row : Bindings) → labels row ≡ column_labels cols → column_labels (zipped cols row) ≡ column_labels cols
+zipped-labels : (cols : List Column) (row : MatchBinds) → labels row ≡ column_labels cols → column_labels (zipped cols row) ≡ column_labels cols
 zipped-labels [] row h = refl
 zipped-labels (c ∷ cols) [] h = absurd (none_some c.label (column_labels cols) h)
 zipped-labels (c ∷ cols) (b ∷ row) h = ap (λ ls. c.label ∷ ls) (zipped-labels cols row (tails_same b.0 c.label (labels row) (column_labels cols) h))
 
-zipped-rows : (cols : List Column) (row : Bindings) (rows : List Bindings) → labels row ≡ column_labels cols → with-rows (zipped cols row) rows ≡ with-rows cols (row ∷ rows)
+zipped-rows : (cols : List Column) (row : MatchBinds) (rows : List MatchBinds) → labels row ≡ column_labels cols → with-rows (zipped cols row) rows ≡ with-rows cols (row ∷ rows)
 zipped-rows [] row rows h = refl
 zipped-rows (c ∷ cols) [] rows h = absurd (none_some c.label (column_labels cols) h)
 zipped-rows (c ∷ cols) (b ∷ row) rows h =
@@ -132,7 +132,7 @@ closed-rows : (cols : List Column) → closed cols ≡ with-rows cols []
 closed-rows [] = refl
 closed-rows (c ∷ cols) = λ i. (c.label, many (turns (sym (append-nil c.binds) i))) ∷ closed-rows cols i
 
-stacked-rows : (cols : List Column) (rows : List Bindings) → RowsFit (column_labels cols) rows → closed (stacked cols rows) ≡ with-rows cols rows
+stacked-rows : (cols : List Column) (rows : List MatchBinds) → RowsFit (column_labels cols) rows → closed (stacked cols rows) ≡ with-rows cols rows
 stacked-rows cols [] h = closed-rows cols
 stacked-rows cols (row ∷ rows) h =
     ap (λ cs. closed (stacked cs rows)) (grown-zipped [] cols row)
@@ -143,11 +143,11 @@ no-length : (xs : List PlainBind) → length xs ≡ 0 → xs ≡ []
 no-length [] h = refl
 no-length (x ∷ xs) h = absurd (cc)
 
-empty-rows : (cols : List Column) (rows : List Bindings) → AllLong 0 cols → with-rows cols rows ≡ gathered (column_labels cols) rows
+empty-rows : (cols : List Column) (rows : List MatchBinds) → AllLong 0 cols → with-rows cols rows ≡ gathered (column_labels cols) rows
 empty-rows [] rows h = refl
 empty-rows (c ∷ cols) rows h = λ i. (c.label, many (turns (no-length c.binds h.0 i ++ flat_map first_bind rows))) ∷ empty-rows cols (map (drop 1) rows) h.1 i
 
-gathered-is : (p : PlainPattern) (rows : List Bindings) → RowsFit (variables p) rows → closed (stacked (empty_columns p []) rows) ≡ gathered (variables p) rows
+gathered-is : (p : PlainPattern) (rows : List MatchBinds) → RowsFit (variables p) rows → closed (stacked (empty_columns p []) rows) ≡ gathered (variables p) rows
 gathered-is p rows h =
     stacked-rows (empty_columns p []) rows (subst (λ ls. RowsFit ls rows) (sym (labels_none p)) h)
     ∙ empty-rows (empty_columns p []) rows (long_none p)
@@ -157,7 +157,7 @@ gathered-is p rows h =
 
 module _ (fs : Scope) (cells : List Cell) where
   mutual
-    matches : {p : PlainPattern} {v : Value} {bs : Bindings} {n : ℕ} → m.Matches fs cells p v bs n → MatchesPattern fs cells p v bs n
+    matches : {p : PlainPattern} {v : Value} {bs : MatchBinds} {n : ℕ} → m.Matches fs cells p v bs n → MatchesPattern fs cells p v bs n
     matches m.takes_any = r.anything
     matches m.takes_variable = r.is_bound
     matches (m.takes_literal {t = t} {v = v} e) = r.same_literal (refers-as fs t v e)
@@ -165,18 +165,18 @@ module _ (fs : Scope) (cells : List Cell) where
     matches (m.takes_list {ps = ps} {r = x} b e f k) = r.fills_list (begins cells b) (a-last cells ps x e) (fills f) (matches k)
     matches (m.takes_vector {v = v} {xs = xs} e f) = r.fills_vector (a-vector cells xs v e) (fills f)
 
-    fills : {ps : PlainPatterns} {xs : List Value} {bs : Bindings} {n : ℕ} → m.Fills fs cells ps xs bs n → FillsElements fs cells ps xs bs n
+    fills : {ps : PlainPatterns} {xs : List Value} {bs : MatchBinds} {n : ℕ} → m.Fills fs cells ps xs bs n → FillsElements fs cells ps xs bs n
     fills m.no_more = r.no_more
     fills (m.one_more k f) = r.one_more (matches k) (fills f)
     fills (m.all_but {p = p} {ps = ps} {xs = xs} {ys = ys} {rows = rows} {cs = cs} {m = i} {n = n} k long f) =
         subst (λ bs. FillsElements fs cells (dots p ps) (xs ++ ys) (bs ++ cs) (i + n)) (sym (gathered-is p rows (rows_fit k))) (r.repeated (repeats k) (long ∙ sym (count-is ps)) (fills f))
 
-    repeats : {p : PlainPattern} {xs : List Value} {rows : List Bindings} {n : ℕ} → m.Repeats fs cells p xs rows n → RepeatsPattern fs cells p xs rows n
+    repeats : {p : PlainPattern} {xs : List Value} {rows : List MatchBinds} {n : ℕ} → m.Repeats fs cells p xs rows n → RepeatsPattern fs cells p xs rows n
     repeats m.no_rows = r.no_rows
     repeats (m.one_row k f) = r.one_row (matches k) (repeats f)
 
   mutual
-    matched-so : {p : PlainPattern} {v : Value} {bs : Bindings} {n : ℕ} → MatchesPattern fs cells p v bs n → m.Matches fs cells p v bs n
+    matched-so : {p : PlainPattern} {v : Value} {bs : MatchBinds} {n : ℕ} → MatchesPattern fs cells p v bs n → m.Matches fs cells p v bs n
     matched-so r.anything = m.takes_any
     matched-so r.is_bound = m.takes_variable
     matched-so (r.same_literal {t = t} {v = v} e) = m.takes_literal (is-alike fs t v e)
@@ -184,14 +184,14 @@ module _ (fs : Scope) (cells : List Cell) where
     matched-so (r.fills_list {ps = ps} {r = x} b e f k) = m.takes_list (begun cells b) (last-is cells ps x e) (filled-so f) (matched-so k)
     matched-so (r.fills_vector {v = v} {xs = xs} e f) = m.takes_vector (vector-is cells xs v e) (filled-so f)
 
-    filled-so : {ps : PlainPatterns} {xs : List Value} {bs : Bindings} {n : ℕ} → FillsElements fs cells ps xs bs n → m.Fills fs cells ps xs bs n
+    filled-so : {ps : PlainPatterns} {xs : List Value} {bs : MatchBinds} {n : ℕ} → FillsElements fs cells ps xs bs n → m.Fills fs cells ps xs bs n
     filled-so r.no_more = m.no_more
     filled-so (r.one_more k f) = m.one_more (matched-so k) (filled-so f)
     filled-so (r.repeated {p = p} {ps = ps} {xs = xs} {ys = ys} {rows = rows} {cs = cs} {m = i} {n = n} k long f) =
         let old = repeated-so k in
         subst (λ bs. m.Fills fs cells (dots p ps) (xs ++ ys) (bs ++ cs) (i + n)) (gathered-is p rows (rows_fit old)) (m.all_but old (long ∙ count-is ps) (filled-so f))
 
-    repeated-so : {p : PlainPattern} {xs : List Value} {rows : List Bindings} {n : ℕ} → RepeatsPattern fs cells p xs rows n → m.Repeats fs cells p xs rows n
+    repeated-so : {p : PlainPattern} {xs : List Value} {rows : List MatchBinds} {n : ℕ} → RepeatsPattern fs cells p xs rows n → m.Repeats fs cells p xs rows n
     repeated-so r.no_rows = m.no_rows
     repeated-so (r.one_row k f) = m.one_row (matched-so k) (repeated-so f)
 

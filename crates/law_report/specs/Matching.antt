@@ -61,22 +61,22 @@ count none = 0
 count (more p ps) = suc (count ps)
 count (dots p ps) = count ps
 
-abbrev pub Bindings : Type 0
-Bindings = List (Label × PlainBind)
+abbrev pub MatchBinds : Type 0
+MatchBinds = List (Label × PlainBind)
 
-abbrev pub first_bind : Bindings → List PlainBind
+abbrev pub first_bind : MatchBinds → List PlainBind
 first_bind [] = []
 first_bind (b ∷ bs) = b.1 ∷ []
 
 -- each variable with what it is bound to in each of the rows, the first variable with the first binds
-abbrev pub gathered : List Label → List Bindings → Bindings
+abbrev pub gathered : List Label → List MatchBinds → MatchBinds
 gathered [] rows = []
 gathered (l ∷ ls) rows = (l, many (turns (flat_map first_bind rows))) ∷ gathered ls (map (drop 1) rows)
 
 module _ (fs : Scope) (cells : List Cell) where
   -- A pattern matches a value with these binds; its ellipses take so many elements.
   mutual
-    pub data MatchesPattern : PlainPattern → Value → Bindings → ℕ → Type 0 where
+    pub data MatchesPattern : PlainPattern → Value → MatchBinds → ℕ → Type 0 where
       -- `_` matches anything
       anything : {v : Value} → MatchesPattern any v [] 0
       -- a pattern variable matches anything, and is bound to it
@@ -86,29 +86,29 @@ module _ (fs : Scope) (cells : List Cell) where
       -- a datum matches the same datum
       same_atom : {a : Atom} {v : Value} → IsAtom cells a v → MatchesPattern (pattern.atom a) v [] 0
       -- `(pattern ... . pattern)`, with an ellipsis or without
-      fills_list : {ps : PlainPatterns} {t : PlainPattern} {v r : Value} {xs : List Value} {bs cs : Bindings} {m n : ℕ}
+      fills_list : {ps : PlainPatterns} {t : PlainPattern} {v r : Value} {xs : List Value} {bs cs : MatchBinds} {m n : ℕ}
           → Begins cells xs r v → IsLast cells ps r → FillsElements ps xs bs m → MatchesPattern t r cs n
           → MatchesPattern (list ps t) v (bs ++ cs) (m + n)
       -- `#(pattern ...)`
-      fills_vector : {ps : PlainPatterns} {v : Value} {xs : List Value} {bs : Bindings} {n : ℕ} → IsVectorValue cells xs v
+      fills_vector : {ps : PlainPatterns} {v : Value} {xs : List Value} {bs : MatchBinds} {n : ℕ} → IsVectorValue cells xs v
           → FillsElements ps xs bs n → MatchesPattern (pattern.vector ps) v bs n
 
     -- elements by patterns: the last ones by those behind an ellipsis, one each, and all between by the repeated one
-    pub data FillsElements : PlainPatterns → List Value → Bindings → ℕ → Type 0 where
+    pub data FillsElements : PlainPatterns → List Value → MatchBinds → ℕ → Type 0 where
       no_more : FillsElements none [] [] 0
-      one_more : {p : PlainPattern} {ps : PlainPatterns} {x : Value} {xs : List Value} {bs cs : Bindings} {m n : ℕ}
+      one_more : {p : PlainPattern} {ps : PlainPatterns} {x : Value} {xs : List Value} {bs cs : MatchBinds} {m n : ℕ}
           → MatchesPattern p x bs m → FillsElements ps xs cs n → FillsElements (more p ps) (x ∷ xs) (bs ++ cs) (m + n)
-      repeated : {p : PlainPattern} {ps : PlainPatterns} {xs ys : List Value} {rows : List Bindings} {cs : Bindings} {m n : ℕ}
+      repeated : {p : PlainPattern} {ps : PlainPatterns} {xs ys : List Value} {rows : List MatchBinds} {cs : MatchBinds} {m n : ℕ}
           → RepeatsPattern p xs rows m → length ys ≡ count ps → FillsElements ps ys cs n
           → FillsElements (dots p ps) (xs ++ ys) (gathered (variables p) rows ++ cs) (m + n)
 
     -- each element by one pattern, with a row of binds for each
-    pub data RepeatsPattern : PlainPattern → List Value → List Bindings → ℕ → Type 0 where
+    pub data RepeatsPattern : PlainPattern → List Value → List MatchBinds → ℕ → Type 0 where
       no_rows : {p : PlainPattern} → RepeatsPattern p [] [] 0
-      one_row : {p : PlainPattern} {x : Value} {xs : List Value} {row : Bindings} {rows : List Bindings} {m n : ℕ}
+      one_row : {p : PlainPattern} {x : Value} {xs : List Value} {row : MatchBinds} {rows : List MatchBinds} {m n : ℕ}
           → MatchesPattern p x row m → RepeatsPattern p xs rows n → RepeatsPattern p (x ∷ xs) (row ∷ rows) (suc (m + n))
 
 -- the binds are those of the relation, and without any there are none
 abbrev pub IsRight : Scope → List Cell → PlainPattern → Value → Option PatternBinds → Type 0
 IsRight fs cells p v (Some f) = MatchesPattern fs cells p v f.binds f.taken
-IsRight fs cells p v None = (bs : Bindings) (n : ℕ) → MatchesPattern fs cells p v bs n → ⊥
+IsRight fs cells p v None = (bs : MatchBinds) (n : ℕ) → MatchesPattern fs cells p v bs n → ⊥

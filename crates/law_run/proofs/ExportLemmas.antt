@@ -11,7 +11,7 @@ use Rattle.base_data.specs.declared.name.Label.{Label}
 use Rattle.base_data.specs.declared.span.Span.{Span}
 use Rattle.law_core.proofs.Decisions.{text_decides}
 use Rattle.law_expand.proofs.Fresh.{once-append}
-use Rattle.load_forms.specs.Export.{Exports, export_twice, add_by, add_export, exported}
+use Rattle.load_forms.specs.Export.{ExportList, export_twice, add_by, add_export, exported}
 use Rattle.load_forms.specs.Form.{form_of, not_library, or_fault, import_specs, export_specs, library_with, library_of, library_parts, library_in, read_library, program_of, read_program}
 use Rattle.load_forms.specs.Name.{named}
 use Rattle.load_forms.specs.Set.{datum_place}
@@ -91,31 +91,31 @@ once_more rows name v once none =
 abbrev pub ExportsOnce : LibraryForm → Type 0
 ExportsOnce form = Once (names_in form.exports)
 
-one_more : (names more : Exports) (e : Export) → Once (names_in names) → add_export names e ≡ Ok more → Once (names_in more)
+one_more : (names more : ExportList) (e : Export) → Once (names_in names) → add_export names e ≡ Ok more → Once (names_in more)
 one_more names more e once h = by (value_of e.external.name names) refl h
   where
-    again : (b : Bool) → ◌≡◌ {A = Result Exports Fault} (if b then Ok names else Err (export_twice e.external)) (Ok more) → Once (names_in more)
-    again true k = let same : names ≡ more = cc in subst (λ (es : Exports). Once (names_in es)) same once
+    again : (b : Bool) → ◌≡◌ {A = Result ExportList Fault} (if b then Ok names else Err (export_twice e.external)) (Ok more) → Once (names_in more)
+    again true k = let same : names ≡ more = cc in subst (λ (es : ExportList). Once (names_in es)) same once
     again false k = absurd (cc)
 
     by : (o : Option NameAt) → value_of e.external.name names ≡ o → add_by names e o ≡ Ok more → Once (names_in more)
     by None none k =
         let same : names ++ (e.external.name, e.internal) ∷ [] ≡ more = cc in
-        subst (λ (es : Exports). Once (names_in es)) same (once_more names e.external.name e.internal once none)
+        subst (λ (es : ExportList). Once (names_in es)) same (once_more names e.external.name e.internal once none)
     by (Some internal) there k = again (same_text internal.name e.internal.name) k
 
 each_any : (es : List Export) → Each (λ e. Unit {0}) es
 each_any [] = tt
 each_any (e ∷ es) = (tt, each_any es)
 
-exported_once : (es : List Export) (names : Exports) → exported es ≡ Ok names → Once (names_in names)
-exported_once es names h = turns_keep add_export (λ (xs : Exports). Once (names_in xs)) (λ e. Unit {0}) (λ xs ys e o q k. one_more xs ys e o k) es [] names (each_any es) tt h
+exported_once : (es : List Export) (names : ExportList) → exported es ≡ Ok names → Once (names_in names)
+exported_once es names h = turns_keep add_export (λ (xs : ExportList). Once (names_in xs)) (λ e. Unit {0}) (λ xs ys e o q k. one_more xs ys e o k) es [] names (each_any es) tt h
 
 module _ (file : List ℕ) (f : LibraryForm) where
   form_once : (place : Span) (exports imports : List PlainDatum) (n : VersionedName) → library_of file place exports imports n ≡ Ok f → ExportsOnce f
   form_once place exports imports n h = by_exports (export_specs file [] exports) h
     where
-      by_names : (es : List Export) (is : List Import) (x : Result Exports Fault) → exported es ≡ x → (x >>= (λ names. Ok (library_with n place is names))) ≡ Ok f → ExportsOnce f
+      by_names : (es : List Export) (is : List Import) (x : Result ExportList Fault) → exported es ≡ x → (x >>= (λ names. Ok (library_with n place is names))) ≡ Ok f → ExportsOnce f
       by_names es is (Ok names) e h = let same : library_with n place is names ≡ f = cc in subst ExportsOnce same (exported_once es names e)
       by_names es is (Err g) e h = absurd (cc)
 

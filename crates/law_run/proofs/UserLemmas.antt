@@ -12,7 +12,7 @@ use Rattle.base_data.specs.declared.library.LibName.TheVariants as library
 use Rattle.base_data.specs.declared.span.Span.{Span}
 use Rattle.load_file_names.specs.File.{file_of}
 use Rattle.load_forms.specs.All.{given}
-use Rattle.load_forms.specs.Export.{Exports, exported}
+use Rattle.load_forms.specs.Export.{ExportList, exported}
 use Rattle.load_forms.specs.Form.{form_of, not_library, or_fault, import_specs, export_specs, library_with, library_of, library_parts, library_in, read_library, program_of, read_program}
 use Rattle.load_forms.specs.Name.{leading, behind, version_in, named_by, named}
 use Rattle.load_forms.specs.Set.{datum_place}
@@ -74,7 +74,7 @@ module _ (file : List ℕ) (f : LibraryForm) where
   form_user : (place : Span) (exports imports : List PlainDatum) (n : VersionedName) → IsUser n.name → library_of file place exports imports n ≡ Ok f → IsUser f.name
   form_user place exports imports n user h = by_exports (export_specs file [] exports) h
     where
-      by_names : (is : List Import) (x : Result Exports Fault) → (x >>= (λ names. Ok (library_with n place is names))) ≡ Ok f → IsUser f.name
+      by_names : (is : List Import) (x : Result ExportList Fault) → (x >>= (λ names. Ok (library_with n place is names))) ≡ Ok f → IsUser f.name
       by_names is (Ok names) h = let same : library_with n place is names ≡ f = cc in subst (λ (x : LibraryForm). IsUser x.name) same user
       by_names is (Err e) h = absurd (cc)
 

@@ -12,7 +12,8 @@
 //! The promise: the text of a run is a core text by the cases of the checker's grammar, so the verdict on it is yes.
 //!
 //! The lines of a run are spelled by the grammar of core code (`spelled`), closed and bound once by name (`by_name`), and nest
-//! less deep than the checker reads (`nesting`). Here each of them is found to be a line of the checker's grammar: it is read back, the checker writes its datum as the printer did (`law_check`), and the symbols in its names are UTF-8
+//! less deep than the checker reads (`nesting`). Here each of them is found to be a line of the checker's grammar: it is read
+//! back, the checker writes its datum as the printer did (`law_check`), and the symbols in its names are UTF-8
 //! (`law_readable_expansion`).
 //!
 //! Here are no calls to make: the function stands for the law that it ensures.

@@ -9,7 +9,7 @@ use Rattle.stx_tree.specs.Measures.{height}
 use Rattle.stx_tree.specs.Tree.{nil}
 use Rattle.stx_frames.specs.Scope.{Scope}
 use Rattle.core_language.specs.Pattern.{PlainPattern, atom, list, none, more}
-use Rattle.eval_pattern.specs.Compile.{PatternScope, Taken, Walked, no_parts, with_part, parts_of, walked, pattern, tail_pattern, with_variables, compiled}
+use Rattle.eval_pattern.specs.Compile.{PatternScope, TakenVariables, WalkedPatterns, no_parts, with_part, parts_of, walked, pattern, tail_pattern, with_variables, compiled}
 use Rattle.eval_pattern.specs.declared.compile.Compiled.{Compiled}
 use Rattle.law_levels.specs.Levels.{pattern_levels}
 use Rattle.law_spellings.specs.Levels.{nest}
@@ -19,15 +19,15 @@ nested zero = atom Nil
 nested (suc n) = list (more (nested n) none) (atom Nil)
 
 -- the pattern of its element, and nothing else
-abbrev kept : PlainPattern → Taken → Result (Walked × Taken) Fault
+abbrev kept : PlainPattern → TakenVariables → Result (WalkedPatterns × TakenVariables) Fault
 kept p s = Ok ((false, with_part None no_parts p), s)
 
 -- a list of one element, by what comes of that
-abbrev around : PatternScope → ℕ → Result (PlainPattern × Taken) Fault → Result (PlainPattern × Taken) Fault
+abbrev around : PatternScope → ℕ → Result (PlainPattern × TakenVariables) Fault → Result (PlainPattern × TakenVariables) Fault
 around c depth r =
     after (after (after r kept) (λ w. walked c depth w.0 w.1 [])) (λ parts u. after (tail_pattern c nil depth u) (λ p v. Ok (list (parts_of parts) p, v)))
 
-comes : (c : PatternScope) (n depth : ℕ) (s : Taken) → pattern c (nest n) depth s ≡ Ok (nested n, s)
+comes : (c : PatternScope) (n depth : ℕ) (s : TakenVariables) → pattern c (nest n) depth s ≡ Ok (nested n, s)
 comes c zero depth s = refl
 comes c (suc n) depth s = ap (around c depth) (comes c n depth s)
 

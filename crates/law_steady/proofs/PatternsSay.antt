@@ -10,7 +10,7 @@ use Rattle.stx_frames.specs.Scope.{Scope}
 use Rattle.stx_scope.specs.Stands.{stands}
 use Rattle.core_language.specs.Pattern.{PlainPattern}
 use Rattle.core_language.specs.declared.core_form.CoreForm.TheVariants as form
-use Rattle.eval_pattern.specs.Compile.{PatternScope, Taken, may_be_literal, literals_checked, is_literal, is_known, new_variable, leaf_pattern, no_parts, with_repeated, Element, next_ellipsis, repeated_part, element, step, walked, vector_with, pattern, element_patterns, tail_pattern, with_variables, compiled}
+use Rattle.eval_pattern.specs.Compile.{PatternScope, TakenVariables, may_be_literal, literals_checked, is_literal, is_known, new_variable, leaf_pattern, no_parts, with_repeated, ElementPattern, next_ellipsis, repeated_part, element, step, walked, vector_with, pattern, element_patterns, tail_pattern, with_variables, compiled}
 use Rattle.eval_pattern.specs.Keywords.{is_form}
 use Rattle.law_steady.proofs.Says.{Says, says-if, says-then, says-after}
 
@@ -18,11 +18,11 @@ pub says-literals : (fs : Scope) (place : Span) (ts : List Tree) → Says (liter
 says-literals fs place [] = tt
 says-literals fs place (t ∷ ts) = says-if (may_be_literal fs t) _ _ (says-literals fs place ts) tt
 
-abbrev Quiet : Element → Type 0
-Quiet x = (depth : ℕ) (s : Taken) → Says (x.1 depth s)
+abbrev Quiet : ElementPattern → Type 0
+Quiet x = (depth : ℕ) (s : TakenVariables) → Says (x.1 depth s)
 
 module _ (c : PatternScope) where
-  says-leaf : (t : Tree) (depth : ℕ) (s : Taken) → Says (leaf_pattern c t depth s)
+  says-leaf : (t : Tree) (depth : ℕ) (s : TakenVariables) → Says (leaf_pattern c t depth s)
   says-leaf t depth s =
       says-if (is_form form.Ellipsis (stands c.frames t)) _ _ tt
       (says-if (is_form form.Underscore (stands c.frames t)) _ _ tt (says-if (is_literal c.literals t) _ (new_variable c.place t depth s) tt (says-if (is_known s.0 t) _ _ tt tt)))
@@ -31,25 +31,25 @@ module _ (c : PatternScope) where
   says-repeated e None parts p = tt
   says-repeated e (Some r) parts p = tt
 
-  says-element : (depth : ℕ) (x : Element) (o : Option Tree) (parts : _) (s : Taken) → Quiet x → Says (element c depth x o parts s)
+  says-element : (depth : ℕ) (x : ElementPattern) (o : Option Tree) (parts : _) (s : TakenVariables) → Quiet x → Says (element c depth x o parts s)
   says-element depth x None parts s h = says-after (x.1 depth s) _ (h depth s) (λ p u. tt)
   says-element depth x (Some e) parts s h =
       says-after (x.1 (depth + 1) s) (repeated_part c.place e parts) (h (depth + 1) s) (λ p u. says-then (with_repeated c.place e parts.repeated parts p) (λ more. Ok ((true, more), u)) (says-repeated e parts.repeated parts p) (λ more. tt))
 
-  says-step : (depth : ℕ) (skips : Bool) (x : Element) (o : Option Tree) (parts : _) (s : Taken) → Quiet x → Says (step c depth skips x o parts s)
+  says-step : (depth : ℕ) (skips : Bool) (x : ElementPattern) (o : Option Tree) (parts : _) (s : TakenVariables) → Quiet x → Says (step c depth skips x o parts s)
   says-step depth true x o parts s h = tt
   says-step depth false x o parts s h = says-element depth x o parts s h
 
-  says-walked : (depth : ℕ) (skips : Bool) (parts : _) (xs : List Element) (s : Taken) → Each Quiet xs → Says (walked c depth skips parts xs s)
+  says-walked : (depth : ℕ) (skips : Bool) (parts : _) (xs : List ElementPattern) (s : TakenVariables) → Each Quiet xs → Says (walked c depth skips parts xs s)
   says-walked depth skips parts [] s h = tt
   says-walked depth skips parts (x ∷ xs) s h =
       says-after (step c depth skips x (next_ellipsis c.frames xs) parts s) (λ w. walked c depth w.0 w.1 xs) (says-step depth skips x (next_ellipsis c.frames xs) parts s h.0) (λ w u. says-walked depth w.0 w.1 xs u h.1)
 
-  says-vector : (depth : ℕ) (xs : List Element) (s : Taken) → Each Quiet xs → Says (vector_with (walked c depth false no_parts xs) s)
+  says-vector : (depth : ℕ) (xs : List ElementPattern) (s : TakenVariables) → Each Quiet xs → Says (vector_with (walked c depth false no_parts xs) s)
   says-vector depth xs s h = says-after (walked c depth false no_parts xs s) _ (says-walked depth false no_parts xs s h) (λ parts u. tt)
 
   mutual
-    says-pattern : (t : Tree) (depth : ℕ) (s : Taken) → Says (pattern c t depth s)
+    says-pattern : (t : Tree) (depth : ℕ) (s : TakenVariables) → Says (pattern c t depth s)
     says-pattern (tree.atom p a) depth s = tt
     says-pattern (tree.leaf p x k) depth s = says-leaf (tree.leaf p x k) depth s
     says-pattern (tree.pair p a d) depth s =
@@ -63,13 +63,13 @@ module _ (c : PatternScope) where
     says-elements (tree.pair p a d) = (says-pattern a, says-elements d)
     says-elements (tree.vector p d) = tt
 
-    says-tail : (t : Tree) (depth : ℕ) (s : Taken) → Says (tail_pattern c t depth s)
+    says-tail : (t : Tree) (depth : ℕ) (s : TakenVariables) → Says (tail_pattern c t depth s)
     says-tail (tree.atom p a) depth s = tt
     says-tail (tree.leaf p x k) depth s = says-leaf (tree.leaf p x k) depth s
     says-tail (tree.pair p a d) depth s = says-tail d depth s
     says-tail (tree.vector p d) depth s = says-vector depth (element_patterns c d) s (says-elements d)
 
-  says-variables : (r : Result (PlainPattern × Taken) Fault) → Says r → Says (with_variables r)
+  says-variables : (r : Result (PlainPattern × TakenVariables) Fault) → Says r → Says (with_variables r)
   says-variables (Ok p) h = tt
   says-variables (Err f) h = h
 

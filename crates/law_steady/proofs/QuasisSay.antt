@@ -13,7 +13,7 @@ use Rattle.core_quasi.specs.Parts.{rest_at, splits, taken_at, first_word, operan
 use Rattle.core_quasi.specs.Quasi as quote
 use Rattle.core_quasi.specs.QuasiSyntax as syntaxes
 use Rattle.core_quasi.specs.QuasiSyntax.{Looked}
-use Rattle.core_quasi.specs.Words.{Words, inner, reach}
+use Rattle.core_quasi.specs.Words.{WordOf, inner, reach}
 use Rattle.core_quasi.specs.declared.parts.QuasiTaken.{QuasiTaken}
 use Rattle.core_quasi.specs.declared.parts.QuasiTaken.TheVariants as taken
 use Rattle.core_quasi.specs.declared.quasi.Pieces.{Pieces}
@@ -34,16 +34,16 @@ says-form form place (Err f) h = h
 
 -- `quasiquote`
 
-abbrev Quiet : quote.Element → Type 0
+abbrev Quiet : quote.ElementPlan → Type 0
 Quiet x = (n : ℕ) → Tells (x.1 n)
 
-module _ (w : Words) where
-  quote-step : (n : ℕ) (x : quote.Element) (p : Pieces) (k : QuasiTaken) → Quiet x → Tells (quote.step_by n x p k)
+module _ (w : WordOf) where
+  quote-step : (n : ℕ) (x : quote.ElementPlan) (p : Pieces) (k : QuasiTaken) → Quiet x → Tells (quote.step_by n x p k)
   quote-step n x p (taken.Each es) h = tt
   quote-step n x p (taken.Spliced es) h = tt
   quote-step n x p taken.Kept h = tells-then (x.1 n) (λ q. Ok (quote.with_item p q)) (h n) (λ q. tt)
 
-  quote-walked : (n : ℕ) (p : Pieces) (xs : List quote.Element) → Each Quiet xs → Tells (quote.walked w n p xs)
+  quote-walked : (n : ℕ) (p : Pieces) (xs : List quote.ElementPlan) → Each Quiet xs → Tells (quote.walked w n p xs)
   quote-walked n p [] h = tt
   quote-walked n p (x ∷ xs) h = tells-then (quote.step w n p x) (λ q. quote.walked w n q xs) (quote-step n x p (taken_at w n x.0) h.0) (λ q. quote-walked n q xs h.1)
 
@@ -60,20 +60,20 @@ module _ (w : Words) where
   quote-finished t tail n (begun.Whole e) h = tt
   quote-finished t tail n (begun.Parts p) h = tells-then (tail.made n) (λ q. Ok (quote.list_joined t p q)) (h n) (λ q. tt)
 
-  quote-flat : (t : Tree) (xs : List quote.Element) (tail : quote.Tail) (n : ℕ) → Each Quiet xs → ((m : ℕ) → Tells (tail.made m)) → Tells (quote.flat w t xs tail n)
+  quote-flat : (t : Tree) (xs : List quote.ElementPlan) (tail : quote.Tail) (n : ℕ) → Each Quiet xs → ((m : ℕ) → Tells (tail.made m)) → Tells (quote.flat w t xs tail n)
   quote-flat t xs tail n h k =
       tells-then (quote.begins w xs tail.ends n) (quote.finished t tail n)
       (quote-begun (operand_of tail.ends (quote.forms xs)) (quote.walked w (inner (first_word w (quote.forms xs)) n) quote.no_pieces xs) (reach (first_word w (quote.forms xs)) n) (quote-walked (inner (first_word w (quote.forms xs)) n) quote.no_pieces xs h))
       (λ b. quote-finished t tail n b k)
 
-  quote-list : (t : Tree) (xs : List quote.Element) (tail : quote.Tail) (n : ℕ) → Each Quiet xs → ((m : ℕ) → Tells (tail.made m)) → Tells (quote.list_made w t xs tail n)
+  quote-list : (t : Tree) (xs : List quote.ElementPlan) (tail : quote.Tail) (n : ℕ) → Each Quiet xs → ((m : ℕ) → Tells (tail.made m)) → Tells (quote.list_made w t xs tail n)
   quote-list t xs tail n h k =
       tells-if (splits w tail.ends (quote.forms xs)) _ _
       (quote-flat t (take (length xs - 2) xs) (quote.split_tail w t xs tail) n (each-taken Quiet (length xs - 2) xs h)
       (λ m. quote-flat (rest_at (length xs - 2) t) (drop (length xs - 2) xs) tail m (each-dropped Quiet (length xs - 2) xs h) k))
       (quote-flat t xs tail n h k)
 
-  quote-vector : (t : Tree) (xs : List quote.Element) (n : ℕ) → Each Quiet xs → Tells (quote.vector_made w t xs n)
+  quote-vector : (t : Tree) (xs : List quote.ElementPlan) (n : ℕ) → Each Quiet xs → Tells (quote.vector_made w t xs n)
   quote-vector t xs n h = tells-then (quote.walked w n quote.no_pieces xs) (λ p. Ok (quote.vector_joined t p)) (quote-walked n quote.no_pieces xs h) (λ p. tt)
 
   mutual
@@ -101,7 +101,7 @@ module _ (w : Words) where
 
 -- `quasisyntax`
 
-abbrev QuietSyntax : syntaxes.Element → Type 0
+abbrev QuietSyntax : syntaxes.ElementInserts → Type 0
 QuietSyntax x = (n : ℕ) (is : List Insert) → Tells (x.1 n is)
 
 insert-then : {A B : Type 0} (r : Result (A × List Insert) Bare) (k : A → syntaxes.Inserts B) → Tells r → ((a : A) (is : List Insert) → Tells (k a is)) → Tells (syntaxes.then_insert r k)
@@ -123,12 +123,12 @@ syntax-vector_joined : (t : Tree) (r : QuasiRow) → Tells (syntaxes.vector_join
 syntax-vector_joined t r = tells-if r.changed _ _ (syntax-rebuilt t (within (vector_of r.trees)) (tells-within (vector_of r.trees))) tt
 
 module _ (w : Looked) where
-  syntax-step : (n : ℕ) (x : syntaxes.Element) (r : QuasiRow) (k : QuasiTaken) (is : List Insert) → QuietSyntax x → Tells (syntaxes.step_by w n x r k is)
+  syntax-step : (n : ℕ) (x : syntaxes.ElementInserts) (r : QuasiRow) (k : QuasiTaken) (is : List Insert) → QuietSyntax x → Tells (syntaxes.step_by w n x r k is)
   syntax-step n x r (taken.Each es) is h = tt
   syntax-step n x r (taken.Spliced es) is h = tt
   syntax-step n x r taken.Kept is h = insert-then (x.1 n is) (λ p js. Ok (syntaxes.with_part r p, js)) (h n is) (λ p js. tt)
 
-  syntax-walked : (n : ℕ) (r : QuasiRow) (xs : List syntaxes.Element) (is : List Insert) → Each QuietSyntax xs → Tells (syntaxes.walked w n r xs is)
+  syntax-walked : (n : ℕ) (r : QuasiRow) (xs : List syntaxes.ElementInserts) (is : List Insert) → Each QuietSyntax xs → Tells (syntaxes.walked w n r xs is)
   syntax-walked n r [] is h = tt
   syntax-walked n r (x ∷ xs) is h =
       insert-then (syntaxes.step w n r x is) (λ q js. syntaxes.walked w n q xs js) (syntax-step n x r (taken_at w.words n x.0) is h.0) (λ q js. syntax-walked n q xs js h.1)
@@ -147,14 +147,14 @@ module _ (w : Looked) where
   syntax-finished t tail n (of_syntax.Trees r) is h =
       insert-then (tail.made n is) (λ q. syntaxes.joined (syntaxes.list_joined t r q)) (h n is) (λ q js. insert-joined (syntaxes.list_joined t r q) js (syntax-list_joined t r q))
 
-  syntax-flat : (t : Tree) (xs : List syntaxes.Element) (tail : syntaxes.Tail) (n : ℕ) (is : List Insert) → Each QuietSyntax xs → ((m : ℕ) (js : List Insert) → Tells (tail.made m js)) → Tells (syntaxes.flat w t xs tail n is)
+  syntax-flat : (t : Tree) (xs : List syntaxes.ElementInserts) (tail : syntaxes.Tail) (n : ℕ) (is : List Insert) → Each QuietSyntax xs → ((m : ℕ) (js : List Insert) → Tells (tail.made m js)) → Tells (syntaxes.flat w t xs tail n is)
   syntax-flat t xs tail n is h k =
       insert-then (syntaxes.begins w xs tail.ends n is) (syntaxes.finished t tail n)
       (syntax-begun (operand_of tail.ends (syntaxes.forms xs)) (syntaxes.walked w (inner (first_word w.words (syntaxes.forms xs)) n) syntaxes.no_trees xs) (reach (first_word w.words (syntaxes.forms xs)) n) is
       (syntax-walked (inner (first_word w.words (syntaxes.forms xs)) n) syntaxes.no_trees xs is h))
       (λ b js. syntax-finished t tail n b js k)
 
-  syntax-list : (t : Tree) (xs : List syntaxes.Element) (tail : syntaxes.Tail) (n : ℕ) (is : List Insert) → Each QuietSyntax xs → ((m : ℕ) (js : List Insert) → Tells (tail.made m js)) → Tells (syntaxes.list_made w t xs tail n is)
+  syntax-list : (t : Tree) (xs : List syntaxes.ElementInserts) (tail : syntaxes.Tail) (n : ℕ) (is : List Insert) → Each QuietSyntax xs → ((m : ℕ) (js : List Insert) → Tells (tail.made m js)) → Tells (syntaxes.list_made w t xs tail n is)
   syntax-list t xs tail n is h k =
       tells-if (syntaxes.escapes (first_word w.words (syntaxes.forms xs)) tail.ends (syntaxes.forms xs)) _ _ tt
       (tells-if (splits w.words tail.ends (syntaxes.forms xs)) _ _
@@ -162,7 +162,7 @@ module _ (w : Looked) where
       (λ m js. syntax-flat (rest_at (length xs - 2) t) (drop (length xs - 2) xs) tail m js (each-dropped QuietSyntax (length xs - 2) xs h) k))
       (syntax-flat t xs tail n is h k))
 
-  syntax-vector : (t : Tree) (xs : List syntaxes.Element) (n : ℕ) (is : List Insert) → Each QuietSyntax xs → Tells (syntaxes.vector_made w t xs n is)
+  syntax-vector : (t : Tree) (xs : List syntaxes.ElementInserts) (n : ℕ) (is : List Insert) → Each QuietSyntax xs → Tells (syntaxes.vector_made w t xs n is)
   syntax-vector t xs n is h =
       insert-then (syntaxes.walked w n syntaxes.no_trees xs is) (λ r. syntaxes.joined (syntaxes.vector_joined t r)) (syntax-walked n syntaxes.no_trees xs is h) (λ r js. insert-joined (syntaxes.vector_joined t r) js (syntax-vector_joined t r))
 

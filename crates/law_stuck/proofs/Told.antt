@@ -18,7 +18,7 @@ use Rattle.eval_value.specs.declared.value.Value.{Value}
 use Rattle.eval_value.specs.declared.value.Value.TheVariants as value
 use Rattle.eval_value.specs.declared.cell.Cell.{Cell}
 use Rattle.eval_pattern.specs.declared.columns.PatternBinds.{PatternBinds}
-use Rattle.eval_prims.specs.Answers.{Answer}
+use Rattle.eval_prims.specs.Answers.{PrimAnswer}
 use Rattle.eval_prims.specs.Chains.{list_elements}
 use Rattle.eval_prims.specs.Cost.{cost}
 use Rattle.eval_prims.specs.Delta.{delta}
@@ -28,7 +28,7 @@ use Rattle.eval_code.specs.Lines.{lines_from}
 use Rattle.eval_code.specs.Procedures.{first_case, has_text, text_number, text_body, truth_of}
 use Rattle.eval_code.specs.Quoted.{datum_cost}
 use Rattle.eval_code.specs.Setting.{PlainSetting}
-use Rattle.eval_code.specs.Spread.{Call, apply_args, parted, with_elements, with_front, on_parts, spread_once, spread_on, spread_to, spread}
+use Rattle.eval_code.specs.Spread.{CallBy, apply_args, parted, with_elements, with_front, on_parts, spread_once, spread_on, spread_to, spread}
 use Rattle.eval_code.specs.State.{WorldState, Outcome, done, faulted, unfit, Go, then_do, charged, made, store}
 use Rattle.eval_code.specs.Variables.{found, assigned, all_assigned}
 use Rattle.eval_code.specs.Meaning.{PlainLetrec, Evaluator, answer_made, primitive_called, variable_read, variable_value, quoted_value, by_case, by_code, procedure_called, text_value_called, by_text, op_called, value_called, first_called, applied, operands, in_sequence, one_arm, two_arms, in_turn, at_once, by_letrec, fender_passed, output_given, fender_asked, on_match, tried, expressed, unrolled, evaluates, eval_of}
@@ -51,7 +51,7 @@ told-charged cost s n g k = told-if (nat_lt n cost) (faulted fuel_spent s n) (g 
 
 -- What evaluates nothing.
 
-told-answer : (s : WorldState) (n : ℕ) (a : Answer) → Tells a → TellsOther (answer_made s n a)
+told-answer : (s : WorldState) (n : ℕ) (a : PrimAnswer) → Tells a → TellsOther (answer_made s n a)
 told-answer s n (Ok m) h = tt
 told-answer s n (Err f) h = h
 
@@ -90,35 +90,35 @@ told-instanced t scope s n = told-instance_with t s n (gathered s.cells scope t 
 
 -- `apply`
 
-abbrev Calls : Call → Type 0
+abbrev Calls : CallBy → Type 0
 Calls g = (vs : List Value) (n : ℕ) → TellsOther (g vs n)
 
 module _ (s : WorldState) where
-  told-with_elements : (front : List Value) (g : Call) → Calls g → (n : ℕ) (o : Option (List Value)) → TellsOther (with_elements front s g n o)
+  told-with_elements : (front : List Value) (g : CallBy) → Calls g → (n : ℕ) (o : Option (List Value)) → TellsOther (with_elements front s g n o)
   told-with_elements front g k n None = tt
   told-with_elements front g k n (Some xs) = told-charged (length xs) s n _ (λ m. k (front ++ xs) m)
 
-  told-with_front : (front : List Value) (last : Value) (g : Call) → Calls g → (n : ℕ) → TellsOther (with_front front last s g n)
+  told-with_front : (front : List Value) (last : Value) (g : CallBy) → Calls g → (n : ℕ) → TellsOther (with_front front last s g n)
   told-with_front [] last g k n = tt
   told-with_front (x ∷ xs) last g k n = told-with_elements (x ∷ xs) g k n (list_elements s.cells last)
 
-  told-on_parts : (g : Call) → Calls g → (n : ℕ) (o : Option (List Value × Value)) → TellsOther (on_parts s g n o)
+  told-on_parts : (g : CallBy) → Calls g → (n : ℕ) (o : Option (List Value × Value)) → TellsOther (on_parts s g n o)
   told-on_parts g k n None = tt
   told-on_parts g k n (Some p) = told-with_front p.0 p.1 g k n
 
-  told-spread_once : (args : List Value) (g : Call) → Calls g → (n : ℕ) → TellsOther (spread_once args s g n)
+  told-spread_once : (args : List Value) (g : CallBy) → Calls g → (n : ℕ) → TellsOther (spread_once args s g n)
   unfolding spread_once
   told-spread_once args g k n = told-on_parts g k n (parted args)
 
-  told-spread_on : (g h : Call) → Calls g → Calls h → (vs : List Value) (n : ℕ) (o : Option (List Value)) → TellsOther (spread_on s g (h vs) n o)
+  told-spread_on : (g h : CallBy) → Calls g → Calls h → (vs : List Value) (n : ℕ) (o : Option (List Value)) → TellsOther (spread_on s g (h vs) n o)
   told-spread_on g h k l vs n None = l vs n
   told-spread_on g h k l vs n (Some args) = told-spread_once args g k n
 
-  told-spread_to : (turns : ℕ) (g : Call) → Calls g → Calls (spread_to turns s g)
+  told-spread_to : (turns : ℕ) (g : CallBy) → Calls g → Calls (spread_to turns s g)
   told-spread_to zero g k vs n = tt
   told-spread_to (suc turns) g k vs n = told-spread_on (spread_to turns s g) g (told-spread_to turns g k) k vs n (apply_args vs)
 
-  told-spread : (g : Call) → Calls g → Calls (spread s g)
+  told-spread : (g : CallBy) → Calls g → Calls (spread s g)
   unfolding spread
   told-spread g k vs n = told-spread_to (suc (n + length vs)) g k vs n
 

@@ -12,11 +12,11 @@ use Rattle.eval_pattern.specs.Columns.{empty_column, empty_columns, all_empty_co
 use Rattle.eval_pattern.specs.declared.columns.Column.{Column}
 use Rattle.eval_template.specs.Binds.{Binds, looked_up, listed, turn_of, through}
 use Rattle.eval_template.proofs.Turns.{listed_turns, turn_of_many}
-use Rattle.law_matches.specs.Matches.{Bindings, stacked, Matches, takes_any, takes_variable, takes_literal, takes_atom, takes_list, takes_vector, Fills, no_more, one_more, all_but, Repeats, no_rows, one_row}
+use Rattle.law_matches.specs.Matches.{MatchBinds, stacked, Matches, takes_any, takes_variable, takes_literal, takes_atom, takes_list, takes_vector, Fills, no_more, one_more, all_but, Repeats, no_rows, one_row}
 use Rattle.law_templates.specs.Repeating.{variables, all_variables}
 use Rattle.law_templates.proofs.Sight.{through-append}
 
-abbrev pub labels : Bindings → List Label
+abbrev pub labels : MatchBinds → List Label
 labels bs = map (λ (b : Label × PlainBind). b.0) bs
 
 abbrev pub column_labels : List Column → List Label
@@ -73,12 +73,12 @@ pub long_none : (p : PlainPattern) → AllLong 0 (empty_columns p [])
 long_none p = empty_long p [] tt
 
 -- one row more
-abbrev pub zipped : List Column → Bindings → List Column
+abbrev pub zipped : List Column → MatchBinds → List Column
 zipped [] row = []
 zipped (c ∷ cols) [] = []
 zipped (c ∷ cols) (b ∷ row) = with_bind c b.1 ∷ zipped cols row
 
-pub grown-zipped : (done cols : List Column) (row : Bindings) → grown done cols row ≡ done ++ zipped cols row
+pub grown-zipped : (done cols : List Column) (row : MatchBinds) → grown done cols row ≡ done ++ zipped cols row
 grown-zipped done [] row = sym (append-nil done)
 grown-zipped done (c ∷ cols) [] = sym (append-nil done)
 grown-zipped done (c ∷ cols) (b ∷ row) = grown-zipped (done ++ with_bind c b.1 ∷ []) cols row ∙ append_assoc done (with_bind c b.1 ∷ []) (zipped cols row)
@@ -113,35 +113,35 @@ none_some x xs e = cc
 some_none : (x : Label) (xs : List Label) → x ∷ xs ≡ [] → ⊥
 some_none x xs e = cc
 
-zipped_grows : (cols : List Column) (row : Bindings) → labels row ≡ column_labels cols → Grows cols (zipped cols row)
+zipped_grows : (cols : List Column) (row : MatchBinds) → labels row ≡ column_labels cols → Grows cols (zipped cols row)
 zipped_grows [] row h = no_column
 zipped_grows (c ∷ cols) [] h = absurd (none_some c.label (column_labels cols) h)
 zipped_grows (c ∷ cols) (b ∷ row) h = one_column (b.1 ∷ []) refl refl (zipped_grows cols row (tails_same b.0 c.label (labels row) (column_labels cols) h))
 
-zipped_long : (n : ℕ) (cols : List Column) (row : Bindings) → AllLong n cols → AllLong (n + 1) (zipped cols row)
+zipped_long : (n : ℕ) (cols : List Column) (row : MatchBinds) → AllLong n cols → AllLong (n + 1) (zipped cols row)
 zipped_long n [] row h = tt
 zipped_long n (c ∷ cols) [] h = tt
 zipped_long n (c ∷ cols) (b ∷ row) h =
     ((let e : length (c.binds ++ b.1 ∷ []) ≡ n + 1 = omega (arith, length-append c.binds (b.1 ∷ []), h.0) in e), zipped_long n cols row h.1)
 
 -- each row has a bind for each of these labels
-abbrev pub RowsFit : List Label → List Bindings → Type 0
+abbrev pub RowsFit : List Label → List MatchBinds → Type 0
 RowsFit ls [] = Unit {0}
 RowsFit ls (row ∷ rows) = (labels row ≡ ls) × RowsFit ls rows
 
-zipped_fit : (cols : List Column) (row : Bindings) (rows : List Bindings) → RowsFit (column_labels cols) (row ∷ rows) → RowsFit (column_labels (zipped cols row)) rows
+zipped_fit : (cols : List Column) (row : MatchBinds) (rows : List MatchBinds) → RowsFit (column_labels cols) (row ∷ rows) → RowsFit (column_labels (zipped cols row)) rows
 zipped_fit cols row rows h = subst (λ ls. RowsFit ls rows) (sym (grows_labels (zipped_grows cols row h.0))) h.1
 
-stacked_grows : (cols : List Column) (rows : List Bindings) → RowsFit (column_labels cols) rows → Grows cols (stacked cols rows)
+stacked_grows : (cols : List Column) (rows : List MatchBinds) → RowsFit (column_labels cols) rows → Grows cols (stacked cols rows)
 stacked_grows cols [] h = grows_refl cols
 stacked_grows cols (row ∷ rows) h =
     grows_then (zipped_grows cols row h.0)
     (subst (λ cs. Grows (zipped cols row) (stacked cs rows)) (sym (grown-zipped [] cols row)) (stacked_grows (zipped cols row) rows (zipped_fit cols row rows h)))
 
-pub stacked-labels : (cols : List Column) (rows : List Bindings) → RowsFit (column_labels cols) rows → column_labels (stacked cols rows) ≡ column_labels cols
+pub stacked-labels : (cols : List Column) (rows : List MatchBinds) → RowsFit (column_labels cols) rows → column_labels (stacked cols rows) ≡ column_labels cols
 stacked-labels cols rows h = grows_labels (stacked_grows cols rows h)
 
-pub stacked_long : (n : ℕ) (cols : List Column) (rows : List Bindings) → AllLong n cols → AllLong (n + length rows) (stacked cols rows)
+pub stacked_long : (n : ℕ) (cols : List Column) (rows : List MatchBinds) → AllLong n cols → AllLong (n + length rows) (stacked cols rows)
 stacked_long n cols [] h = subst (λ m. AllLong m cols) (let e : n ≡ n + 0 = omega arith in e) h
 stacked_long n cols (row ∷ rows) h =
     subst (λ m. AllLong m (stacked (grown [] cols row) rows)) (let e : n + 1 + length rows ≡ n + suc (length rows) = omega arith in e)
@@ -149,7 +149,7 @@ stacked_long n cols (row ∷ rows) h =
 
 -- the binds of a match are those of the pattern's variables
 mutual
-  pub labels_are : {fs : Scope} {cells : List Cell} {p : PlainPattern} {v : Value} {bs : Bindings} {n : ℕ} → Matches fs cells p v bs n → labels bs ≡ variables p
+  pub labels_are : {fs : Scope} {cells : List Cell} {p : PlainPattern} {v : Value} {bs : MatchBinds} {n : ℕ} → Matches fs cells p v bs n → labels bs ≡ variables p
   labels_are takes_any = refl
   labels_are takes_variable = refl
   labels_are (takes_literal e) = refl
@@ -157,7 +157,7 @@ mutual
   labels_are (takes_list {bs = bs} {cs = cs} b last f m) = map-append (λ (x : Label × PlainBind). x.0) bs cs ∙ (λ i. all_labels f i ++ labels_are m i)
   labels_are (takes_vector e f) = all_labels f
 
-  all_labels : {fs : Scope} {cells : List Cell} {ps : PlainPatterns} {xs : List Value} {bs : Bindings} {n : ℕ} → Fills fs cells ps xs bs n → labels bs ≡ all_variables ps
+  all_labels : {fs : Scope} {cells : List Cell} {ps : PlainPatterns} {xs : List Value} {bs : MatchBinds} {n : ℕ} → Fills fs cells ps xs bs n → labels bs ≡ all_variables ps
   all_labels no_more = refl
   all_labels (one_more {bs = bs} {cs = cs} r f) = map-append (λ (x : Label × PlainBind). x.0) bs cs ∙ (λ i. labels_are r i ++ all_labels f i)
   all_labels (all_but {p = p} {rows = rows} {cs = cs} r long f) =
@@ -166,16 +166,16 @@ mutual
       let is = labels-closed (stacked cols rows) ∙ stacked-labels cols rows fit ∙ labels_none p in
       map-append (λ (x : Label × PlainBind). x.0) (closed (stacked cols rows)) cs ∙ (λ i. is i ++ all_labels f i)
 
-  pub rows_fit : {fs : Scope} {cells : List Cell} {p : PlainPattern} {xs : List Value} {rows : List Bindings} {n : ℕ} → Repeats fs cells p xs rows n → RowsFit (variables p) rows
+  pub rows_fit : {fs : Scope} {cells : List Cell} {p : PlainPattern} {xs : List Value} {rows : List MatchBinds} {n : ℕ} → Repeats fs cells p xs rows n → RowsFit (variables p) rows
   rows_fit no_rows = tt
   rows_fit (one_row r rs) = (labels_are r, rows_fit rs)
 
 -- After these turns, what is bound is what these binds say.
-abbrev pub AllSee : Binds → List ℕ → Bindings → Type 0
+abbrev pub AllSee : Binds → List ℕ → MatchBinds → Type 0
 AllSee binds js [] = Unit {0}
 AllSee binds js (x ∷ xs) = (through (looked_up binds x.0) js ≡ Some x.1) × AllSee binds js xs
 
-pub see_then : (binds : Binds) (js : List ℕ) (xs ys : Bindings) → AllSee binds js (xs ++ ys) → AllSee binds js xs × AllSee binds js ys
+pub see_then : (binds : Binds) (js : List ℕ) (xs ys : MatchBinds) → AllSee binds js (xs ++ ys) → AllSee binds js xs × AllSee binds js ys
 see_then binds js [] ys h = (tt, h)
 see_then binds js (x ∷ xs) ys h = let p = see_then binds js xs ys h.1 in ((h.0, p.0), p.1)
 
@@ -187,7 +187,7 @@ through_end : (o : Option PlainBind) → through o [] ≡ o
 through_end None = refl
 through_end (Some b) = refl
 
-abbrev pub RowsSee : Binds → List ℕ → ℕ → List Bindings → Type 0
+abbrev pub RowsSee : Binds → List ℕ → ℕ → List MatchBinds → Type 0
 RowsSee binds js i [] = Unit {0}
 RowsSee binds js i (row ∷ rows) = AllSee binds (js ++ i ∷ []) row × RowsSee binds js (i + 1) rows
 
@@ -199,7 +199,7 @@ module _ (binds : Binds) (js : List ℕ) where
       through-append (looked_up binds l) js (i ∷ []) ∙ ap (λ o. through o (i ∷ [])) seen ∙ through_end (turn_of (many (bind.turns bs)) i)
       ∙ turn_of_many bs i ∙ ap (slice_get bs) (sym long) ∙ ap (λ ys. slice_get ys (length xs)) is ∙ seam xs b later
 
-  row_seen : (i : ℕ) (cols : List Column) (row : Bindings) {ds : List Column} → labels row ≡ column_labels cols → AllLong i cols → Grows (zipped cols row) ds → AllSee binds js (closed ds) → AllSee binds (js ++ i ∷ []) row
+  row_seen : (i : ℕ) (cols : List Column) (row : MatchBinds) {ds : List Column} → labels row ≡ column_labels cols → AllLong i cols → Grows (zipped cols row) ds → AllSee binds js (closed ds) → AllSee binds (js ++ i ∷ []) row
   row_seen i [] [] h k g s = tt
   row_seen i [] (b ∷ row) h k g s = absurd (some_none b.0 (labels row) h)
   row_seen i (c ∷ cols) [] h k g s = absurd (none_some c.label (column_labels cols) h)
@@ -210,7 +210,7 @@ module _ (binds : Binds) (js : List ℕ) where
         row_seen i cols row (tails_same b.0 c.label (labels row) (column_labels cols) h) k.1 g s.1,
       )
 
-  pub rows_seen : (i : ℕ) (cols : List Column) (rows : List Bindings) → RowsFit (column_labels cols) rows → AllLong i cols → AllSee binds js (closed (stacked cols rows)) → RowsSee binds js i rows
+  pub rows_seen : (i : ℕ) (cols : List Column) (rows : List MatchBinds) → RowsFit (column_labels cols) rows → AllLong i cols → AllSee binds js (closed (stacked cols rows)) → RowsSee binds js i rows
   rows_seen i cols [] h k s = tt
   rows_seen i cols (row ∷ rows) h k s =
       let cs = zipped cols row in

@@ -27,7 +27,7 @@ use Rattle.eval_pattern.specs.Columns.{empty_columns, closed}
 use Rattle.eval_template.specs.Binds.{Binds, Absent, looked_up, through, reached, value_of, count_of}
 use Rattle.eval_template.specs.Lengths.{lengths, items_lengths, agree, or_none}
 use Rattle.eval_template.specs.Instance.{then_add, counts, is_end, ending, instance, parts, item, turned}
-use Rattle.law_matches.specs.Matches.{Bindings, Begins, here, next, stacked, Matches, takes_variable, takes_literal, takes_atom, takes_list, takes_vector, Fills, no_more, one_more, all_but, Repeats, no_rows, one_row}
+use Rattle.law_matches.specs.Matches.{MatchBinds, Begins, here, next, stacked, Matches, takes_variable, takes_literal, takes_atom, takes_list, takes_vector, Fills, no_more, one_more, all_but, Repeats, no_rows, one_row}
 use Rattle.law_templates.specs.Repeating.{variables, all_variables, Differs, Distinct, IsSome, SpellsRepeats, spells_literal, spells_atom, spells_list, spells_vector, SpellsAllRepeats, spells_end, spells_more, IsRepeat, repeats_variable, repeats_form, repeats_list, repeats_vector, AreRepeats, repeats_none, repeats_more, repeats_dots, Alike, itself, same_leaf, same_atom, same_pair, same_vector, AreAlike, all_alike, next_alike, GivesBack}
 use Rattle.law_templates.proofs.Sight.{AllAre}
 use Rattle.law_templates.proofs.Columns.{labels, column_labels, labels_none, long_none, RowsFit, stacked-labels, stacked_long, rows_fit, AllSee, see_then, RowsSee, rows_seen, Counts, AllCount, count_then, all_count}
@@ -153,38 +153,38 @@ false_true h = cc
 
 module _ (fs : Scope) (old new : List Cell) where
   mutual
-    spelled : {p : PlainPattern} {t : Tree} {v : Value} {bs : Bindings} {n : ℕ} → SpellsRepeats p t → Matches fs old p v bs n → Alike fs old new v (value.Syn t)
+    spelled : {p : PlainPattern} {t : Tree} {v : Value} {bs : MatchBinds} {n : ℕ} → SpellsRepeats p t → Matches fs old p v bs n → Alike fs old new v (value.Syn t)
     spelled (spells_literal e) (takes_literal f) = same_leaf f
     spelled spells_atom (takes_atom e) = same_atom e refl
     spelled (spells_list s) (takes_list b last f m) = all_spelled s b f m
     spelled (spells_vector s) (takes_vector e f) = same_vector e refl (elements_spelled s f)
 
-    all_spelled : {ps : PlainPatterns} {p : PlainPattern} {t : Tree} {xs : List Value} {r v : Value} {bs cs : Bindings} {m n : ℕ}
+    all_spelled : {ps : PlainPatterns} {p : PlainPattern} {t : Tree} {xs : List Value} {r v : Value} {bs cs : MatchBinds} {m n : ℕ}
         → SpellsAllRepeats ps p t → Begins old xs r v → Fills fs old ps xs bs m → Matches fs old p r cs n → Alike fs old new v (value.Syn t)
     all_spelled (spells_end s) here no_more m = spelled s m
     all_spelled (spells_end s) (next e b) f m = elim f [ ]
     all_spelled (spells_more s ss) here f m = elim f [ ]
     all_spelled (spells_more s ss) (next e b) (one_more r f) m = same_pair e refl (spelled s r) (all_spelled ss b f m)
 
-    elements_spelled : {ps : PlainPatterns} {t : Tree} {xs : List Value} {bs : Bindings} {m : ℕ} → SpellsAllRepeats ps (atom a.Nil) t → Fills fs old ps xs bs m → AreAlike fs old new xs (map value.Syn (elements t))
+    elements_spelled : {ps : PlainPatterns} {t : Tree} {xs : List Value} {bs : MatchBinds} {m : ℕ} → SpellsAllRepeats ps (atom a.Nil) t → Fills fs old ps xs bs m → AreAlike fs old new xs (map value.Syn (elements t))
     elements_spelled (spells_end spells_atom) no_more = all_alike
     elements_spelled (spells_more s ss) (one_more r f) = next_alike (spelled s r) (elements_spelled ss f)
 
 -- what is written as the empty list
 mutual
-  nil_spelled : {fs : Scope} {cells : List Cell} {p : PlainPattern} {t : Tree} {v : Value} {bs : Bindings} {n : ℕ} → SpellsRepeats p t → Matches fs cells p v bs n → is_nil t ≡ true → atom_of cells v ≡ Some a.Nil
+  nil_spelled : {fs : Scope} {cells : List Cell} {p : PlainPattern} {t : Tree} {v : Value} {bs : MatchBinds} {n : ℕ} → SpellsRepeats p t → Matches fs cells p v bs n → is_nil t ≡ true → atom_of cells v ≡ Some a.Nil
   nil_spelled (spells_literal {t = t} e) m h = absurd (no_nil_leaf t e h)
   nil_spelled (spells_atom {a = b}) (takes_atom e) h = e ∙ ap Some (nil_atom b h)
   nil_spelled (spells_list s) (takes_list b last f m) h = nil_end s b f m h
   nil_spelled (spells_vector s) m h = absurd (false_true h)
 
-  nil_end : {fs : Scope} {cells : List Cell} {ps : PlainPatterns} {p : PlainPattern} {t : Tree} {xs : List Value} {r v : Value} {bs cs : Bindings} {m n : ℕ}
+  nil_end : {fs : Scope} {cells : List Cell} {ps : PlainPatterns} {p : PlainPattern} {t : Tree} {xs : List Value} {r v : Value} {bs cs : MatchBinds} {m n : ℕ}
       → SpellsAllRepeats ps p t → Begins cells xs r v → Fills fs cells ps xs bs m → Matches fs cells p r cs n → is_nil t ≡ true → atom_of cells v ≡ Some a.Nil
   nil_end (spells_end s) here no_more m h = nil_spelled s m h
   nil_end (spells_end s) (next e b) f m h = elim f [ ]
   nil_end (spells_more s ss) b f m h = absurd (false_true h)
 
-nil_is : {fs : Scope} {cells : List Cell} {p : PlainPattern} {t : PlainTemplate} {v : Value} {bs : Bindings} {depth n : ℕ} → IsRepeat depth p t → Matches fs cells p v bs n → is_end t ≡ true → atom_of cells v ≡ Some a.Nil
+nil_is : {fs : Scope} {cells : List Cell} {p : PlainPattern} {t : PlainTemplate} {v : Value} {bs : MatchBinds} {depth n : ℕ} → IsRepeat depth p t → Matches fs cells p v bs n → is_end t ≡ true → atom_of cells v ≡ Some a.Nil
 nil_is repeats_variable m h = absurd (false_true h)
 nil_is (repeats_form s) m h = nil_spelled s m h
 nil_is (repeats_list rs r) m h = absurd (false_true h)
@@ -199,7 +199,7 @@ record PartsBack (fs : Scope) (old : List Cell) (xs done : List Value) (cells : 
   alike : AreAlike fs old later xs values
 
 module _ (fs : Scope) (old : List Cell) (absent : Absent) (binds : Binds) where
-  ended : {p : PlainPattern} {t : PlainTemplate} {v : Value} {bs : Bindings} {depth n : ℕ} (js : List ℕ) (cells : List Cell) → IsRepeat depth p t → Matches fs old p v bs n
+  ended : {p : PlainPattern} {t : PlainTemplate} {v : Value} {bs : MatchBinds} {depth n : ℕ} (js : List ℕ) (cells : List Cell) → IsRepeat depth p t → Matches fs old p v bs n
       → GivesBack fs old v cells (instance absent binds t js cells) → GivesBack fs old v cells (ending t (instance absent binds t js) cells)
   ended {t = t} {v = v} js cells r m g = go (is_end t) refl
     where
@@ -211,7 +211,7 @@ module _ (fs : Scope) (old : List Cell) (absent : Absent) (binds : Binds) where
   go_on t = item (instance absent binds t) (counts absent binds t) zero
 
   -- at an ellipsis there are as many turns as rows
-  agreed : {p : PlainPattern} {t : PlainTemplate} (js : List ℕ) (rows : List Bindings) → IsRepeat (suc (length js)) p t → IsSome (variables p) → RowsFit (variables p) rows
+  agreed : {p : PlainPattern} {t : PlainTemplate} (js : List ℕ) (rows : List MatchBinds) → IsRepeat (suc (length js)) p t → IsSome (variables p) → RowsFit (variables p) rows
       → AllSee binds js (closed (stacked (empty_columns p []) rows)) → agree None (counts absent binds t 0 js) ≡ Ok (Some (length rows))
   agreed {p = p} {t = t} js rows r some fit s =
       let cols = empty_columns p [] in
@@ -224,7 +224,7 @@ module _ (fs : Scope) (old : List Cell) (absent : Absent) (binds : Binds) where
       (any_length absent binds js (length rows) 0 r (omega arith) some)
 
   mutual
-    pub comes : {p : PlainPattern} {t : PlainTemplate} {v : Value} {bs : Bindings} {n : ℕ} (js : List ℕ) (cells : List Cell) → IsRepeat (length js) p t → Matches fs old p v bs n → AllSee binds js bs
+    pub comes : {p : PlainPattern} {t : PlainTemplate} {v : Value} {bs : MatchBinds} {n : ℕ} (js : List ℕ) (cells : List Cell) → IsRepeat (length js) p t → Matches fs old p v bs n → AllSee binds js bs
         → GivesBack fs old v cells (instance absent binds t js cells)
     comes js cells (repeats_form {t = t} w) m s = record { made = value.Syn t; later = cells; is = refl; kept = keeps_refl cells; alike = spelled fs old cells w m }
     comes js cells repeats_variable (takes_variable {l = l} {v = v}) s =
@@ -262,7 +262,7 @@ module _ (fs : Scope) (old : List Cell) (absent : Absent) (binds : Binds) where
           alike = p.alike;
         }
 
-    filled : {ps : PlainPatterns} {is : PlainItems} {xs : List Value} {bs : Bindings} {n : ℕ} (js : List ℕ) (done : List Value) (cells : List Cell) → AreRepeats (length js) ps is → Fills fs old ps xs bs n
+    filled : {ps : PlainPatterns} {is : PlainItems} {xs : List Value} {bs : MatchBinds} {n : ℕ} (js : List ℕ) (done : List Value) (cells : List Cell) → AreRepeats (length js) ps is → Fills fs old ps xs bs n
         → AllSee binds js bs → PartsBack fs old xs done cells (parts absent binds is js done cells)
     filled js done cells repeats_none no_more s = record { values = []; later = cells; is = ap (λ ys. Ok (ys, cells)) (sym (append-nil done)); kept = keeps_refl cells; alike = all_alike }
     filled js done cells (repeats_more {is = is} r rs) (one_more {bs = bs} {cs = cs} m f) s =
@@ -293,7 +293,7 @@ module _ (fs : Scope) (old : List Cell) (absent : Absent) (binds : Binds) where
           alike = alike_then (all_kept xs.later ys.later ys.kept fs old xs.alike) ys.alike;
         }
 
-    each : {p : PlainPattern} {t : PlainTemplate} {xs : List Value} {rows : List Bindings} {n : ℕ} (js : List ℕ) (i : ℕ) (done : List Value) (cells : List Cell) → IsRepeat (suc (length js)) p t
+    each : {p : PlainPattern} {t : PlainTemplate} {xs : List Value} {rows : List MatchBinds} {n : ℕ} (js : List ℕ) (i : ℕ) (done : List Value) (cells : List Cell) → IsRepeat (suc (length js)) p t
         → Repeats fs old p xs rows n → RowsSee binds js i rows → PartsBack fs old xs done cells (turned (go_on t) (length rows) i js done cells)
     each js i done cells r no_rows s = record { values = []; later = cells; is = ap (λ ys. Ok (ys, cells)) (sym (append-nil done)); kept = keeps_refl cells; alike = all_alike }
     each {p = p} {t = t} js i done cells r (one_row {x = y} {rows = rows} m ms) s =
@@ -310,10 +310,10 @@ module _ (fs : Scope) (old : List Cell) (absent : Absent) (binds : Binds) where
         }
 
 -- At the start each variable is found, where none comes again.
-apart : (b : Label × PlainBind) (bs xs : Bindings) → Differs b.0 (labels xs) → AllSee bs [] xs → AllSee (b ∷ bs) [] xs
+apart : (b : Label × PlainBind) (bs xs : MatchBinds) → Differs b.0 (labels xs) → AllSee bs [] xs → AllSee (b ∷ bs) [] xs
 apart b bs [] h s = tt
 apart b bs (x ∷ xs) h s = (rw h.0 s.0, apart b bs xs h.1 s.1)
 
-pub own : (bs : Bindings) → Distinct (labels bs) → AllSee bs [] bs
+pub own : (bs : MatchBinds) → Distinct (labels bs) → AllSee bs [] bs
 own [] h = tt
 own (b ∷ bs) h = (rw ((same_name_cases b.0.0 b.0.0).1 refl) refl, apart b bs bs h.0 (own bs h.1))

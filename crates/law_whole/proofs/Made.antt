@@ -13,7 +13,7 @@ use Rattle.eval_value.specs.declared.cell.Cell.{Cell}
 use Rattle.eval_value.specs.declared.cell.Cell.TheVariants as cell
 use Rattle.eval_value.proofs.Wholes.{lies_here, all_lie_here, added_found}
 use Rattle.eval_prims.specs.Copied.{datum_in}
-use Rattle.eval_prims.specs.Answers.{Answer}
+use Rattle.eval_prims.specs.Answers.{PrimAnswer}
 use Rattle.eval_prims.specs.Cost.{cost}
 use Rattle.eval_prims.specs.Delta.{delta}
 use Rattle.eval_prims.specs.Perform.{performed, temporaries, name_after}
@@ -138,7 +138,7 @@ unfolding primitive_called
 well_primitive w op args s n world r =
     well_charged w (cost op args s.cells) s n (λ m. answer_made s m (delta op args s.cells w.frames)) world (λ m e. by_answer m (delta op args s.cells w.frames) refl)
   where
-    by_answer : (m : ℕ) (a : Answer) → delta op args s.cells w.frames ≡ a → EndsWell w s.cells (answer_made s m a)
+    by_answer : (m : ℕ) (a : PrimAnswer) → delta op args s.cells w.frames ≡ a → EndsWell w s.cells (answer_made s m a)
     by_answer m (Ok x) e =
         let it = performed_good w x s.names s.cells world (call_holds (ValueReady w s.cells) op args s.cells w.frames x (all_read_ready w s.cells world) r e) in
         (it.grows, (it.world, it.ready))

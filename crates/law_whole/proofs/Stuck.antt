@@ -30,7 +30,7 @@ use Rattle.eval_code.specs.Codes.{code_at}
 use Rattle.eval_code.specs.Instances.{match_of}
 use Rattle.eval_code.specs.Procedures.{first_case, bindings, has_text, text_number, text_body, truth_of}
 use Rattle.eval_code.specs.Setting.{PlainSetting}
-use Rattle.eval_code.specs.Spread.{Call, apply_args, before_last, parted, with_elements, with_front, on_parts, spread_once, spread_on, spread_to, spread}
+use Rattle.eval_code.specs.Spread.{CallBy, apply_args, before_last, parted, with_elements, with_front, on_parts, spread_once, spread_on, spread_to, spread}
 use Rattle.eval_code.specs.State.{WorldState, Outcome, done, faulted, unfit, then_do, store, next_place, with_cell}
 use Rattle.eval_code.specs.Variables.{Entries, entry_in, parent_in, upwards, here_or_up, found, unset, assigned, all_assigned}
 use Rattle.eval_code.specs.Meaning.{Evaluator, primitive_called, variable_read, variable_value, by_case, by_code, procedure_called, text_value_called, by_text, op_called, value_called, first_called, applied, operands, in_sequence, one_arm, two_arms, in_turn, at_once, by_letrec, fender_passed, output_given, fender_asked, on_match, tried, expressed, unrolled, evaluates, eval_of}
@@ -155,7 +155,7 @@ args_are_rest (value.Syn t) vs = tt
 args_are_rest (value.Transformer p) vs = tt
 
 -- `apply`, where the calls to which it leads end well. So many turns are left.
-module _ (w : PlainSetting) (s : WorldState) (world : WholeWorld w s.cells) (turns : ℕ) (again : Call)
+module _ (w : PlainSetting) (s : WorldState) (world : WholeWorld w s.cells) (turns : ℕ) (again : CallBy)
     (well : (f : Value) (vs : List Value) (m : ℕ) → m + length (f ∷ vs) < turns → ValuesReady w s.cells (f ∷ vs) → EndsWell w s.cells (again (f ∷ vs) m)) where
   well_elements : (x : Value) (xs : List Value) (n : ℕ) → n + length (x ∷ xs) < turns → ValuesReady w s.cells (x ∷ xs) → (o : Option (List Value)) → ValuesOr (ValueReady w s.cells) o
       → EndsWell w s.cells (with_elements (x ∷ xs) s again n o)
@@ -176,7 +176,7 @@ module _ (w : PlainSetting) (s : WorldState) (world : WholeWorld w s.cells) (tur
   unfolding spread_once
   well_once args n less r = well_parts (length args) n less (parted args) (parted_well w s.cells args r)
 
-module _ (w : PlainSetting) (s : WorldState) (world : WholeWorld w s.cells) (go : Call)
+module _ (w : PlainSetting) (s : WorldState) (world : WholeWorld w s.cells) (go : CallBy)
     (well : (f : Value) (vs : List Value) (m : ℕ) → ValuesReady w s.cells (f ∷ vs) → EndsWell w s.cells (go (f ∷ vs) m)) where
   well_to : (turns : ℕ) (f : Value) (vs : List Value) (n : ℕ) → n + length (f ∷ vs) < turns → ValuesReady w s.cells (f ∷ vs) → EndsWell w s.cells (spread_to turns s go (f ∷ vs) n)
   well_to zero f vs n less r = absurd (omega (arith, less))

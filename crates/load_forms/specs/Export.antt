@@ -38,19 +38,19 @@ abbrev pub export_spec : List ℕ → PlainDatum → Option (List Export)
 export_spec file d = export_by file d (name_at file d)
 
 -- external names with the internal ones
-abbrev pub Exports : Type 0
-Exports = List (List ℕ × NameAt)
+abbrev pub ExportList : Type 0
+ExportList = List (List ℕ × NameAt)
 
 abbrev pub export_twice : NameAt → Fault
 export_twice external = record { kind = ExportTwice; span = external.span; words = external.name ∷ [] }
 
 -- an external name that comes again with the same internal name is taken once
-abbrev pub add_by : Exports → Export → Option NameAt → Result Exports Fault
+abbrev pub add_by : ExportList → Export → Option NameAt → Result ExportList Fault
 add_by names e None = Ok (names ++ (e.external.name, e.internal) ∷ [])
 add_by names e (Some internal) = if same_text internal.name e.internal.name then Ok names else Err (export_twice e.external)
 
-abbrev pub add_export : Exports → Export → Result Exports Fault
+abbrev pub add_export : ExportList → Export → Result ExportList Fault
 add_export names e = add_by names e (value_of e.external.name names)
 
-abbrev pub exported : List Export → Result Exports Fault
+abbrev pub exported : List Export → Result ExportList Fault
 exported es = turns add_export [] es

@@ -7,7 +7,7 @@ use Rattle.base_data.specs.declared.fault.FaultKind.TheVariants.{NotLibrary, Bad
 use Rattle.base_data.specs.declared.library.LibName.TheVariants as library
 use Rattle.base_data.specs.declared.span.Span.{Span}
 use Rattle.load_forms.specs.All.{given}
-use Rattle.load_forms.specs.Export.{export_spec, exported, Exports}
+use Rattle.load_forms.specs.Export.{export_spec, exported, ExportList}
 use Rattle.load_forms.specs.Name.{named}
 use Rattle.load_forms.specs.Set.{start, datum_place, import_spec}
 use Rattle.load_forms.specs.Words.{is_word}
@@ -48,7 +48,7 @@ abbrev pub export_specs : List ℕ → List Export → List PlainDatum → Resul
 export_specs file done [] = Ok done
 export_specs file done (d ∷ ds) = or_fault (bad_form file d) (export_spec file d) (λ es. export_specs file (done ++ es) ds)
 
-abbrev pub library_with : VersionedName → Span → List Import → Exports → LibraryForm
+abbrev pub library_with : VersionedName → Span → List Import → ExportList → LibraryForm
 library_with n place imports exports = record { name = n.name; name_span = place; version = n.version; exports = exports; imports = imports }
 
 -- bad specs come before names that are exported twice

@@ -21,7 +21,7 @@ use Rattle.run_xref.specs.Links.{leads_to, pair_of}
 use Rattle.run_xref.specs.Map.{binding_map, rows_among, row_among}
 use Rattle.run_xref.specs.Ranked.{ranked, row_cmp}
 use Rattle.run_xref.specs.Relation.{ComesFirst, Precedes, by_file, by_start, by_end, ComesBefore, places, place_first, place_too, nothing_first, primitives, StandsBefore, by_place, by_target, MapIsOrdered, MapIsOnce}
-use Rattle.run_xref.specs.Rows.{Files, with_files, files_of, number_of, file_at, at_of, aim_of, row_of, pair_at}
+use Rattle.run_xref.specs.Rows.{FileNames, with_files, files_of, number_of, file_at, at_of, aim_of, row_of, pair_at}
 use Rattle.run_xref.specs.contracts.rows.AimOrd.TheImpl as aim_order
 use Rattle.run_xref.specs.contracts.rows.AtOrd.TheImpl as at_order
 use Rattle.run_xref.specs.declared.pair.Pair.{Pair}
@@ -32,13 +32,13 @@ use Rattle.run_xref.specs.declared.rows.LinkRow.{LinkRow}
 
 -- ---- the place of a file while files are added
 
-abbrev pos : List ℕ → Files → ℕ
+abbrev pos : List ℕ → FileNames → ℕ
 pos file files = position_or_len (same_text file) (keys_of files)
 
-abbrev IsOut : Files → List ℕ → Type 0
+abbrev IsOut : FileNames → List ℕ → Type 0
 IsOut files file = is_some (value_of file files) ≡ false
 
-pos-grows : (file : List ℕ) (files : Files) (row : List ℕ × Unit {0}) → pos file files ≤ pos file (files ++ row ∷ [])
+pos-grows : (file : List ℕ) (files : FileNames) (row : List ℕ × Unit {0}) → pos file files ≤ pos file (files ++ row ∷ [])
 pos-grows file [] row = omega arith
 pos-grows file (e ∷ es) row = by (same_text file e.0) (pos-grows file es row)
   where
@@ -46,7 +46,7 @@ pos-grows file (e ∷ es) row = by (same_text file e.0) (pos-grows file es row)
     by true h = omega arith
     by false h = omega (arith, h)
 
-pos-stays : (file : List ℕ) (files : Files) (row : List ℕ × Unit {0}) → IsIn files file → pos file (files ++ row ∷ []) ≡ pos file files
+pos-stays : (file : List ℕ) (files : FileNames) (row : List ℕ × Unit {0}) → IsIn files file → pos file (files ++ row ∷ []) ≡ pos file files
 pos-stays file [] row h = absurd (true≢false (sym h))
 pos-stays file (e ∷ es) row h = by (same_text file e.0) h (pos-stays file es row)
   where
@@ -55,7 +55,7 @@ pos-stays file (e ∷ es) row h = by (same_text file e.0) h (pos-stays file es r
     by true h on = refl
     by false h on = ap (λ n. 1 + n) (on h)
 
-pos-out : (file : List ℕ) (files : Files) → IsOut files file → pos file files ≡ length (keys_of files)
+pos-out : (file : List ℕ) (files : FileNames) → IsOut files file → pos file files ≡ length (keys_of files)
 pos-out file [] h = refl
 pos-out file (e ∷ es) h = by (same_text file e.0) h (pos-out file es)
   where
@@ -68,38 +68,38 @@ pos-out file (e ∷ es) h = by (same_text file e.0) h (pos-out file es)
         plus n = omega arith
 
 -- a file stands before another, which may be missing
-abbrev Ahead : Files → List ℕ → List ℕ → Type 0
+abbrev Ahead : FileNames → List ℕ → List ℕ → Type 0
 Ahead files file other = IsIn files file × (pos file files < pos other files)
 
-ahead-put : (files : Files) (row : List ℕ × Unit {0}) (file other : List ℕ) → Ahead files file other → Ahead (put_first files row) file other
+ahead-put : (files : FileNames) (row : List ℕ × Unit {0}) (file other : List ℕ) → Ahead files file other → Ahead (put_first files row) file other
 ahead-put files row file other h = (put-stays files row file h.0, by (is_some (value_of row.0 files)))
   where
-    by : (b : Bool) → pos file (cond {A = Files} b files (files ++ row ∷ [])) < pos other (cond {A = Files} b files (files ++ row ∷ []))
+    by : (b : Bool) → pos file (cond {A = FileNames} b files (files ++ row ∷ [])) < pos other (cond {A = FileNames} b files (files ++ row ∷ []))
     by true = h.1
     by false = less (pos file files) (pos other files) (pos file (files ++ row ∷ [])) (pos other (files ++ row ∷ [])) h.1 (pos-stays file files row h.0) (pos-grows other files row)
       where
         less : (a b c d : ℕ) → a < b → c ≡ a → b ≤ d → c < d
         less a b c d h e k = omega (arith, h, e, k)
 
-ahead-with : (ks : List Link) (files : Files) (file other : List ℕ) → Ahead files file other → Ahead (with_files files ks) file other
+ahead-with : (ks : List Link) (files : FileNames) (file other : List ℕ) → Ahead files file other → Ahead (with_files files ks) file other
 ahead-with [] files file other h = h
 ahead-with (k ∷ ks) files file other h = ahead-with ks (put_first files (k.span.file, tt)) file other (ahead-put files (k.span.file, tt) file other h)
 
-put-out : (files : Files) (added file : List ℕ) → same_text file added ≡ false → IsOut files file → IsOut (put_first files (added, tt)) file
+put-out : (files : FileNames) (added file : List ℕ) → same_text file added ≡ false → IsOut files file → IsOut (put_first files (added, tt)) file
 put-out files added file other h = by (is_some (value_of added files))
   where
     or-none : {A : Type 0} (a : Option A) → is_some a ≡ false → is_some (or_else a None) ≡ false
     or-none None h = refl
     or-none (Some x) h = h
 
-    by : (b : Bool) → IsOut (cond {A = Files} b files (files ++ (added, tt) ∷ [])) file
+    by : (b : Bool) → IsOut (cond {A = FileNames} b files (files ++ (added, tt) ∷ [])) file
     by true = h
     by false =
         ap is_some (value-append file files ((added, tt) ∷ []))
         ∙ ap (λ b. is_some (or_else (value_of file files) (cond {A = Option (Unit {0})} b (Some tt) None))) other
         ∙ or-none (value_of file files) h
 
-ahead-new : (files : Files) (file other : List ℕ) → same_text other file ≡ false → IsOut files other → Ahead (put_first files (file, tt)) file other
+ahead-new : (files : FileNames) (file other : List ℕ) → same_text other file ≡ false → IsOut files other → Ahead (put_first files (file, tt)) file other
 ahead-new files file other differs h =
     let more = put_first files (file, tt) in
     let there = put-in files file in
@@ -111,7 +111,7 @@ ahead-new files file other differs h =
 -- ---- the file of the smaller number comes first
 
 module _ (file other : List ℕ) (differ : ¬ (file ≡ other)) where
-  comes-first : (ks : List Link) (files : Files) → IsOut files file → IsOut files other → IsIn (with_files files ks) file
+  comes-first : (ks : List Link) (files : FileNames) → IsOut files file → IsOut files other → IsIn (with_files files ks) file
       → pos file (with_files files ks) < pos other (with_files files ks) → ComesFirst ks file other
   comes-first [] files out out2 there less = absurd (true≢false (sym there ∙ out))
   comes-first (k ∷ ks) files out out2 there less =

@@ -25,7 +25,7 @@ use Rattle.run_xref.specs.Links.{is_binder, binds, binder, target_of, leads_to, 
 use Rattle.run_xref.specs.Map.{binding_map, rows_among, row_among}
 use Rattle.run_xref.specs.Ranked.{ranked, row_cmp, same_row, among}
 use Rattle.run_xref.specs.Relation.{IsVariable, Binds, IsBinder, LeadsTo, to_binder, to_nothing, to_primitive, Relates, MapIsExact}
-use Rattle.run_xref.specs.Rows.{Files, with_files, files_of, number_of, or_first, file_at, at_of, aim_of, row_of, span_at, target_at, pair_at}
+use Rattle.run_xref.specs.Rows.{FileNames, with_files, files_of, number_of, or_first, file_at, at_of, aim_of, row_of, span_at, target_at, pair_at}
 use Rattle.run_xref.specs.declared.pair.Pair.{Pair}
 use Rattle.run_xref.specs.declared.rows.LinkRow.{LinkRow}
 
@@ -158,14 +158,14 @@ led links k _ (to_primitive o e) = ap (leads_to links k.label) e
 
 -- ---- files by their numbers
 
-abbrev pub IsIn : Files → List ℕ → Type 0
+abbrev pub IsIn : FileNames → List ℕ → Type 0
 IsIn files file = is_some (value_of file files) ≡ true
 
 -- a file stands at a place
-abbrev pub IsPlace : Files → List ℕ → ℕ → Type 0
+abbrev pub IsPlace : FileNames → List ℕ → ℕ → Type 0
 IsPlace files file n = (n < length (keys_of files)) × (file_at files n ≡ file)
 
-pub key-at : (files : Files) (file : List ℕ) → IsIn files file → IsPlace files file (position_or_len (same_text file) (keys_of files))
+pub key-at : (files : FileNames) (file : List ℕ) → IsIn files file → IsPlace files file (position_or_len (same_text file) (keys_of files))
 key-at [] file h = absurd (true≢false (sym h))
 key-at (e ∷ es) file h = by (same_text file e.0) refl h (key-at es file)
   where
@@ -180,7 +180,7 @@ key-at (e ∷ es) file h = by (same_text file e.0) refl h (key-at es file)
         plus : (n : ℕ) → 1 + n ≡ suc n
         plus n = omega arith
 
-pub number-is : (files : Files) (file : List ℕ) → IsIn files file → number_of files file ≡ position_or_len (same_text file) (keys_of files)
+pub number-is : (files : FileNames) (file : List ℕ) → IsIn files file → number_of files file ≡ position_or_len (same_text file) (keys_of files)
 number-is files file h =
     let n = position_or_len (same_text file) (keys_of files) in
     ap (λ b. or_first (cond b (Some n) None)) (less n (length (keys_of files)) (key-at files file h).0)
@@ -188,7 +188,7 @@ number-is files file h =
     less : (n m : ℕ) → n < m → nat_lt n m ≡ true
     less n m h = grind (arith, h)
 
-pub numbered : (files : Files) (file : List ℕ) → IsIn files file → file_at files (number_of files file) ≡ file
+pub numbered : (files : FileNames) (file : List ℕ) → IsIn files file → file_at files (number_of files file) ≡ file
 numbered files file h = ap (file_at files) (number-is files file h) ∙ (key-at files file h).1
 
 -- ---- the files of links
@@ -201,27 +201,27 @@ or-last : {A : Type 0} (a b : Option A) → is_some b ≡ true → is_some (or_e
 or-last None b h = h
 or-last (Some x) b h = refl
 
-pub put-stays : (files : Files) (row : List ℕ × Unit {0}) (file : List ℕ) → IsIn files file → IsIn (put_first files row) file
+pub put-stays : (files : FileNames) (row : List ℕ × Unit {0}) (file : List ℕ) → IsIn files file → IsIn (put_first files row) file
 put-stays files row file h = by (is_some (value_of row.0 files))
   where
-    by : (b : Bool) → IsIn (cond {A = Files} b files (files ++ row ∷ [])) file
+    by : (b : Bool) → IsIn (cond {A = FileNames} b files (files ++ row ∷ [])) file
     by true = h
     by false = ap is_some (value-append file files (row ∷ [])) ∙ or-some (value_of file files) (value_of file (row ∷ [])) h
 
-pub put-in : (files : Files) (file : List ℕ) → IsIn (put_first files (file, tt)) file
+pub put-in : (files : FileNames) (file : List ℕ) → IsIn (put_first files (file, tt)) file
 put-in files file = by (is_some (value_of file files)) refl
   where
-    by : (b : Bool) → is_some (value_of file files) ≡ b → IsIn (cond {A = Files} b files (files ++ (file, tt) ∷ [])) file
+    by : (b : Bool) → is_some (value_of file files) ≡ b → IsIn (cond {A = FileNames} b files (files ++ (file, tt) ∷ [])) file
     by true h = h
     by false h =
         ap is_some (value-append file files ((file, tt) ∷ []))
         ∙ or-last (value_of file files) (value_of file ((file, tt) ∷ [])) (ap (λ b. is_some (cond {A = Option (Unit {0})} b (Some tt) None)) ((texts_decides file file).1 refl))
 
-pub with-stays : (ks : List Link) (files : Files) (file : List ℕ) → IsIn files file → IsIn (with_files files ks) file
+pub with-stays : (ks : List Link) (files : FileNames) (file : List ℕ) → IsIn files file → IsIn (with_files files ks) file
 with-stays [] files file h = h
 with-stays (k ∷ ks) files file h = with-stays ks (put_first files (k.span.file, tt)) file (put-stays files (k.span.file, tt) file h)
 
-pub links-in : (ks : List Link) (files : Files) (k : Link) → Contains ks k → IsIn (with_files files ks) k.span.file
+pub links-in : (ks : List Link) (files : FileNames) (k : Link) → Contains ks k → IsIn (with_files files ks) k.span.file
 links-in [] files k h = absurd (contains-none k h)
 links-in (m ∷ ks) files k h = by (contains-cases m k ks h) (links-in ks (put_first files (m.span.file, tt)) k)
   where
@@ -234,20 +234,20 @@ links-in (m ∷ ks) files k h = by (contains-cases m k ks h) (links-in ks (put_f
 -- ---- pairs by numbers, and back
 
 -- the files of a target are in a list
-abbrev pub TargetIn : Files → Target → Type 0
+abbrev pub TargetIn : FileNames → Target → Type 0
 TargetIn files (target.Place span) = IsIn files span.file
 TargetIn files target.Nowhere = Unit {0}
 TargetIn files (target.Prim o) = Unit {0}
 
-span-back : (files : Files) (span : Span) → IsIn files span.file → span_at files (at_of files span) ≡ span
+span-back : (files : FileNames) (span : Span) → IsIn files span.file → span_at files (at_of files span) ≡ span
 span-back files span h = let e = numbered files span.file h in λ i. record { file = e i; from = span.from; to = span.to }
 
-target-back : (files : Files) (t : Target) → TargetIn files t → target_at files (aim_of files t) ≡ t
+target-back : (files : FileNames) (t : Target) → TargetIn files t → target_at files (aim_of files t) ≡ t
 target-back files (target.Place span) h = ap target.Place (span-back files span h)
 target-back files target.Nowhere h = refl
 target-back files (target.Prim o) h = refl
 
-pair-back : (files : Files) (p : Pair) → IsIn files p.span.file → TargetIn files p.target → pair_at files (row_of files p) ≡ p
+pair-back : (files : FileNames) (p : Pair) → IsIn files p.span.file → TargetIn files p.target → pair_at files (row_of files p) ≡ p
 pair-back files p h k =
     let e = span-back files p.span h in
     let f = target-back files p.target k in

@@ -1,14 +1,14 @@
 use Rattle.std.proofs.Common.{ap, sym, ◌∙◌}
 use Rattle.base_data.specs.declared.name.Label.{Label}
 use Rattle.core_language.specs.Bindings.{bound_to}
-use Rattle.core_known.specs.Known.{Bound, flat, has_part}
+use Rattle.core_known.specs.Known.{LabelBindings, flat, has_part}
 use Rattle.core_known.specs.Needed.{parts_given}
 use Rattle.core_known.proofs.Parts.{unbound-right, placed_after}
 use Rattle.core_known.proofs.known.KnownBindings.add.Goals as goal
 
 pub add-requires : goal.add-requires
 add-requires c =
-    unbound-right c.args.label (flat (parts_given c.self.inside.given)) c.self.inside.own (ap (λ (bs : Bound). bound_to bs c.args.label) c.self.view_is ∙ c.requires)
+    unbound-right c.args.label (flat (parts_given c.self.inside.given)) c.self.inside.own (ap (λ (bs : LabelBindings). bound_to bs c.args.label) c.self.view_is ∙ c.requires)
 
 pub invariant_of-self : goal.invariant_of-self
 invariant_of-self c =
