@@ -3,3 +3,4 @@ pub mod Fronts
 pub mod Sizes
 pub mod Chains
 pub mod Walks
+pub mod RestLemmas

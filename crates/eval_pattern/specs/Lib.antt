@@ -4,3 +4,4 @@ pub mod Values
 pub mod Front
 pub mod Columns
 pub mod Matched
+pub mod Rests

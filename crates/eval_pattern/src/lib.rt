@@ -30,4 +30,5 @@ pub mod compile;
 pub mod front;
 pub mod keywords;
 pub mod matching;
+pub mod rest;
 pub mod values;

@@ -11,3 +11,6 @@ pub mod Walks
 pub mod Measured
 pub mod Unseen
 pub mod TreeParts
+pub mod RestLemmas
+pub mod RestItem
+pub mod RestParts

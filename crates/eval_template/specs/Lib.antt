@@ -5,3 +5,4 @@ pub mod Instance
 pub mod Cost
 pub mod Measure
 pub mod Trees
+pub mod Rests

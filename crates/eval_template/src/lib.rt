@@ -31,4 +31,5 @@ pub mod cost;
 pub mod instance;
 pub mod lengths;
 pub mod measure;
+pub mod rest;
 pub mod tree;

@@ -142,7 +142,7 @@ fn items_cost(
 /// The cost of an item with so many ellipses behind it.
 #[cycle(template_cost)]
 #[tactic(auto, using(crate::proofs::Measured::both, crate::proofs::Measured::stops_first))]
-fn item_cost(
+pub(crate) fn item_cost(
     context: &InstanceContext,
     template: &Template,
     ellipses: u32,

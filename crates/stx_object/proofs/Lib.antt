@@ -4,3 +4,4 @@ pub mod ListLemmas
 pub mod GivesLemmas
 pub mod StripLemmas
 pub mod GrownLemmas
+pub mod Lengths

@@ -15,6 +15,7 @@ use Rattle.stx_object.specs.KeptView.{shape_tree, seen, view_of, WholeNode, IsEx
 use Rattle.stx_object.specs.declared.kept.HeightAndSize.{HeightAndSize}
 use Rattle.stx_object.specs.declared.kept.TreeShape.{TreeShape}
 use Rattle.stx_object.specs.declared.kept.TreeShape.TheVariants as shape
+use Rattle.stx_object.proofs.Lengths.{counted_seen}
 use Rattle.stx_object.proofs.ListLemmas.{changed_rest}
 
 -- a node with more changes over the same shape
@@ -63,7 +64,7 @@ module _ (n : WholeNode) (k : Tree) (shown : view_of n ≡ k) where
       sym (is_list-changed n.wrap (spanned n.span (shape_tree f)) ∙ is_list-spanned n.span (shape_tree f)) ∙ ap is_list (tree_node f g)
 
   pub extent_node : (e : HeightAndSize) (f : TreeShape) → n.shape ≡ f → IsExtent e (shape_tree f) → IsExtent e k
-  extent_node e f g h = subst (IsExtent e) (tree_node f g) (h.0 ∙ sym (seen_height n.wrap n.span f), h.1 ∙ sym (seen_size n.wrap n.span f))
+  extent_node e f g h = subst (IsExtent e) (tree_node f g) (h.0 ∙ sym (seen_height n.wrap n.span f), h.1 ∙ sym (seen_size n.wrap n.span f), counted_seen n.wrap n.span (shape_tree f) e.counted h.2)
 
   pub fits_node : InShape n.shape → Fits k
   fits_node h =

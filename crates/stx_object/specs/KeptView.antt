@@ -6,6 +6,7 @@ use Rattle.stx_tree.specs.Measures.{size, height, Fits}
 use Rattle.stx_tree.specs.Changes.{changed}
 use Rattle.stx_tree.specs.declared.change.Change.{Change}
 use Rattle.stx_object.specs.Kept.{IsRest, IsElements}
+use Rattle.stx_object.specs.Lengths.{IsCounted}
 use Rattle.stx_object.specs.declared.kept.HeightAndSize.{HeightAndSize}
 use Rattle.stx_object.specs.declared.kept.TreeShape.{TreeShape}
 use Rattle.stx_object.specs.declared.kept.TreeShape.TheVariants as shape
@@ -34,7 +35,7 @@ abbrev pub view_of : WholeNode → Tree
 view_of n = seen n.wrap n.span n.shape
 
 abbrev pub IsExtent : HeightAndSize → Tree → Type 0
-IsExtent e t = (e.height ≡ height t) × (e.size ≡ size t)
+IsExtent e t = (e.height ≡ height t) × (e.size ≡ size t) × IsCounted e.counted t
 
 -- an element and the rest of a list within the limits
 pub record IsPair (e : HeightAndSize) (a d : Tree) : Type 0 where
@@ -44,7 +45,9 @@ pub record IsPair (e : HeightAndSize) (a d : Tree) : Type 0 where
 
 -- the elements of a vector within the limits
 pub record IsVector (e : HeightAndSize) (d : Tree) : Type 0 where
-  pub extent : IsExtent e d
+  pub height : e.height ≡ height d
+  pub size : e.size ≡ size d
+  pub counted : e.counted ≡ 0
   pub fits : Fits d
   pub elements : IsElements d
 

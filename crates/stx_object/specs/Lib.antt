@@ -11,3 +11,4 @@ pub mod Pairs
 pub mod Leaves
 pub mod Opens
 pub mod Refuses
+pub mod Lengths

@@ -45,11 +45,13 @@ pub(crate) enum TreeShape {
     Vector(HeightAndSize, Kept),
 }
 
-/// A height and a size.
+/// A height, a size and a count.
 #[derive(Clone, Copy, Drop)]
 pub(crate) struct HeightAndSize {
     pub(crate) height: u32,
     pub(crate) size: u32,
+    /// For a list that ends in Nil one more than the number of its elements, else 0.
+    pub(crate) counted: u32,
 }
 
 impl Model for Kept {
@@ -192,8 +194,12 @@ impl Kept {
     {
         let node: &SyntaxNode = &self.node;
         match &node.shape {
-            TreeShape::Atom(_) => HeightAndSize { height: 1, size: 1 },
-            TreeShape::Leaf(_, _) => HeightAndSize { height: 1, size: 1 },
+            TreeShape::Atom(atom) => atom_extent(atom),
+            TreeShape::Leaf(_, _) => HeightAndSize {
+                height: 1,
+                size: 1,
+                counted: 0,
+            },
             TreeShape::Pair(extent, _, _) => *extent,
             TreeShape::Vector(extent, _) => *extent,
         }
@@ -256,5 +262,23 @@ fn is_nil(value: &Atom) -> bool
     match value {
         Atom::Nil => true,
         _ => false,
+    }
+}
+
+#[tactic(auto, using(crate::proofs::Lengths::counted_atom, crate::proofs::Lengths::counted_none))]
+fn atom_extent(value: &Atom) -> HeightAndSize
+    ensures { IsExtent result (atom None value.now) }
+{
+    if is_nil(value) {
+        return HeightAndSize {
+            height: 1,
+            size: 1,
+            counted: 1,
+        };
+    }
+    HeightAndSize {
+        height: 1,
+        size: 1,
+        counted: 0,
     }
 }

@@ -7,6 +7,7 @@ ghost use Rattle.stx_tree.specs.Changes.{changed};
 ghost use Rattle.stx_tree.specs.Measures.{Fits, joint, too_deep, max_height, max_size};
 ghost use Rattle.stx_object.specs.Kept.{IsRest, IsElements};
 ghost use Rattle.stx_object.specs.KeptView.{IsExtent};
+ghost use Rattle.stx_object.specs.Lengths.{IsOneMore};
 ghost use Rattle.stx_object.specs.Pairs.{Extends, Grows, grown_height, grown_size};
 ghost use Rattle.stx_object.specs.Refuses.{Refuses};
 
@@ -34,18 +35,36 @@ pub(crate) fn too_deep(alloc: Global) -> BareStop
     })
 }
 
+/// The count of a list with one more element before a rest.
+#[tactic(auto, using(crate::proofs::Lengths::counted_off))]
+fn one_more(counted: u32) -> u32
+    ensures { IsOneMore result counted }
+{
+    if counted == 0 {
+        return 0;
+    }
+    match counted.checked_add(1) {
+        None => 0,
+        Some(more) => more,
+    }
+}
+
 /// The extent of a list with one more element before the others, within the limits.
 fn grown(element: HeightAndSize, rest: HeightAndSize, joint: u32) -> Option<HeightAndSize>
     requires rest { (rest.height ≤ max_height) × (rest.size ≤ max_size) }
     requires joint { joint ≤ 1 }
-    ensures { Grows result (grown_height element rest joint) (grown_size element rest joint) }
+    ensures { Grows result (grown_height element rest joint) (grown_size element rest joint) rest.counted }
 {
     let height = (rest.height + joint).max(element.height.saturating_add(1));
     let size = (rest.size + joint).saturating_add(element.size);
     if height > MAX_HEIGHT || size > MAX_SIZE {
         None
     } else {
-        Some(HeightAndSize { height, size })
+        Some(HeightAndSize {
+            height,
+            size,
+            counted: one_more(rest.counted),
+        })
     }
 }
 
@@ -66,11 +85,11 @@ impl Kept {
 
     /// The extent of the list of this element and this rest, within the limits.
     fn extent_before(&self, rest: &Kept) -> Option<HeightAndSize>
+        requires { IsRest rest.now }
         ensures { Extends result (pair None self.now rest.now) }
     {
         rest.within();
-        let joint = rest.joint();
-        grown(self.extent(), rest.extent(), joint)
+        grown(self.extent(), rest.extent(), rest.joint())
     }
 
     /// This element before a rest, of a list with this extent.
@@ -132,7 +151,12 @@ impl Kept {
         ensures { IfOk result (λ k. k ≡ vector span self) }
     {
         self.within();
-        let extent = self.extent();
+        let HeightAndSize { height, size, .. } = self.extent();
+        let extent = HeightAndSize {
+            height,
+            size,
+            counted: 0,
+        };
         Kept::new(alloc, Wrap::none(), span, TreeShape::Vector(extent, self))
     }
 

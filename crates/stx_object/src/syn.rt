@@ -1,6 +1,6 @@
 //! Syntax trees, for every crate to use.
 
-ghost use Rattle.std.specs.Prelude.{◌≡◌, ◌+◌, [], ◌∷◌, Option, None, option_map, IfOk, IfErr, OnOk, OnErr};
+ghost use Rattle.std.specs.Prelude.{◌≡◌, ◌+◌, [], ◌∷◌, Option, None, option_map, IfOk, IfErr, IfSome, OnOk, OnErr};
 ghost use Rattle.base_data.specs.Gives.{BareGives};
 ghost use Rattle.stx_tree.specs.Tree.{Tree, atom, leaf, pair, spanned, unspanned, span_of, chain, list_of, vector_of};
 ghost use Rattle.stx_tree.specs.Measures.{height, size, within, Fits};
@@ -10,6 +10,7 @@ ghost use Rattle.stx_tree.specs.Context.{blank};
 ghost use Rattle.stx_object.specs.Leaves.{grown_tree};
 ghost use Rattle.base_data.specs.declared.span.Span.{Span};
 ghost use Rattle.stx_object.specs.Kept.{IsRest};
+ghost use Rattle.stx_object.specs.Lengths.{HasElements};
 ghost use Rattle.stx_object.specs.Opens.{Opens};
 ghost use Rattle.stx_object.specs.Refuses.{Refuses};
 
@@ -246,6 +247,16 @@ impl Syn {
         ensures { result ≡ size self.now }
     {
         self.kept.extent().size
+    }
+
+    /// How many elements it has, where it is a list that ends in Nil. It may tell nothing.
+    pub fn length(&self) -> Option<u64>
+        ensures { IfSome result (λ n. HasElements n self.now) }
+    {
+        match self.kept.extent().counted.checked_sub(1) {
+            None => None,
+            Some(count) => Some(u64::from(count)),
+        }
     }
 
     /// The marks of a leaf. What is no leaf has none.
