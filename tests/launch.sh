@@ -50,7 +50,7 @@ sed -n 's/^\([a-z_]*\):.*/rt: \1 proved/p' crates.txt
 for crate in scheme_expand core_check; do
     [ -d crates/$crate ] || continue
     mkdir -p crates/$crate/out
-    printf '#!/bin/sh\necho %s in "$PWD": "$@"\n' $crate >crates/$crate/out/$crate
+    printf '#!/bin/sh\n[ "$1" != heap ] || echo "$GLIBC_TUNABLES"\necho %s in "$PWD": "$@"\n' $crate >crates/$crate/out/$crate
     chmod +x crates/$crate/out/$crate
 done
 END
@@ -103,6 +103,16 @@ call "$room/links/third" p.sps
 said "a link from /" "scheme_expand in /: p.sps" ""
 call "$repository/scheme-expand"
 said "from / without words" "scheme_expand in /:" ""
+unset GLIBC_TUNABLES
+call "$repository/scheme-expand" heap
+said "how the heap grows" "glibc.malloc.top_pad=16777216
+scheme_expand in /: heap" ""
+GLIBC_TUNABLES=glibc.malloc.perturb=1
+export GLIBC_TUNABLES
+call "$repository/scheme-expand" heap
+said "how the heap grows, as the caller says" "glibc.malloc.perturb=1
+scheme_expand in /: heap" ""
+unset GLIBC_TUNABLES
 cd "$repository" || exit 1
 call sh scheme-expand p.sps
 said "by sh" "scheme_expand in $repository: p.sps" ""
