@@ -32,6 +32,7 @@ use expand_standing::means::Counts;
 use std::alloc::Global;
 use std::marker::Model;
 use std::sync::ledger::Ledger;
+use stx_object::frame_stamp::FrameStamp;
 use stx_object::syn::Syn;
 
 /// The parts of an `if`.
@@ -128,7 +129,7 @@ pub(crate) fn with_room<T>(alloc: Global, count: usize) -> Vec<T>
     }
 }
 
-/// The forms, each stamped with a frame.
+/// The forms, each stamped with a frame. Several forms share what it takes.
 pub(crate) fn stamp_all<N: Ledger>(
     alloc: Global,
     frame: &FrameNo,
@@ -138,9 +139,13 @@ pub(crate) fn stamp_all<N: Ledger>(
     ensures { IfOk result (λ xs. xs ≡ map (stamp frame.now) forms.now) }
 {
     let mut all = Items::new(alloc);
+    if let [form] = forms {
+        all.push(form.stamp(alloc, frame.share()?, nodes)?)?;
+        return Ok(all);
+    }
+    let shared = FrameStamp::new(alloc, frame)?;
     for form in forms {
-        let frame = frame.share()?;
-        let form = form.stamp(alloc, frame, nodes)?;
+        let form = shared.put(alloc, form)?;
         all.push(form)?;
     }
     Ok(all)

@@ -16,7 +16,7 @@
 //!
 //! The promise: every call on a `Syn` gives exactly what its definition over the plain tree gives,
 //! with `TooDeep` exactly where a height would pass 1,000 or a size 16,777,216, and each `enter`,
-//! `leave` and `stamp` makes one node.
+//! `leave` and `stamp` makes one node. A `FrameStamp` makes one for many trees.
 //!
 //! Contracts see a `Syn` as the tree of stx_tree, whose definitions and laws say what marks and stamps
 //! are; nodes and pending changes don't show. The crates above stand on this one alone: frames look up
@@ -25,6 +25,7 @@
 #![tactic(auto)]
 
 pub mod base;
+pub mod frame_stamp;
 mod kept;
 mod leaves;
 mod pairs;

@@ -1,6 +1,6 @@
 //! Wraps: the changes that still have to reach the leaves of a tree.
 
-ghost use Rattle.std.specs.Prelude.{◌≡◌, ◌==◌, [], ◌∷◌, ◌++◌, length, map, reverse, IfOk};
+ghost use Rattle.std.specs.Prelude.{◌≡◌, ◌==◌, [], ◌∷◌, ◌++◌, length, map, reverse, IfOk, IfSome};
 ghost use Rattle.stx_tree.specs.Context.{LeafContext, blank, act, acts};
 
 use crate::base::Base;
@@ -125,6 +125,16 @@ impl Wrap {
         Ok(Wrap { last: Some(link) })
     }
 
+    /// This change alone.
+    pub(crate) fn one(alloc: Global, change: Change) -> Result<Wrap, Memory>
+        ensures { IfOk result (λ w. w ≡ change ∷ []) }
+    {
+        let none = Wrap::none();
+        let made = none.made()?;
+        let made = made.act(alloc, &change)?;
+        none.linked(alloc, change, made)
+    }
+
     /// These changes, and then one more: a link before them. A leave right behind an enter of its own
     /// mark takes it back.
     pub(crate) fn with(&self, alloc: Global, change: Change) -> Result<Wrap, Memory>
@@ -152,6 +162,9 @@ impl Wrap {
         if self.is_none() {
             return outer.share();
         }
+        if let Some(change) = outer.only() {
+            return self.with(alloc, change.share()?);
+        }
         let mut changes = outer.changes(alloc)?;
         let mut wrap = self.share()?;
         while let Some(change) = changes.pop() {
@@ -159,6 +172,23 @@ impl Wrap {
             wrap = wrap.with(alloc, change)?;
         }
         Ok(wrap)
+    }
+
+    /// The change, where it is the only one. Most lists that are put on a tree have one.
+    fn only(&self) -> Option<&Change>
+        ensures { IfSome result (λ c. self.now ≡ c.now ∷ []) }
+    {
+        match &self.last {
+            None => None,
+            Some(link) => {
+                let link: &ChangeLink = link;
+                if link.before.is_none() {
+                    Some(&link.change)
+                } else {
+                    None
+                }
+            }
+        }
     }
 
     /// The changes, the last one first.
