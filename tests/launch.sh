@@ -105,7 +105,7 @@ call "$repository/scheme-expand"
 said "from / without words" "scheme_expand in /:" ""
 unset GLIBC_TUNABLES
 call "$repository/scheme-expand" heap
-said "how the heap grows" "glibc.malloc.top_pad=16777216
+said "how the heap grows" "glibc.malloc.top_pad=16777216:glibc.malloc.mxfast=0
 scheme_expand in /: heap" ""
 GLIBC_TUNABLES=glibc.malloc.perturb=1
 export GLIBC_TUNABLES
